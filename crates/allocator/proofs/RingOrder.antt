@@ -11,7 +11,7 @@ use Rattle.fs_types.specs.declared.limits.TheConstants.{ANCHORS}
 use Rattle.allocator.specs.FreeCount.{free_count-less}
 use Rattle.allocator.specs.BlockSet.{BlockSet}
 use Rattle.allocator.specs.RingLaws.{distance_later, distance_earlier}
-use Rattle.allocator.specs.Ring.{Ring, IsDataBlock, AreDataBlocks, IsRing, IsNote, is_busy, free_count, distance, ring_order, IsNext, IsFirstFree}
+use Rattle.allocator.specs.Ring.{Ring, IsDataBlock, AreDataBlocks, IsRing, IsNote, is_busy, free_count, distance, ring_order, IsNext, IsFirstFree, IsTaken}
 
 -- the first number from a up to m at which `busy` is false
 abbrev pub FirstIn : (ℕ → Bool) → ℕ → ℕ → Option ℕ → Type 0
@@ -219,3 +219,18 @@ free_count-taken r s bad b taken at free =
     let less = free_count-less r s bad b (ap (λ (t : Ring). t.blocks) taken) (ap (λ (t : Ring). t.used) taken) at free in
     let more : s.takes ≡ r.takes + 1 = ap (λ (t : Ring). t.takes) taken in
     omega arith
+
+-- what a take leaves, by the ring that it leaves
+pub is_taken : (old new : Ring) (bad : set.FinSet nat_cmp) (b : ℕ) → new ≡ after_take old b → IsDataBlock old.blocks old.last → IsNext (is_busy old bad) old.blocks old.last b → IsTaken old bad b new
+is_taken r s bad b ring last next = record {
+  last_block = last;
+  next = next;
+  fresh = not_used r bad b next.free;
+  good = not_bad r bad b next.free;
+  ring = ring;
+  used = ap (λ (t : Ring). set.contains t.used b) ring ∙ contains-insert_same r.used b;
+  kept = λ d is_used. ap (λ (t : Ring). set.contains t.used d) ring ∙ contains-kept r.used b d is_used;
+  noted = λ d now before. taken_noted r s b d ring now before;
+  note_stays = λ d is_noted. ap (λ (t : Ring). set.contains t.note d) ring ∙ contains-kept r.note b d is_noted;
+  paid = free_count-taken r s bad b ring next.data_block next.free;
+}

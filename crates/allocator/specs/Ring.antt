@@ -77,3 +77,18 @@ pub record IsNext (busy : ℕ → Bool) (n last b : ℕ) : Type 0 where
 abbrev pub IsFirstFree : (ℕ → Bool) → ℕ → ℕ → Option ℕ → Type 0
 IsFirstFree busy n last None = (b : ℕ) → IsDataBlock n b → busy b ≡ true
 IsFirstFree busy n last (Some b) = IsNext busy n last b
+
+-- block b is taken: it is the first data block after the last one taken that is neither used nor bad, and from then on it
+-- is used, noted and the last one taken
+pub record IsTaken (old : Ring) (bad : set.FinSet nat_cmp) (b : ℕ) (new : Ring) : Type 0 where
+  pub last_block : IsDataBlock old.blocks old.last
+  pub next : IsNext (is_busy old bad) old.blocks old.last b
+  pub ring : new ≡ record old { used = set.insert old.used b; note = set.insert old.note b; last = b; takes = old.takes + 1 }
+  -- so it was free, it alone becomes used, what was noted stays so, and one free block less is left
+  pub fresh : set.contains old.used b ≡ false
+  pub good : set.contains bad b ≡ false
+  pub used : set.contains new.used b ≡ true
+  pub kept : (c : ℕ) → set.contains old.used c ≡ true → set.contains new.used c ≡ true
+  pub noted : (c : ℕ) → set.contains new.used c ≡ true → set.contains old.used c ≡ false → set.contains new.note c ≡ true
+  pub note_stays : (c : ℕ) → set.contains old.note c ≡ true → set.contains new.note c ≡ true
+  pub paid : free_count new bad + new.takes ≡ free_count old bad + old.takes

@@ -1,7 +1,7 @@
 //! The used blocks of a flash, and the order in which free ones are taken.
 ghost use Rattle.std.specs.Prelude.{◌≡◌, ℕ, ◌+◌, ◌≤◌, true, false, not, find, IfOk, IfErr, IfSome, IfNone};
 ghost use Rattle.std.specs.FinSet as set;
-ghost use Rattle.allocator.specs.Ring.{IsDataBlock, is_busy, free_count as free_blocks, ring_order, next_free, IsFirstFree};
+ghost use Rattle.allocator.specs.Ring.{IsDataBlock, is_busy, free_count as free_blocks, ring_order, next_free, IsFirstFree, IsTaken};
 
 use crate::block_set::BlockSet;
 use crate::marks::Marks;
@@ -140,35 +140,8 @@ impl Ring {
     /// bad, and answers it; it is used from then on. `None` where there is none.
     pub fn take(&mut self, bad: &BadBlocks) -> Option<u32>
         ensures next { result ≡ next_free self.old bad.now }
-        ensures first { IsFirstFree (is_busy self.old bad.now) self.old.blocks self.old.last result }
-        ensures taken { IfSome result (λ b. self.new ≡ record self.old {
-          used = set.insert self.old.used b;
-          note = set.insert self.old.note b;
-          last = b;
-          takes = self.old.takes + 1;
-        }) }
+        ensures taken { IfSome result (λ b. IsTaken self.old bad.now b self.new) }
         ensures none { IfNone result (self.new ≡ self.old) }
-
-        // What follows for a block taken.
-        ensures data_block { IfSome result (λ b. IsDataBlock self.old.blocks b) }
-        ensures fresh { IfSome result (λ b. set.contains self.old.used b ≡ false) }
-        ensures good { IfSome result (λ b. set.contains bad.now b ≡ false) }
-        ensures used { IfSome result (λ b. set.contains self.new.used b ≡ true) }
-        ensures counted { IfSome result (λ _. self.new.takes ≡ self.old.takes + 1) }
-
-        // What holds whatever is answered.
-        ensures last_block { IsDataBlock self.old.blocks self.old.last }
-        ensures blocks { self.new.blocks ≡ self.old.blocks }
-        ensures kept { (b : ℕ) → set.contains self.old.used b ≡ true
-            → set.contains self.new.used b ≡ true }
-
-        // Each block that becomes used is noted, and none leaves the note.
-        ensures noted { (b : ℕ) → set.contains self.new.used b ≡ true
-            → set.contains self.old.used b ≡ false → set.contains self.new.note b ≡ true }
-        ensures note_stays { (b : ℕ) → set.contains self.old.note b ≡ true
-            → set.contains self.new.note b ≡ true }
-        ensures paid { free_blocks self.new bad.now + self.new.takes
-            ≡ free_blocks self.old bad.now + self.old.takes }
     {
         let next = self.next_free(bad)?;
         self.used.insert(next);

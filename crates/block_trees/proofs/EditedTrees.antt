@@ -16,7 +16,7 @@ use Rattle.block_trees.specs.Bodies.{Blocks}
 use Rattle.block_trees.specs.Trees.{entries_in, child, leads, entry_at, tree_at, tree, IsWholePlace, HasTree, IsRoot, root_tree}
 use Rattle.block_trees.specs.Trees as trees
 use Rattle.block_trees.specs.Reached.{IsHeld, Keeps, Reached, PlaceNames}
-use Rattle.block_trees.specs.Rewritten.{IsDirectoryEdit, IsRewritten, IsFreshChain}
+use Rattle.block_trees.specs.Rewritten.{IsDirectoryEdit, IsRewritten, IsFreshNode, IsFreshChain}
 use Rattle.block_trees.specs.Laws.{tree_or_nothing, HasTreeOrNothing, IsHeldOrNothing, AllEdits, MkdirLaw}
 use Rattle.block_trees.proofs.Entries.{some_place, place_is}
 use Rattle.block_trees.proofs.Chained.{child_names, reached_chain}
@@ -79,9 +79,9 @@ module _ (old new : Blocks) (kept kept' : ℕ → Bool) (keeps : Keeps kept old 
 
   -- ---- what is reached
 
-  -- the old root reached it, it was not kept, or the new entry reaches it
+  -- the old root reached it, it is a new node of a chain, or the new entry reaches it
   abbrev IsFrom : ℕ → Option Place → ℕ → Type 0
-  IsFrom from at block = Reached old (from ∷ []) block ⊎ (kept block ≡ false) ⊎ ((root : ℕ) × (place : Place) × (at ≡ Some place) × PlaceNames place root × Reached new (root ∷ []) block)
+  IsFrom from at block = Reached old (from ∷ []) block ⊎ IsFreshNode kept new block ⊎ ((root : ℕ) × (place : Place) × (at ≡ Some place) × PlaceNames place root × Reached new (root ∷ []) block)
 
   edit_reached : (from to : ℕ) (n : Name) (at : Option Place) → IsHeld old kept (Dir from) → IsFreshChain old new kept kept' from to → IsDirectoryEdit old new from to n at → (block : ℕ) → Reached new (to ∷ []) block → IsFrom from at block
   edit_reached from to n at held fresh edit block reached = on (reached_from new to edit.0 block edit.1 reached)
@@ -93,7 +93,7 @@ module _ (old new : Blocks) (kept kept' : ℕ → Bool) (keeps : Keeps kept old 
       named_from next (inr (place, is, names)) reached = inr (inr (next, place, is, names, reached))
 
       on : IsReachedFrom new to block → IsFrom from at block
-      on (inl inside) = elim (fresh block inside).1 [ inl free ↦ inr (inl free) | inr there ↦ inl (reached_chain old from block there) ]
+      on (inl inside) = elim (fresh block inside).1 [ inl written ↦ inr (inl written) | inr there ↦ inl (reached_chain old from block there) ]
       on (inr (name, place, next, leads, names, reached)) = named_from next (edited_leads old new from to n at edit name place next leads names) reached
 
   path_reached : (path : Path) (from to : ℕ) (at : Option Place) → IsHeld old kept (Dir from) → IsRewritten old new kept kept' from to path at
@@ -115,7 +115,7 @@ module _ (old new : Blocks) (kept kept' : ℕ → Bool) (keeps : Keeps kept old 
 
       on : IsFrom from (Some (Dir next)) block → (Reached new (next ∷ []) block → IsFrom under at block) → IsFrom from at block
       on (inl reached) again = inl reached
-      on (inr (inl not_kept)) again = inr (inl not_kept)
+      on (inr (inl written)) again = inr (inl written)
       on (inr (inr (root, place, is, names, reached))) again =
           above (again (subst (λ (r : ℕ). Reached new (r ∷ []) block) (sym (named_next root place is names)) reached))
 

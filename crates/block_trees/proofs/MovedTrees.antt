@@ -18,7 +18,7 @@ use Rattle.block_trees.specs.Bodies.{Blocks}
 use Rattle.block_trees.specs.Trees.{entries_in, child, leads, entry_at, tree_at, tree, IsWholePlace, HasTree, IsRoot, root_tree}
 use Rattle.block_trees.specs.Trees as trees
 use Rattle.block_trees.specs.Reached.{IsHeld, Keeps, Reached, PlaceNames}
-use Rattle.block_trees.specs.Rewritten.{IsDirectoryEdit, IsSecondEdit, IsBranch, IsMoved, IsFreshChain}
+use Rattle.block_trees.specs.Rewritten.{IsDirectoryEdit, IsSecondEdit, IsBranch, IsMoved, IsFreshNode, IsFreshChain}
 use Rattle.block_trees.specs.Laws.{tree_or_nothing, HasTreeOrNothing, IsHeldOrNothing, IsShallow, AllMoves, BlockRenameLaw}
 use Rattle.block_trees.proofs.Entries.{some_place, place_is}
 use Rattle.block_trees.specs.Chains.{chain}
@@ -71,8 +71,8 @@ module _ (old new : Blocks) (kept kept' : ℕ → Bool) (keeps : Keeps kept old 
       on (inr (name, place, next, leads, names, reached)) = below next name place (each name place leads) names reached
 
   -- the nodes of a new directory were not kept, or the old one reached them
-  fresh_has : (P : ℕ → Type 0) (from to : ℕ) → IsFreshChain old new kept kept' from to → ((b : ℕ) → Reached old (from ∷ []) b → P b) → ((b : ℕ) → kept b ≡ false → P b) → (b : ℕ) → Contains (chain new to) b → P b
-  fresh_has P from to fresh before free b inside = elim (fresh b inside).1 [ inl not_kept ↦ free b not_kept | inr there ↦ before b (reached_chain old from b there) ]
+  fresh_has : (P : ℕ → Type 0) (from to : ℕ) → IsFreshChain old new kept kept' from to → ((b : ℕ) → Reached old (from ∷ []) b → P b) → ((b : ℕ) → IsFreshNode kept new b → P b) → (b : ℕ) → Contains (chain new to) b → P b
+  fresh_has P from to fresh before free b inside = elim (fresh b inside).1 [ inl written ↦ free b written | inr there ↦ before b (reached_chain old from b there) ]
 
   level_shape : (capacity depth from to : ℕ) (items : List Item) → 1 ≤ depth → IsHeld old kept (Dir from) → HasTree capacity old (Dir from) depth → entries_in new to ≡ Some items
       → OldOr from to (λ place. HasTree capacity new place (depth - 1)) → HasTree capacity new (Dir to) depth
@@ -117,15 +117,15 @@ module _ (old new : Blocks) (kept kept' : ℕ → Bool) (keeps : Keeps kept old 
   branch_held from n (m ∷ p) at now held (low, next, goes, is, rewritten) below =
       subst (IsHeldOrNothing new kept') (sym is) ((edit_law old new kept kept' low next (m ∷ p) at keeps (held_child old kept (Dir from) n (Dir low) goes held) rewritten).held below)
 
-  branch_reached : (P : ℕ → Type 0) (from : ℕ) (n : Name) (p : Path) (at now : Option Place) → IsHeld old kept (Dir from) → ((b : ℕ) → Reached old (from ∷ []) b → P b) → ((b : ℕ) → kept b ≡ false → P b)
+  branch_reached : (P : ℕ → Type 0) (from : ℕ) (n : Name) (p : Path) (at now : Option Place) → IsHeld old kept (Dir from) → ((b : ℕ) → Reached old (from ∷ []) b → P b) → ((b : ℕ) → IsFreshNode kept new b → P b)
       → ((place : Place) → at ≡ Some place → AllReached P place) → IsBranch old new kept kept' from n p at now → (place : Place) → now ≡ Some place → AllReached P place
   branch_reached P from n [] at now held before free below is place is_now = below place (sym is ∙ is_now)
   branch_reached P from n (m ∷ p) at now held before free below (low, next, goes, is, rewritten) place is_now = λ root names b reached.
       on b ((edit_law old new kept kept' low next (m ∷ p) at keeps (held_child old kept (Dir from) n (Dir low) goes held) rewritten).reached b (subst (λ (r : ℕ). Reached new (r ∷ []) b) (sym (dir_named next root place (sym is ∙ is_now) names)) reached))
     where
-      on : (b : ℕ) → Reached old (low ∷ []) b ⊎ (kept b ≡ false) ⊎ ((root : ℕ) × (place : Place) × (at ≡ Some place) × PlaceNames place root × Reached new (root ∷ []) b) → P b
+      on : (b : ℕ) → Reached old (low ∷ []) b ⊎ IsFreshNode kept new b ⊎ ((root : ℕ) × (place : Place) × (at ≡ Some place) × PlaceNames place root × Reached new (root ∷ []) b) → P b
       on b (inl reached) = before b (reached_via old (from ∷ []) low (child_names old from n (Dir low) low goes refl) reached)
-      on b (inr (inl not_kept)) = free b not_kept
+      on b (inr (inl written)) = free b written
       on b (inr (inr (root, place, is, names, reached))) = below place is root names b reached
 
   branch_shape : (capacity depth from : ℕ) (n : Name) (p : Path) (at now : Option Place) → IsHeld old kept (Dir from) → HasTree capacity old (Dir from) depth → length (n ∷ p) ≤ depth
@@ -193,7 +193,7 @@ module _ (old new : Blocks) (kept kept' : ℕ → Bool) (keeps : Keeps kept old 
       (held_of gone (branch_held from n p None gone held old_branch tt))
       (held_of came (branch_held from m q (Some place) came held new_branch below))))
 
-  moved_reached : (P : ℕ → Type 0) (p q : Path) (from to : ℕ) (place : Place) → IsHeld old kept (Dir from) → ((b : ℕ) → Reached old (from ∷ []) b → P b) → ((b : ℕ) → kept b ≡ false → P b)
+  moved_reached : (P : ℕ → Type 0) (p q : Path) (from to : ℕ) (place : Place) → IsHeld old kept (Dir from) → ((b : ℕ) → Reached old (from ∷ []) b → P b) → ((b : ℕ) → IsFreshNode kept new b → P b)
       → IsMoved old new kept kept' from to p q place → AllReached P place → (b : ℕ) → Reached new (to ∷ []) b → P b
   moved_reached P [] q from to place held before free r below = absurd r
   moved_reached P (n ∷ p) [] from to place held before free r below = absurd r
@@ -344,8 +344,8 @@ module _ (old new : Blocks) (kept kept' : ℕ → Bool) (from to : ℕ) (old_pat
           let whole = (frame_law old new kept kept' keeps).shape capacity depth place held_place (tree_there capacity depth old (Dir from) place old_path led has) in
           ((whole p there is).0, shallow p (ap is_some (sym (leads_same old new kept kept' keeps p place held_place) ∙ is)))
 
-  reached_is : (b : ℕ) → Reached new (to ∷ []) b → Reached old (from ∷ []) b ⊎ (kept b ≡ false)
-  reached_is = moved_reached old new kept kept' keeps (λ b. Reached old (from ∷ []) b ⊎ (kept b ≡ false)) old_path new_path from to place held (λ b reached. inl reached) (λ b free. inr free) moved
+  reached_is : (b : ℕ) → Reached new (to ∷ []) b → Reached old (from ∷ []) b ⊎ IsFreshNode kept new b
+  reached_is = moved_reached old new kept kept' keeps (λ b. Reached old (from ∷ []) b ⊎ IsFreshNode kept new b) old_path new_path from to place held (λ b reached. inl reached) (λ b free. inr free) moved
       (λ root names b reached.
       let found = reached_there old old_path (Dir from) place led root names b (reached_before old new kept kept' keeps root (held_place root names) reached) in
       inl (subst (λ (r : ℕ). Reached old (r ∷ []) b) (sym found.1) found.2))

@@ -1,5 +1,5 @@
 -- Directories: the entries along a chain of nodes.
-use Rattle.std.specs.Prelude.{ℕ, zero, suc, ◌-◌, ◌==◌, ◌&&◌, Bool, nat_lt, Option, Some, None, unwrap_or, List, [], ◌∷◌, ◌++◌, length, if◌then◌else◌}
+use Rattle.std.specs.Prelude.{ℕ, zero, suc, ◌-◌, ◌==◌, ◌&&◌, Bool, false, nat_lt, Option, Some, None, unwrap_or, List, [], ◌∷◌, ◌++◌, length, if◌then◌else◌}
 use Rattle.std.specs.Option.{option_map, option_map_or, option_and_then}
 use Rattle.fs_types.specs.declared.limits.TheConstants.{CHAIN_NODES}
 use Rattle.node_format.specs.Items.{Item, are_ascending}
@@ -9,6 +9,10 @@ use Rattle.block_trees.specs.Bodies.{Blocks}
 -- what a node says as one of a directory; none of any other node
 abbrev pub link_of : Option (List ℕ) → Option Link
 link_of node = option_and_then link_at node
+
+-- whether a node is one of a chain
+abbrev pub is_chained : Option (List ℕ) → Bool
+is_chained node = option_map_or (λ link. link.chained) (link_of node) false
 
 -- the block of the node after a node, 0 where none comes
 abbrev pub next_of : Option (List ℕ) → ℕ

@@ -11,7 +11,7 @@ use Rattle.node_format.specs.declared.place.Place.TheVariants.{Dir, File}
 use Rattle.block_trees.specs.Bodies.{Blocks, body, IsBody}
 use Rattle.block_trees.specs.Trees.{items_in, entries_in, leads, tree_at, tree, HasTree, IsRoot, root_tree, names_of}
 use Rattle.block_trees.specs.Reached.{Reached, IsHeld, Keeps, PlaceNames}
-use Rattle.block_trees.specs.Rewritten.{IsRewritten, IsMoved}
+use Rattle.block_trees.specs.Rewritten.{IsFreshNode, IsRewritten, IsMoved}
 
 -- what a place leads to; nothing where there is no place
 abbrev pub tree_or_nothing : ℕ → Blocks → Option Place → Contents
@@ -39,12 +39,12 @@ AllFrames = (old new : Blocks) (kept kept' : ℕ → Bool) → Keeps kept old ke
 
 -- a path written anew: the new tree is the old one with what the new entry leads to in the place of all below the
 -- path; it is a tree where that is one; all that the new root reaches is kept, and the old root reached it, or the
--- new entry does, or it is in a block that was not kept before
+-- new entry does, or it is a new node of a chain, in a block that was not kept before
 pub record EditLaw (old new : Blocks) (kept kept' : ℕ → Bool) (from to : ℕ) (path : Path) (at : Option Place) : Type 0 where
   pub grafted : (capacity depth : ℕ) → HasTree capacity old (Dir from) depth → tree capacity new to ≡ graft (tree capacity old from) path (tree_or_nothing capacity new at)
   pub shape : (capacity depth : ℕ) → HasTree capacity old (Dir from) depth → length path ≤ depth → HasTreeOrNothing capacity new at (depth - length path) → HasTree capacity new (Dir to) depth
   pub held : IsHeldOrNothing new kept' at → IsHeld new kept' (Dir to)
-  pub reached : (block : ℕ) → Reached new (to ∷ []) block → Reached old (from ∷ []) block ⊎ (kept block ≡ false) ⊎ ((root : ℕ) × (place : Place) × (at ≡ Some place) × PlaceNames place root × Reached new (root ∷ []) block)
+  pub reached : (block : ℕ) → Reached new (to ∷ []) block → Reached old (from ∷ []) block ⊎ IsFreshNode kept new block ⊎ ((root : ℕ) × (place : Place) × (at ≡ Some place) × PlaceNames place root × Reached new (root ∷ []) block)
 
 abbrev pub AllEdits : Type 0
 AllEdits = (old new : Blocks) (kept kept' : ℕ → Bool) (from to : ℕ) (path : Path) (at : Option Place) → Keeps kept old kept' new → IsHeld old kept (Dir from) → IsRewritten old new kept kept' from to path at → EditLaw old new kept kept' from to path at
@@ -72,12 +72,13 @@ abbrev pub IsShallow : Blocks → Place → ℕ → Type 0
 IsShallow f at most = (path : Path) → IsSome (leads f at path) → length path ≤ most
 
 -- what stood at one path stands at another: the new tree is the old one moved; it is a tree where no path gets too
--- long; all that the new root reaches is kept, and the old root reached it, or it is in a block that was not kept before
+-- long; all that the new root reaches is kept, and the old root reached it, or it is a new node of a chain, in a block that was
+-- not kept before
 pub record BlockMoveLaw (old new : Blocks) (kept kept' : ℕ → Bool) (from to : ℕ) (old_path new_path : Path) (place : Place) : Type 0 where
   pub moved : (capacity depth : ℕ) → HasTree capacity old (Dir from) depth → tree capacity new to ≡ plain.move (tree capacity old from) old_path new_path
   pub shape : (capacity depth : ℕ) → HasTree capacity old (Dir from) depth → length new_path ≤ depth → IsShallow old place (depth - length new_path) → HasTree capacity new (Dir to) depth
   pub held : IsHeld new kept' (Dir to)
-  pub reached : (block : ℕ) → Reached new (to ∷ []) block → Reached old (from ∷ []) block ⊎ (kept block ≡ false)
+  pub reached : (block : ℕ) → Reached new (to ∷ []) block → Reached old (from ∷ []) block ⊎ IsFreshNode kept new block
 
 abbrev pub AllMoves : Type 0
 AllMoves = (old new : Blocks) (kept kept' : ℕ → Bool) (from to : ℕ) (old_path new_path : Path) (place : Place) → Keeps kept old kept' new → IsHeld old kept (Dir from)

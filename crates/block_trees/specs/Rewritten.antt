@@ -5,7 +5,7 @@ use Rattle.node_format.specs.Items.{Item, named_place}
 use Rattle.node_format.specs.declared.place.Place.{Place}
 use Rattle.node_format.specs.declared.place.Place.TheVariants.{Dir}
 use Rattle.block_trees.specs.Bodies.{Blocks}
-use Rattle.block_trees.specs.Chains.{chain}
+use Rattle.block_trees.specs.Chains.{chain, is_chained}
 use Rattle.block_trees.specs.Trees.{entries_in, child}
 
 -- the directory at `to` has the entries of the one at `from`, but that a name leads to this place (None: to nothing)
@@ -13,9 +13,13 @@ abbrev pub IsDirectoryEdit : Blocks → Blocks → ℕ → ℕ → Name → Opti
 IsDirectoryEdit old new from to n at =
     (items : List Item) × (entries_in new to ≡ Some items) × ((m : Name) → named_place items m ≡ (if same_name n m then at else child old (Dir from) m))
 
--- each node of the new directory is kept, in a block that was not kept, or is a node of the old one
+-- a node of a chain was written in a block that was not kept
+abbrev pub IsFreshNode : (ℕ → Bool) → Blocks → ℕ → Type 0
+IsFreshNode kept new b = (kept b ≡ false) × (is_chained (new b) ≡ true)
+
+-- each node of the new directory is kept, and is fresh, one of a chain, or is a node of the old one
 abbrev pub IsFreshChain : Blocks → Blocks → (ℕ → Bool) → (ℕ → Bool) → ℕ → ℕ → Type 0
-IsFreshChain old new kept kept' from to = (b : ℕ) → Contains (chain new to) b → (kept' b ≡ true) × ((kept b ≡ false) ⊎ Contains (chain old from) b)
+IsFreshChain old new kept kept' from to = (b : ℕ) → Contains (chain new to) b → (kept' b ≡ true) × (IsFreshNode kept new b ⊎ Contains (chain old from) b)
 
 -- each directory along the path was written anew, so that the path leads to this place
 abbrev pub IsRewritten : Blocks → Blocks → (ℕ → Bool) → (ℕ → Bool) → ℕ → ℕ → Path → Option Place → Type 0

@@ -37,13 +37,5 @@ record_ends g p count lawful lt le =
 pub anchor_on_flash : (g : Geometry) (anchor : ℕ) → IsGeometry g → anchor < ANCHORS → anchor < g.blocks
 anchor_on_flash g anchor lawful lt = let h : 16 ≤ g.blocks = lawful.blocks_least in omega arith
 
-pub page_of_anchor : (g : Geometry) (anchor place page : ℕ) → anchor < ANCHORS → place < g.pages → page ≡ anchor * g.pages + place → page < ANCHORS * g.pages
-page_of_anchor g anchor place page lt below at =
-    let most : (anchor + 1) * g.pages ≤ ANCHORS * g.pages = mul-le (anchor + 1) g.pages ANCHORS g.pages (omega arith) (omega arith) in
-    omega arith
-
 pub below_end : (p n count end : ℕ) → p + count ≤ end → n < count → p + n < end
 below_end p n count end le lt = omega arith
-
-pub room_for_head : (g : Geometry) → IsGeometry g → 20 ≤ g.page
-room_for_head g lawful = let h = page_least g lawful in omega arith

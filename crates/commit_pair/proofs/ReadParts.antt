@@ -1,10 +1,10 @@
 -- What was read, one page after the other.
-use Rattle.std.proofs.Common.{◌≡◌, ◌≢◌, ℕ, suc, ◌+◌, ◌-◌, ◌/◌, ◌<◌, ◌≤◌, Bool, true, false, cond, ltb, leb, List, ◌++◌, length, Option, Some, None, Result, Err, inl, inr, refl, sym, ap, subst, ◌∙◌, append_assoc, arith}
+use Rattle.std.proofs.Common.{◌≡◌, ℕ, suc, ◌+◌, ◌-◌, ◌/◌, ◌<◌, ◌≤◌, Bool, true, false, cond, ltb, List, ◌++◌, length, Option, Some, None, Result, Err, inl, inr, refl, sym, ap, subst, ◌∙◌, append_assoc, arith}
 use Rattle.std.specs.FinSet as set
 use Rattle.std.specs.Ordering.{nat_cmp}
-use Rattle.std.proofs.lemmas.Bool.{cases_Bool, and_right, lt-ltb, lt-leb, le-leb}
+use Rattle.std.proofs.lemmas.Bool.{cases_Bool, lt-ltb}
 use Rattle.std.proofs.lemmas.List.{append-nil, length-append}
-use Rattle.std.specs.Prelude.{◌&&◌, ◌%◌}
+use Rattle.std.specs.Prelude.{◌&&◌}
 use Rattle.std.specs.Option.{option_map, option_and_then}
 use Rattle.fs_types.specs.declared.fault.Fault.{Fault}
 use Rattle.fs_types.specs.declared.fault.Fault.TheVariants.{ReadFailed, PowerCut}
@@ -18,7 +18,7 @@ use Rattle.record_format.specs.Pages.{page_head_of, used_bytes}
 use Rattle.record_format.specs.Payloads.{payload_at}
 use Rattle.record_format.specs.declared.page_head.PageHead.{PageHead}
 use Rattle.commit_pair.specs.Anchored.{AreErased}
-use Rattle.commit_pair.specs.Parts.{Part, part_of, parts_on, part_bytes, head_at, is_part, are_parts, is_valid_record, record_head, considered, best_below, best_on, newest_at, bytes_from, held_bytes}
+use Rattle.commit_pair.specs.Parts.{Part, part_of, parts_on, part_bytes, head_at, is_part, are_parts, is_valid_record, record_head, best_below, best_on, newest_at, bytes_from, held_bytes}
 use Rattle.commit_pair.specs.declared.best.Best.{Best}
 use Rattle.commit_pair.specs.Payloads.{IsLongFront}
 use Rattle.commit_pair.specs.Reading.{PageReadCause}
@@ -48,32 +48,10 @@ record_begins : (g : Geometry) (parts : ℕ → Option Part) (p : ℕ) (shown : 
     → option_and_then (λ first. cond (is_valid_record g parts p first) (Some first) None) found ≡ record_head g parts p
 record_begins g parts p shown found e = ap (option_and_then (λ first. cond (is_valid_record g parts p first) (Some first) None)) (part_head parts p shown found e)
 
-pub begins_none : (g : Geometry) (parts : ℕ → Option Part) (p : ℕ) (shown : List ℕ) (found : Option PageHead) → option_map (λ head. record { head = head; bytes = used_bytes head shown }) found ≡ parts p → found ≡ None → None ≡ record_head g parts p
-begins_none g parts p shown found e is = ap (option_and_then (λ first. cond (is_valid_record g parts p first) (Some first) None)) (sym is) ∙ record_begins g parts p shown found e
-
 begins_as : (g : Geometry) (parts : ℕ → Option Part) (p : ℕ) (shown : List ℕ) (found : Option PageHead) (first : PageHead) (valid : Bool) → option_map (λ head. record { head = head; bytes = used_bytes head shown }) found ≡ parts p → found ≡ Some first
     → is_valid_record g parts p first ≡ valid → cond valid (Some first) None ≡ record_head g parts p
 begins_as g parts p shown found first valid e is same =
     ap (λ b. cond b (Some first) None) (sym same) ∙ ap (option_and_then (λ first. cond (is_valid_record g parts p first) (Some first) None)) (sym is) ∙ record_begins g parts p shown found e
-
-pub begins_uncounted : (g : Geometry) (parts : ℕ → Option Part) (p : ℕ) (shown : List ℕ) (found : Option PageHead) (first : PageHead) → option_map (λ head. record { head = head; bytes = used_bytes head shown }) found ≡ parts p → found ≡ Some first
-    → first.count ≡ 0 → None ≡ record_head g parts p
-begins_uncounted g parts p shown found first e is none =
-    begins_as g parts p shown found first false e is (ap (λ n. ltb 0 n && (leb (p % g.pages + first.count) g.pages && are_parts g parts p first 0 first.count)) none)
-
-pub begins_too_long : (g : Geometry) (parts : ℕ → Option Part) (p : ℕ) (shown : List ℕ) (found : Option PageHead) (first : PageHead) → option_map (λ head. record { head = head; bytes = used_bytes head shown }) found ≡ parts p → found ≡ Some first
-    → g.pages < p % g.pages + first.count → None ≡ record_head g parts p
-begins_too_long g parts p shown found first e is long =
-    begins_as g parts p shown found first false e is (and_right (ltb 0 first.count) _ (ap (λ b. b && are_parts g parts p first 0 first.count) (lt-leb _ _ long)))
-
-pub begins_by_parts : (g : Geometry) (parts : ℕ → Option Part) (p : ℕ) (shown : List ℕ) (found : Option PageHead) (first : PageHead) (valid : Bool) → option_map (λ head. record { head = head; bytes = used_bytes head shown }) found ≡ parts p → found ≡ Some first
-    → first.count ≢ 0 → p % g.pages + first.count ≤ g.pages → valid ≡ are_parts g parts p first 0 first.count → cond valid (Some first) None ≡ record_head g parts p
-begins_by_parts g parts p shown found first valid e is some fits all =
-    begins_as g parts p shown found first valid e is
-    (ap (λ b. b && (leb (p % g.pages + first.count) g.pages && are_parts g parts p first 0 first.count)) (lt-ltb 0 first.count (omega arith)) ∙ ap (λ b. b && are_parts g parts p first 0 first.count) (le-leb _ _ fits) ∙ sym all)
-
-pub parts_read : (g : Geometry) (old mid : ℕ → Page) (p : ℕ) (first : PageHead) (has : Bool) → mid ≡ old → has ≡ are_parts g (parts_on g mid) p first 0 first.count → has ≡ are_parts g (parts_on g old) p first 0 first.count
-parts_read g old mid p first has same is = is ∙ ap (λ (pages : ℕ → Page). are_parts g (parts_on g pages) p first 0 first.count) same
 
 -- a refusal after reads
 pub ReadCause_on : (old mid new : Device) (fault : Fault) → OnlyReads old mid → PageReadCause mid new fault → PageReadCause old new fault
@@ -151,13 +129,6 @@ long_refused g sequence front bytes rest total fault is so_far refuses =
 pub read_on : (g : Geometry) (old mid : ℕ → Page) (p : ℕ) (shown : List ℕ) (found : Option PageHead) → mid ≡ old
     → option_map (λ head. record { head = head; bytes = used_bytes head shown }) found ≡ parts_on g mid p → option_map (λ head. record { head = head; bytes = used_bytes head shown }) found ≡ parts_on g old p
 read_on g old mid p shown found same e = e ∙ ap (λ (pages : ℕ → Page). parts_on g pages p) same
-
--- one page more
-pub best_more : (g : Geometry) (parts : ℕ → Option Part) (n : ℕ) (best after : Best) (head : Option PageHead) → best ≡ best_below g parts n → head ≡ record_head g parts n → after ≡ considered best n head → after ≡ best_below g parts (n + 1)
-unfolding best_below
-best_more g parts n best after head so_far is made =
-    let k : suc n ≡ n + 1 = omega arith in
-    made ∙ (λ i. considered (so_far i) n (is i)) ∙ ap (best_below g parts) k
 
 pub best_none : (g : Geometry) (parts : ℕ → Option Part) → record { found = None; twice = false } ≡ best_below g parts 0
 unfolding best_below

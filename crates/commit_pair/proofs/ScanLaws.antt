@@ -17,7 +17,7 @@ use Rattle.commit_pair.specs.declared.run.Run.{Run}
 use Rattle.commit_pair.specs.declared.run.Scan.{Scan}
 use Rattle.commit_pair.specs.Parts.{Part, part_of, head_at, is_part, are_parts, is_valid_record, record_head, considered, considered_with, best_below, parts_on, newest_at, pages_of}
 use Rattle.commit_pair.specs.Anchored.{AreErased}
-use Rattle.commit_pair.specs.Scanning.{begun_run, followed, settled, scan_next, LacksPages, IsRun, IsMet}
+use Rattle.commit_pair.specs.Scanning.{begun_run, followed, settled, scan_next, IsRun, IsMet}
 use Rattle.commit_pair.proofs.ReadParts.{no_part, parts_start, parts_go_on, parts_stop, parts_end}
 
 -- ---- tests
@@ -232,11 +232,6 @@ met_next g parts first n scan head from at is = on scan.run is
             → IsMet g parts first (n + 1) (settled scan.best (cond b (Some (record { found = run.found; met = run.met + 1 })) (begun_run g n head))).best (settled scan.best (cond b (Some (record { found = run.found; met = run.met + 1 })) (begun_run g n head))).run
         by true passes = settled_is g parts first (n + 1) scan.best (record { found = run.found; met = run.met + 1 }) (goes_on g parts first n run head at is passes) (omega arith) so_far
         by false fails = begun_is g parts first n scan.best from (so_far ∙ sym (broken g parts first n run is head more at fails)) head at
-
--- pages are missing of the record that is being met
-pub met_goes_on : (g : Geometry) (parts : ℕ → Option Part) (first n : ℕ) (best : Best) (o : Option Run) → IsMet g parts first n best o → LacksPages o
-met_goes_on g parts first n best None is = tt
-met_goes_on g parts first n best (Some run) is = is.1
 
 -- ---- the anchors
 

@@ -81,12 +81,13 @@ pub record Attempted (old : Device) (was : set.FinSet nat_cmp) (new : Device) (n
   pub only_anchors : OnlyAnchors old was new now
   pub why : IfErr result (IsPowerCut new)
 
--- the pages of an anchor from a place on are too few for the record with this list
+-- the pages of an anchor from a place on are too few for the record with this list, and all its pages are enough
 pub record LacksRoom (r : Record) (bad : set.FinSet nat_cmp) (place : ℕ) : Type 0 where
   pub bytes : List ℕ
   pub count : ℕ
   pub means : (sequence : ℕ) → Means r sequence bad bytes
   pub fills : Fills r.geometry bytes count
+  pub fits : count ≤ r.geometry.pages
   pub past : r.geometry.pages < place + count
 
 -- the k-th anchor after one, in ring order

@@ -136,7 +136,7 @@ impl Anchors {
     fn start(&self, geometry: Geometry, bad: &BadBlocks) -> (u32, u32)
         requires lawful { IsGeometry geometry }
         requires open { is_read_only bad.now ≡ false }
-        ensures { BeginsAt geometry bad.now self.now result.0 result.1 }
+        ensures begins { BeginsAt geometry bad.now self.now result.0 result.1 }
     {
         match self.newest {
             Some(newest) => (newest.page / geometry.pages, self.end),

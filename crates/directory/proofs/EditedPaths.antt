@@ -1,5 +1,5 @@
 -- What the root of a path written anew reaches.
-use Rattle.std.proofs.Common.{◌≡◌, ℕ, ◌⊎◌, inl, inr, Bool, false, Option, Some, None, Result, Ok, Err, [], ◌∷◌, ap, sym, subst, ◌∙◌}
+use Rattle.std.proofs.Common.{◌≡◌, ℕ, ◌⊎◌, inl, inr, Bool, Option, Some, None, Result, Ok, Err, [], ◌∷◌, sym, subst}
 use Rattle.std.specs.Prelude.{IfOk}
 use Rattle.fs_types.specs.Names.{Path}
 use Rattle.fs_types.specs.declared.fault.Fault.{Fault}
@@ -7,7 +7,7 @@ use Rattle.node_format.specs.declared.place.Place.{Place}
 use Rattle.node_format.specs.declared.place.Place.TheVariants.{Dir}
 use Rattle.block_trees.specs.Bodies.{Blocks}
 use Rattle.block_trees.specs.Reached.{IsHeld, Keeps, Reached, PlaceNames}
-use Rattle.block_trees.specs.Rewritten.{IsRewritten}
+use Rattle.block_trees.specs.Rewritten.{IsFreshNode, IsRewritten}
 use Rattle.block_trees.proofs.EditedTrees.{edit_law}
 use Rattle.block_trees.proofs.EmptyDirectories.{reaches_itself}
 use Rattle.block_trees.proofs.Entries.{place_is}
@@ -28,13 +28,13 @@ made_reaches old new kept kept' from to path keeps held made b reached =
     entry : Option Place
     entry = Some (Dir made.block)
 
-    free : (root : ℕ) (place : Place) → entry ≡ Some place → PlaceNames place root → Reached new (root ∷ []) b → kept b ≡ false
+    free : (root : ℕ) (place : Place) → entry ≡ Some place → PlaceNames place root → Reached new (root ∷ []) b → IsFreshNode kept new b
     free root place is names below =
         let root_is : made.block ≡ root = subst (λ (p : Place). PlaceNames p root) (sym (place_is (Dir made.block) place is)) names in
-        ap kept (reaches_itself new made.block made.empty b (subst (λ (r : ℕ). Reached new (r ∷ []) b) (sym root_is) below)) ∙ made.was_free
+        subst (IsFreshNode kept new) (sym (reaches_itself new made.block made.empty b (subst (λ (r : ℕ). Reached new (r ∷ []) b) (sym root_is) below))) made.fresh
 
-    on : Reached old (from ∷ []) b ⊎ (kept b ≡ false) ⊎ ((root : ℕ) × (place : Place) × (entry ≡ Some place) × PlaceNames place root × Reached new (root ∷ []) b)
-        → Reached old (from ∷ []) b ⊎ (kept b ≡ false) ⊎ ((root : ℕ) × (place : Place) × (let none : Option Place = None in none ≡ Some place) × PlaceNames place root × Reached new (root ∷ []) b)
+    on : Reached old (from ∷ []) b ⊎ IsFreshNode kept new b ⊎ ((root : ℕ) × (place : Place) × (entry ≡ Some place) × PlaceNames place root × Reached new (root ∷ []) b)
+        → Reached old (from ∷ []) b ⊎ IsFreshNode kept new b ⊎ ((root : ℕ) × (place : Place) × (let none : Option Place = None in none ≡ Some place) × PlaceNames place root × Reached new (root ∷ []) b)
     on (inl before) = inl before
     on (inr (inl fresh)) = inr (inl fresh)
     on (inr (inr (root, place, is, names, below))) = inr (inl (free root place is names below))

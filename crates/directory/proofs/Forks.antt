@@ -7,7 +7,7 @@ use Rattle.std.proofs.Math.Seq.{drop-cons}
 use Rattle.fs_types.specs.declared.limits.TheConstants.{MAX_ENTRIES}
 use Rattle.fs_types.specs.Names.{Name, Path, same_name, same_path}
 use Rattle.plain_trees.specs.Contents.{Apart, parent_of}
-use Rattle.fs_types.proofs.Orders.{same_name-is, same_name-own}
+use Rattle.fs_types.proofs.Orders.{same_name-is}
 use Rattle.node_format.specs.Items.{Item, named_place}
 use Rattle.node_format.specs.Edits.{edited_count, IsEdited}
 use Rattle.node_format.specs.declared.place.Place.{Place}
@@ -46,21 +46,6 @@ takes_made items without name other here most some edited = on here
     on None = refl
     on (Some place) = either (is_some (named_place without other))
 
--- a name that is there is so still once another was edited
-pub takes_still : (items with : List Item) (name other : Name) (gone here : Option Place) → same_name name other ≡ false → IsSome (named_place items name) → IsEdited items other here with → takes (Some with) name gone ≡ true
-takes_still items with name other gone here apart some edited = on gone
-  where
-    differs : (b : Bool) → same_name other name ≡ b → cond b here (named_place items name) ≡ named_place items name
-    differs true same = absurd (true≢false (sym (ap (same_name name) (same_name-is other name same) ∙ same_name-own name) ∙ apart))
-    differs false other = refl
-
-    still : named_place with name ≡ named_place items name
-    still = edited.leads name ∙ differs (same_name other name) refl
-
-    on : (gone : Option Place) → takes (Some with) name gone ≡ true
-    on None = refl
-    on (Some place) = ap (λ (o : Option Place). is_some o || not (nat_le MAX_ENTRIES (length with))) still ∙ ap (λ (b : Bool). b || not (nat_le MAX_ENTRIES (length with))) some
-
 pub none_is : (o : Option Place) → is_none o ≡ true → o ≡ None
 none_is None none = refl
 none_is (Some place) none = absurd cc
@@ -73,20 +58,6 @@ some_is (Some place) some = refl
 
 pub first_name : (i : ℕ) (path : Path) → i < length path → drop i path ≡ get_or path i [] ∷ drop (i + 1) path
 first_name i path less = let e : suc i ≡ i + 1 = omega arith in drop-cons path i [] less ∙ ap (λ (k : ℕ). get_or path i [] ∷ drop k path) e
-
--- one common name more
-pub common_more : (i : ℕ) (p q : Path) → i < length p → i < length q → same_name (get_or p i []) (get_or q i []) ≡ true → common (drop i p) (drop i q) ≡ common (drop (i + 1) p) (drop (i + 1) q) + 1
-common_more i p q less less' same =
-    (λ j. common (first_name i p less j) (first_name i q less' j))
-    ∙ ap (λ (b : Bool). cond b (suc (common (drop (i + 1) p) (drop (i + 1) q))) 0) same
-    ∙ one (common (drop (i + 1) p) (drop (i + 1) q))
-  where
-    one : (x : ℕ) → suc x ≡ x + 1
-    one x = omega arith
-
-pub common_ends : (i : ℕ) (p q : Path) → i < length p → i < length q → same_name (get_or p i []) (get_or q i []) ≡ false → common (drop i p) (drop i q) ≡ 0
-common_ends i p q less less' differs =
-    (λ j. common (first_name i p less j) (first_name i q less' j)) ∙ ap (λ (b : Bool). cond b (suc (common (drop (i + 1) p) (drop (i + 1) q))) 0) differs
 
 -- the names before the fork are the same, those at it are not, and the parents are the same only where both paths end there
 pub record Parted (p q : Path) (fork : ℕ) : Type 0 where

@@ -1,14 +1,12 @@
 -- The nodes of the directories of a level, read once each.
 use Rattle.std.proofs.Common.{◌≡◌, ℕ, zero, suc, ◌⊎◌, inl, inr, ◌+◌, ◌-◌, ◌<◌, ◌≤◌, Bool, true, false, cond, not, ◌&&◌, ◌||◌, eqb, Option, Some, None, List, [], ◌∷◌, refl, sym, ap, subst, ◌∙◌, arith}
 use Rattle.std.specs.Prelude.{nat_lt, Contains, unwrap_or}
-use Rattle.std.specs.Option.{option_map_or}
 use Rattle.std.specs.List.{list_any}
 use Rattle.std.specs.FinSet.{FinSet, contains, insert, empty, contains-empty}
 use Rattle.std.specs.Ordering.{nat_cmp}
 use Rattle.std.proofs.lemmas.Bool.{true≢false, eqb-true, ltb-true, ltb-false, lt-ltb}
 use Rattle.allocator.specs.BlockSet.{BlockSet}
 use Rattle.node_format.specs.Items.{Item}
-use Rattle.node_format.specs.Links.{Link}
 use Rattle.node_format.specs.Order.{both_true}
 use Rattle.block_trees.specs.Bodies.{Blocks}
 use Rattle.block_trees.specs.Chains.{link_of, link_items, next_of, most_after, entries_in, blocks_after, chain}
@@ -369,17 +367,6 @@ level_step f f2 blocks blocks2 i level seen next seen' next' same size is in_lev
 -- a block without a directory node names nothing
 pub no_link : (f : Blocks) (block : ℕ) → f block ≡ None → link_of (f block) ≡ None
 no_link f block none = ap link_of none
-
-pub next_none : (f : Blocks) (block : ℕ) → link_of (f block) ≡ None → next_of (f block) ≡ 0
-next_none f block none = ap (λ (o : Option Link). option_map_or (λ l. l.next) o 0) none
-
-pub none_added : (f : Blocks) (block blocks b : ℕ) (c : Bool) → link_of (f block) ≡ None → c ≡ (c || (nat_lt b blocks && names_directory (link_items (f block)) b))
-none_added f block blocks b c none = nothing c (nat_lt b blocks) ∙ ap (λ (o : Option Link). c || (nat_lt b blocks && names_directory (option_map_or (λ l. l.items) o []) b)) (sym none)
-  where
-    nothing : (c d : Bool) → c ≡ (c || (d && false))
-    nothing true d = refl
-    nothing false true = refl
-    nothing false false = refl
 
 pub level_more : (list : List ℕ) (seen seen' : FinSet nat_cmp) → ((b : ℕ) → contains seen b ≡ true → Contains list b) → AreAmong list seen seen' → (b : ℕ) → contains seen' b ≡ true → Contains list b
 level_more list seen seen' within more b here = elim (more b here) [ inl was ↦ within b was | inr new ↦ new ]

@@ -246,16 +246,6 @@ added_one s blocks x b rest below = ap (λ (t : Bool). t || (nat_lt b blocks && 
         turned : eqb b x ≡ false → eqb x b ≡ false
         turned differs = by_test (eqb x b) (λ same. absurd (true≢false (sym (eq-eqb b x (sym (eqb-true x b same))) ∙ differs))) (λ other. other)
 
-pub added_past : (blocks x b : ℕ) (c rest : Bool) → blocks ≤ x → (c || (nat_lt b blocks && rest)) ≡ (c || (nat_lt b blocks && (eqb x b || rest)))
-added_past blocks x b c rest past = on (nat_lt b blocks) refl
-  where
-    differs : nat_lt b blocks ≡ true → eqb x b ≡ false
-    differs less = by_test (eqb x b) (λ same. absurd (let e = eqb-true x b same in let l = ltb-true b blocks less in omega arith)) (λ other. other)
-
-    on : (t : Bool) → nat_lt b blocks ≡ t → (c || (t && rest)) ≡ (c || (t && (eqb x b || rest)))
-    on true less = ap (λ (e : Bool). c || (e || rest)) (sym (differs less))
-    on false not_less = refl
-
 -- ---- the first level, block by block
 
 pub no_blocks : (blocks : ℕ) (level : FinSet nat_cmp) → level ≡ empty → HasBlocks blocks [] level

@@ -12,7 +12,7 @@ use Rattle.block_trees.specs.Bodies.{Blocks}
 use Rattle.block_trees.specs.Chains.{entries_in, chain}
 use Rattle.block_trees.specs.Trees.{child, leads}
 use Rattle.block_trees.specs.Reached.{IsHeld, Keeps, Reached, PlaceNames}
-use Rattle.block_trees.specs.Rewritten.{IsFreshChain, IsSecondEdit, IsBranch, IsMoved}
+use Rattle.block_trees.specs.Rewritten.{IsFreshNode, IsFreshChain, IsSecondEdit, IsBranch, IsMoved}
 use Rattle.block_trees.proofs.Reaching.{held_child}
 use Rattle.block_trees.proofs.MovedTrees.{move_law}
 use Rattle.directory.specs.Edits.{OnlyReaches}
@@ -122,7 +122,7 @@ pub only_moved : (old new : Blocks) (kept kept' : ℕ → Bool) (from : ℕ) (p 
 only_moved old new kept kept' from p q place (Err fault) keeps held led moved = tt
 only_moved old new kept kept' from p q place (Ok to) keeps held led moved = λ b reached. on b ((move_law old new kept kept' from to p q place keeps held led moved).reached b reached)
   where
-    on : (b : ℕ) → Reached old (from ∷ []) b ⊎ (kept b ≡ false)
-        → Reached old (from ∷ []) b ⊎ (kept b ≡ false) ⊎ ((root : ℕ) × (at : Place) × (let none : Option Place = None in none ≡ Some at) × PlaceNames at root × Reached new (root ∷ []) b)
+    on : (b : ℕ) → Reached old (from ∷ []) b ⊎ IsFreshNode kept new b
+        → Reached old (from ∷ []) b ⊎ IsFreshNode kept new b ⊎ ((root : ℕ) × (at : Place) × (let none : Option Place = None in none ≡ Some at) × PlaceNames at root × Reached new (root ∷ []) b)
     on b (inl before) = inl before
     on b (inr fresh) = inr (inl fresh)

@@ -35,7 +35,7 @@ edit_before f g h from to name at same (items, spelled, leads) =
 pub fresh_before : (f g h : Blocks) (k l kept : ℕ → Bool) → Keeps k f l g → ((b : ℕ) → l b ≡ false → k b ≡ false) → (from to : ℕ) → IsHeld f k (Dir from) → IsFreshChain g h l kept from to → IsFreshChain f h k kept from to
 fresh_before f g h k l kept keeps was from to held fresh b inside =
     let now = fresh b inside in
-    (now.0, elim now.1 [ inl free ↦ inl (was b free) | inr old ↦ inr (subst (λ (blocks : List ℕ). Contains blocks b) (same_held f g k l keeps from held).1 old) ])
+    (now.0, elim now.1 [ inl free ↦ inl (was b free.0, free.1) | inr old ↦ inr (subst (λ (blocks : List ℕ). Contains blocks b) (same_held f g k l keeps from held).1 old) ])
 
 pub rewritten_before : (f g h : Blocks) (k l kept : ℕ → Bool) → Keeps k f l g → ((b : ℕ) → l b ≡ false → k b ≡ false) → (path : Path) (from to : ℕ) (at : Option Place) → IsHeld f k (Dir from)
     → IsRewritten g h l kept from to path at → IsRewritten f h k kept from to path at

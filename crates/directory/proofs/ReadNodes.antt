@@ -1,33 +1,22 @@
 -- What the bytes that a read brought tell of the node in a block.
-use Rattle.std.proofs.Common.{◌≡◌, ℕ, ◌≤◌, Bool, Option, Some, Result, Ok, Err, List, [], ◌∷◌, ◌++◌, length, sym, ap, ◌∙◌, arith, append_assoc}
-use Rattle.std.specs.Prelude.{IfOk}
+use Rattle.std.proofs.Common.{◌≡◌, ℕ, ◌≤◌, Bool, Option, Some, List, [], ◌∷◌, ◌++◌, length, sym, ap, ◌∙◌, arith, append_assoc}
 use Rattle.std.specs.Option.{option_map_or, option_and_then}
-use Rattle.fs_types.specs.declared.limits.TheConstants.{NODE_ENTRIES}
 use Rattle.fs_types.specs.Names.{Name}
-use Rattle.fs_types.specs.declared.fault.Fault.{Fault}
 use Rattle.node_format.specs.Items.{Item, is_dir_place}
 use Rattle.node_format.specs.Links.{Link, link_at}
 use Rattle.block_trees.specs.Bodies.{Blocks}
-use Rattle.block_trees.specs.Chains.{link_of, link_items, next_of}
+use Rattle.block_trees.specs.Chains.{link_of, link_items}
 use Rattle.block_trees.specs.Trees.{names_of}
-use Rattle.block_trees.proofs.ChainCounts.{linked_filled}
 
 -- the node in the bytes that were lent
 pub link_shown : (f : Blocks) (block : ℕ) (shown bytes : List ℕ) (link : Option Link) → f block ≡ Some shown → bytes ≡ shown → link ≡ link_at bytes → link_of (f block) ≡ link
 link_shown f block shown bytes link is lent read = ap (option_and_then link_at) (is ∙ ap (λ (b : List ℕ). Some b) (sym lent)) ∙ sym read
-
--- what a node says, where that is its link
-pub next_shown : (f : Blocks) (block next : ℕ) (link : Link) → link_of (f block) ≡ Some link → next ≡ link.next → next_of (f block) ≡ next
-next_shown f block next link is to = ap (λ (o : Option Link). option_map_or (λ l. l.next) o 0) is ∙ sym to
 
 pub list_shown : (f : Blocks) (block : ℕ) (link : Link) (list : List Item) → link_of (f block) ≡ Some link → list ≡ link.items → list ≡ link_items (f block)
 list_shown f block link list is same = same ∙ sym (ap (λ (o : Option Link). option_map_or (λ l. l.items) o []) is)
 
 pub items_shown : (f : Blocks) (block : ℕ) (link : Link) (count : ℕ) (list : List Item) → link_of (f block) ≡ Some link → list ≡ link.items → count ≡ length list → count ≡ length (link_items (f block))
 items_shown f block link count list is same counted = counted ∙ ap length (list_shown f block link list is same)
-
-pub few_shown : (f : Blocks) (block : ℕ) (link : Link) (count : ℕ) (list : List Item) → link_of (f block) ≡ Some link → list ≡ link.items → count ≡ length list → count ≤ NODE_ENTRIES
-few_shown f block link count list is same counted = omega (arith, counted, ap length same, (linked_filled (f block) link is).few)
 
 -- one name more is listed
 pub one_name_more : (names pushed : List (Name × Bool)) (rest left : List Item) (all : List (Name × Bool)) (entry : Item) (name : Name) → pushed ≡ names ++ (name, is_dir_place entry.place) ∷ [] → left ≡ entry ∷ rest → name ≡ entry.name
@@ -43,7 +32,3 @@ one_name_more names pushed rest left all entry name pushed_is steps name_is befo
 
 pub at_most : (n m : ℕ) → n ≡ m → n ≤ m
 at_most n m e = omega arith
-
-pub whatever_block : (P : Type 0) (r : Result ℕ Fault) → P → IfOk r (λ _. P)
-whatever_block P (Ok block) p = p
-whatever_block P (Err fault) p = tt

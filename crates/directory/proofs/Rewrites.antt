@@ -1,11 +1,11 @@
 -- A path rewritten, seen from a later state, and by one directory more.
-use Rattle.std.proofs.Common.{◌≡◌, ℕ, Bool, Option, Some, List, [], ◌∷◌, subst, ◌∙◌}
+use Rattle.std.proofs.Common.{◌≡◌, ℕ, Bool, Option, Some, List, [], ◌∷◌, inl, inr, ap, subst, ◌∙◌}
 use Rattle.std.specs.Prelude.{Contains}
 use Rattle.fs_types.specs.Names.{Name, Path}
 use Rattle.node_format.specs.declared.place.Place.{Place}
 use Rattle.node_format.specs.declared.place.Place.TheVariants.{Dir}
 use Rattle.block_trees.specs.Bodies.{Blocks}
-use Rattle.block_trees.specs.Chains.{entries_in, chain}
+use Rattle.block_trees.specs.Chains.{entries_in, chain, is_chained}
 use Rattle.block_trees.specs.Trees.{child}
 use Rattle.block_trees.specs.Reached.{Keeps}
 use Rattle.block_trees.specs.Rewritten.{IsDirectoryEdit, IsFreshChain, IsRewritten}
@@ -24,7 +24,7 @@ written_later f0 f1 f2 k0 k1 k2 keeps from to fresh = chain_frame f1 f2 to (λ b
 pub fresh_later : (f0 f1 f2 : Blocks) (k0 k1 k2 : ℕ → Bool) → Keeps k1 f1 k2 f2 → (from to : ℕ) → IsFreshChain f0 f1 k0 k1 from to → IsFreshChain f0 f2 k0 k2 from to
 fresh_later f0 f1 f2 k0 k1 k2 keeps from to fresh b inside =
     let was = fresh b (subst (λ (blocks : List ℕ). Contains blocks b) (written_later f0 f1 f2 k0 k1 k2 keeps from to fresh).1 inside) in
-    (keeps.stays b was.0, was.1)
+    (keeps.stays b was.0, elim was.1 [ inl free ↦ inl (free.0, ap is_chained (keeps.same b was.0) ∙ free.1) | inr old ↦ inr old ])
 
 pub rewritten_later : (f0 f1 f2 : Blocks) (k0 k1 k2 : ℕ → Bool) → Keeps k1 f1 k2 f2 → (path : Path) (from to : ℕ) (at : Option Place) → IsRewritten f0 f1 k0 k1 from to path at → IsRewritten f0 f2 k0 k2 from to path at
 rewritten_later f0 f1 f2 k0 k1 k2 keeps [] from to at r = absurd r

@@ -10,7 +10,8 @@ use Rattle.fs_types.specs.declared.fault.Fault.{Fault}
 use Rattle.node_format.specs.Items.{Item, are_ascending}
 use Rattle.node_format.specs.Links.{Link, link, link_at}
 use Rattle.block_trees.specs.Bodies.{Blocks}
-use Rattle.block_trees.specs.Chains.{link_of, next_of, is_later, entries_after, blocks_after, most_after, entries_in, chain}
+use Rattle.block_trees.specs.Chains.{link_of, is_chained, next_of, is_later, entries_after, blocks_after, most_after, entries_in, chain}
+use Rattle.block_trees.specs.Rewritten.{IsFreshNode}
 use Rattle.block_trees.proofs.Chains.{after_same, step_law, first_law, none_after, AfterParts, after_parts, listed_after, chain_is, after_raise}
 use Rattle.directory.specs.Written.{IsOneMore, IsKeptAfter, IsPut, PutsBefore, IsDirectoryPut, PutsDirectory}
 
@@ -76,6 +77,14 @@ group_part list part group held within whole full is = is ∙ elim (cases_lt (le
     left : length (drop (NODE_ENTRIES * group) list) ≡ length list - NODE_ENTRIES * group
     left = length-drop (NODE_ENTRIES * group) list
 
+-- a node that was written is one of a chain
+pub chained_is : (f : Blocks) (to next : ℕ) (items : List Item) → link_of (f to) ≡ Some (link true next items) → is_chained (f to) ≡ true
+chained_is f to next items is = ap (λ (o : Option Link). option_map_or (λ x. x.chained) o false) is
+
+-- so it is a fresh one
+one_fresh : (kept was : ℕ → Bool) (new : Blocks) (kept' : ℕ → Bool) (next to b : ℕ) (items : List Item) → ((b : ℕ) → was b ≡ false → kept b ≡ false) → IsOneMore was new kept' next to items → to ≡ b → IsFreshNode kept new b
+one_fresh kept was new kept' next to b items was_free one is = subst (IsFreshNode kept new) is (was_free to one.fresh, chained_is new to next items one.node)
+
 -- a group more before others: the state at first (0), with the groups after it written (1), and with it too (2)
 pub one_group : (f0 f1 f2 : Blocks) (k0 k1 k2 : ℕ → Bool) (groups group n tail next to : ℕ) (items more : List Item) → ((b : ℕ) → k1 b ≡ true → f2 b ≡ f1 b) → ((b : ℕ) → k1 b ≡ true → k2 b ≡ true) → ((b : ℕ) → k1 b ≡ false → k0 b ≡ false)
     → 0 < group → group ≤ groups → NODE_ENTRIES * (group - 1) < length items → IsOneMore k1 f2 k2 next to (take NODE_ENTRIES (drop (NODE_ENTRIES * (group - 1)) items)) → IsPut f0 k0 n tail f1 k1 (groups - group + n) next (drop (NODE_ENTRIES * group) items ++ more)
@@ -96,9 +105,11 @@ one_group f0 f1 f2 k0 k1 k2 groups group n tail next to items more same stays wa
     } in
     subst (λ (k : ℕ). IsPut f0 k0 n tail f2 k2 k to (drop (NODE_ENTRIES * (group - 1)) items ++ more)) fuel made
   where
-    among : (b : ℕ) → Contains (to ∷ blocks_after (groups - group + n) f1 next) b → (k0 b ≡ false) ⊎ Contains (blocks_after n f0 tail) b
-    among b (zero, lt, e) = inl (ap k0 (sym e) ∙ was_free to one.fresh)
-    among b (suc k, lt, e) = was.fresh b (k, omega (arith, lt), e)
+    among : (b : ℕ) → Contains (to ∷ blocks_after (groups - group + n) f1 next) b → IsFreshNode k0 f2 b ⊎ Contains (blocks_after n f0 tail) b
+    among b (zero, lt, e) = inl (one_fresh k0 k1 f2 k2 next to b (take NODE_ENTRIES (drop (NODE_ENTRIES * (group - 1)) items)) was_free one e)
+    among b (suc k, lt, e) =
+        let inside : Contains (blocks_after (groups - group + n) f1 next) b = (k, omega (arith, lt), e) in
+        elim (was.fresh b inside) [ inl free ↦ inl (free.0, ap is_chained (same b (was.here.held b inside)) ∙ free.1) | inr stood ↦ inr stood ]
 
 pub all_groups : (f0 f1 : Blocks) (k0 k1 : ℕ → Bool) (groups group tail to : ℕ) (items : List Item) → group ≡ 0 → PutsBefore f0 k0 f1 k1 (groups - group) tail to (drop (NODE_ENTRIES * group) items) → PutsBefore f0 k0 f1 k1 groups tail to items
 all_groups f0 f1 k0 k1 groups group tail to items none put =
@@ -180,6 +191,6 @@ puts_empty old new kept kept' tail to items last none one n more few order was =
         last_one zero is = (none_after old 0 more is).1
         last_one (suc n) is = cc
 
-    only : (b : ℕ) → Contains (to ∷ []) b → (kept' b ≡ true) × ((kept b ≡ false) ⊎ Contains (blocks_after n old tail) b)
-    only b (zero, lt, e) = (ap kept' (sym e) ∙ one.is_kept, inl (ap kept (sym e) ∙ one.fresh))
+    only : (b : ℕ) → Contains (to ∷ []) b → (kept' b ≡ true) × (IsFreshNode kept new b ⊎ Contains (blocks_after n old tail) b)
+    only b (zero, lt, e) = (ap kept' (sym e) ∙ one.is_kept, inl (one_fresh kept kept new kept' tail to b items (λ c free. free) one e))
     only b (suc k, lt, e) = absurd (omega (arith, lt))

@@ -9,7 +9,7 @@ use Rattle.driver_checks.specs.Cases.{most_asked}
 use Rattle.driver_checks.specs.Checklists.{Checks, IsNoted, more}
 
 pub one_more : (area : Area) (a b c : Driver) (cases : List Case) (i : ℕ) (case : Case) (before after : List Case) → i < length cases
-    → Checks area a (take i cases) before b → AsksAtMost b c (most_asked area.sizes.pages) → IsNoted (get_or cases i case) before after c
+    → Checks area a (take i cases) before b → AsksAtMost b c (most_asked area.sizes.pages) → IsNoted (get_or cases i case) before after b c
     → Checks area a (take (i + 1) cases) after c
 one_more area a b c cases i case before after below checks works noted =
     subst (λ (some : List Case). Checks area a some after c) (sym (take_more cases i case below))

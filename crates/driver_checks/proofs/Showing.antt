@@ -13,6 +13,8 @@ looks_on a b c m n first second = record {
   area = second.area ∙ first.area;
   told = second.told ∙ first.told;
   pages = λ p. second.pages p ∙ first.pages p;
+  moments = second.moments ∙ first.moments;
+  steps = second.steps ∙ first.steps;
   operations = omega arith;
 }
 
@@ -37,4 +39,4 @@ meets_more a b n expected g block from place looks below here =
     (λ k less least. page_meets_on a b n expected g (area_page g block k) looks (below k less least)) (λ _. here)
 
 pub looks_in : (a b : Driver) (m n : ℕ) → m ≤ n → OnlyAsks a b m → OnlyAsks a b n
-looks_in a b m n least looks = record { area = looks.area; told = looks.told; pages = looks.pages; operations = omega arith }
+looks_in a b m n least looks = record { area = looks.area; told = looks.told; pages = looks.pages; moments = looks.moments; steps = looks.steps; operations = omega arith }

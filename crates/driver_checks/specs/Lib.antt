@@ -4,4 +4,8 @@ pub mod Patterns
 pub mod Expectations
 pub mod Scenes
 pub mod Cases
+pub mod Filling
+pub mod Trials
+pub mod Shown
+pub mod Works
 pub mod Checklists

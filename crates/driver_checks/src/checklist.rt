@@ -1,15 +1,18 @@
 //! The checklist.
-ghost use Rattle.std.specs.Prelude.{◌≡◌, ◌+◌, ◌*◌, [], OnOk, IfOk, length};
+ghost use Rattle.std.specs.Prelude.{◌≡◌, ◌+◌, ◌*◌, [], ◌∷◌, OnOk, IfOk, length};
 ghost use Rattle.driver_checks.specs.Driver.{AsksAtMost};
 ghost use Rattle.driver_checks.specs.Cases.{Passes, most_asked};
-ghost use Rattle.driver_checks.specs.Checklists.{Checks, IsNoted};
+ghost use Rattle.driver_checks.specs.Checklists.{Checks, HasEachOnce, IsNoted};
+ghost use Rattle.driver_checks.specs.Filling.{page_filled, sides_filled};
+ghost use Rattle.driver_checks.specs.Works.{filled_and_erased, TriesPrograms, TriesErases, Works, Runs};
+ghost use Rattle.driver_checks.specs.declared.step.Step.{Step};
 
 use crate::area::Area;
 use crate::bench::Bench;
 use crate::case::Case;
 use crate::site::Site;
 use crate::trial::Trial;
-use crate::works::{begin_block, clear, fill_block, fill_in_turn, fill_sides};
+use crate::works::{clear, fill_block, fill_in_turn, fill_page, fill_sides};
 use crate::wrong::Wrong;
 use flash_model::DevFault;
 use std::alloc::{AllocError, Global};
@@ -20,6 +23,7 @@ use std::alloc::{AllocError, Global};
 /// programs no page that the driver does not show as erased. What the blocks held before is lost. A
 /// case is passed where each operation answered as it is to and each page was shown as expected.
 pub fn check_driver<B: Bench>(alloc: Global, bench: &mut B) -> Result<Vec<Case>, AllocError>
+    ensures once { HasEachOnce Case.ALL }
     ensures checks { IfOk result (λ failed. Checks (B.driver bench.old).area (B.driver bench.old) Case.ALL failed.items (B.driver bench.new)) }
     ensures works { AsksAtMost (B.driver bench.old) (B.driver bench.new) (12 * most_asked (B.driver bench.old).area.sizes.pages) }
 {
@@ -61,7 +65,7 @@ fn note_case<B: Bench>(
 ) -> Result<(), AllocError>
     requires area { (B.driver bench.old).area ≡ area }
     requires whole { length buffer.old ≡ area.sizes.page }
-    ensures noted { OnOk result (IsNoted case failed.old.items failed.new.items (B.driver bench.new)) }
+    ensures noted { OnOk result (IsNoted case failed.old.items failed.new.items (B.driver bench.old) (B.driver bench.new)) }
     ensures works { AsksAtMost (B.driver bench.old) (B.driver bench.new) (most_asked area.sizes.pages) }
 {
     match check_case(bench, area, case, buffer) {
@@ -83,6 +87,7 @@ fn check_case<B: Bench>(
     requires area { (B.driver bench.old).area ≡ area }
     requires whole { length buffer.old ≡ area.sizes.page }
     ensures passes { OnOk result (Passes case (B.driver bench.new)) }
+    ensures runs { OnOk result (Runs case (B.driver bench.old) (B.driver bench.new)) }
     ensures works { AsksAtMost (B.driver bench.old) (B.driver bench.new) (most_asked area.sizes.pages) }
 {
     bench.restart();
@@ -100,7 +105,7 @@ fn check_case<B: Bench>(
 fn tell_sizes<B: Bench>(bench: &mut B, area: Area) -> Result<(), Wrong>
     requires area { (B.driver bench.old).area ≡ area }
     ensures told { OnOk result ((B.driver bench.new).told ≡ area.sizes) }
-    ensures works { AsksAtMost (B.driver bench.old) (B.driver bench.new) 0 }
+    ensures same { B.driver bench.new ≡ B.driver bench.old }
 {
     if bench.geometry() == area.sizes {
         Ok(())
@@ -113,13 +118,14 @@ fn tell_sizes<B: Bench>(bench: &mut B, area: Area) -> Result<(), Wrong>
 fn work<B: Bench>(bench: &mut B, site: Site, case: Case, buffer: &mut [u8]) -> Result<(), Wrong>
     requires area { (B.driver bench.old).area ≡ site.area }
     requires whole { length buffer.old ≡ site.area.sizes.page }
+    ensures steps { OnOk result (Works case site.area site.lower site.own site.upper (B.driver bench.old).moments (B.driver bench.old).steps (B.driver bench.new).steps) }
     ensures works { AsksAtMost (B.driver bench.old) (B.driver bench.new) (255 * (6 * site.area.sizes.pages + 5) + 4 * site.area.sizes.pages) }
 {
     let round = case.round();
     match case {
         Case::Sizes => Ok(()),
         Case::Fresh => fill_and_erase(bench, site, round, buffer),
-        Case::ReadBack => begin_block(bench, site.area, site.own, round, buffer),
+        Case::ReadBack => fill_page(bench, site.area, site.own, 0, round, buffer),
         Case::InOrder => fill_block(bench, site.area, site.own, round, buffer),
         Case::OneBlock | Case::Ends => erase_between(bench, site, round, buffer),
         Case::Restart => restart_between(bench, site, round, buffer),
@@ -140,6 +146,7 @@ fn fill_and_erase<B: Bench>(
 ) -> Result<(), Wrong>
     requires area { (B.driver bench.old).area ≡ site.area }
     requires whole { length buffer.old ≡ site.area.sizes.page }
+    ensures steps { OnOk result ((B.driver bench.new).steps ≡ filled_and_erased site.area site.own (B.driver bench.old).steps) }
     ensures works { AsksAtMost (B.driver bench.old) (B.driver bench.new) (2 * site.area.sizes.pages + 1) }
 {
     fill_block(bench, site.area, site.own, round, buffer)?;
@@ -156,6 +163,7 @@ fn erase_between<B: Bench>(
 ) -> Result<(), Wrong>
     requires area { (B.driver bench.old).area ≡ site.area }
     requires whole { length buffer.old ≡ site.area.sizes.page }
+    ensures steps { OnOk result ((B.driver bench.new).steps ≡ filled_and_erased site.area site.own (sides_filled site.area site.lower site.upper (B.driver bench.old).steps)) }
     ensures works { AsksAtMost (B.driver bench.old) (B.driver bench.new) (6 * site.area.sizes.pages + 1) }
 {
     fill_sides(bench, site, round, buffer)?;
@@ -171,10 +179,11 @@ fn restart_between<B: Bench>(
 ) -> Result<(), Wrong>
     requires area { (B.driver bench.old).area ≡ site.area }
     requires whole { length buffer.old ≡ site.area.sizes.page }
+    ensures steps { OnOk result ((B.driver bench.new).steps ≡ Step.Restarts ∷ page_filled site.area site.own 0 (sides_filled site.area site.lower site.upper (B.driver bench.old).steps)) }
     ensures works { AsksAtMost (B.driver bench.old) (B.driver bench.new) (4 * site.area.sizes.pages + 2) }
 {
     fill_sides(bench, site, round, buffer)?;
-    begin_block(bench, site.area, site.own, round, buffer)?;
+    fill_page(bench, site.area, site.own, 0, round, buffer)?;
     bench.restart();
     Ok(())
 }
@@ -189,6 +198,7 @@ fn trouble_programs<B: Bench>(
 ) -> Result<(), Wrong>
     requires area { (B.driver bench.old).area ≡ site.area }
     requires whole { length buffer.old ≡ site.area.sizes.page }
+    ensures tries { OnOk result (TriesPrograms site.area site.lower site.own site.upper fault (B.driver bench.old).moments (B.driver bench.old).steps (B.driver bench.new).steps) }
     ensures works { AsksAtMost (B.driver bench.old) (B.driver bench.new) (255 * (3 * site.area.sizes.pages + 5) + 4 * site.area.sizes.pages) }
 {
     let round = case.round();
@@ -212,6 +222,7 @@ fn trouble_erases<B: Bench>(
 ) -> Result<(), Wrong>
     requires area { (B.driver bench.old).area ≡ site.area }
     requires whole { length buffer.old ≡ site.area.sizes.page }
+    ensures tries { OnOk result (TriesErases site.area site.lower site.own site.upper fault (B.driver bench.old).moments (B.driver bench.old).steps (B.driver bench.new).steps) }
     ensures works { AsksAtMost (B.driver bench.old) (B.driver bench.new) (255 * (6 * site.area.sizes.pages + 3) + 4 * site.area.sizes.pages) }
 {
     let round = case.round();

@@ -1,5 +1,5 @@
 //! Looks at pages.
-ghost use Rattle.std.specs.Prelude.{◌≡◌, ◌≤◌, OnOk, length};
+ghost use Rattle.std.specs.Prelude.{◌≡◌, ◌≤◌, ◌↔◌, false, IsOk, OnOk, length};
 ghost use Rattle.driver_checks.specs.Areas.{GivesBlock, GivesPage};
 ghost use Rattle.driver_checks.specs.Driver.{OnlyAsks};
 ghost use Rattle.driver_checks.specs.Expectations.{PageMeets, BlockMeets};
@@ -64,6 +64,7 @@ pub(crate) fn power_is_off<B: Bench>(
     requires area { (B.driver bench.old).area ≡ area }
     requires given { GivesPage area page }
     requires whole { length buffer.old ≡ area.sizes.page }
+    ensures off { IsOk result ↔ ((B.driver bench.new).powered ≡ false) }
     ensures looks { OnlyAsks (B.driver bench.old) (B.driver bench.new) 1 }
 {
     match bench.read(page, buffer) {

@@ -1,7 +1,9 @@
 //! Work on blocks: erases, and programs of pages that are erased.
-ghost use Rattle.std.specs.Prelude.{◌≡◌, ◌+◌, ◌*◌, length};
+ghost use Rattle.std.specs.Prelude.{◌≡◌, ◌+◌, ◌*◌, ◌<◌, ◌∷◌, IfOk, OnOk, length};
 ghost use Rattle.driver_checks.specs.Areas.{GivesBlock, GivesPage};
 ghost use Rattle.driver_checks.specs.Driver.{AsksAtMost};
+ghost use Rattle.driver_checks.specs.Filling.{page_filled, filled, filled_in_turn, sides_filled, cleared};
+ghost use Rattle.driver_checks.specs.declared.step.Step.{Step};
 
 use crate::area::Area;
 use crate::bench::Bench;
@@ -24,6 +26,7 @@ pub(crate) fn program<B: Bench>(
     requires area { (B.driver bench.old).area ≡ area }
     requires given { GivesPage area page }
     requires whole { length buffer.old ≡ area.sizes.page }
+    ensures steps { IfOk result (λ done. (B.driver bench.new).steps ≡ Step.Programs page done ∷ (B.driver bench.old).steps) }
     ensures works { AsksAtMost (B.driver bench.old) (B.driver bench.new) 2 }
 {
     page_shows(bench, area, page, Expected::Erased, buffer)?;
@@ -31,24 +34,28 @@ pub(crate) fn program<B: Bench>(
     Ok(bench.program(page, buffer))
 }
 
-// Programs the first page of a block that is erased.
-pub(crate) fn begin_block<B: Bench>(
+// Programs the page at a place of a block, which the driver shows as erased.
+pub(crate) fn fill_page<B: Bench>(
     bench: &mut B,
     area: Area,
     block: u32,
+    place: u32,
     round: u8,
     buffer: &mut [u8],
 ) -> Result<(), Wrong>
     requires area { (B.driver bench.old).area ≡ area }
     requires given { GivesBlock area block }
+    requires in_block { place < area.sizes.pages }
     requires whole { length buffer.old ≡ area.sizes.page }
+    ensures steps { OnOk result ((B.driver bench.new).steps ≡ page_filled area block place (B.driver bench.old).steps) }
     ensures works { AsksAtMost (B.driver bench.old) (B.driver bench.new) 2 }
 {
-    program(bench, area, area.page(block, 0), round, buffer)??;
+    program(bench, area, area.page(block, place), round, buffer)??;
     Ok(())
 }
 
 // Programs the pages of a block that is erased, from the first to the last.
+#[tactic(auto, using(crate::proofs::Working::filled_more))]
 pub(crate) fn fill_block<B: Bench>(
     bench: &mut B,
     area: Area,
@@ -59,10 +66,11 @@ pub(crate) fn fill_block<B: Bench>(
     requires area { (B.driver bench.old).area ≡ area }
     requires given { GivesBlock area block }
     requires whole { length buffer.old ≡ area.sizes.page }
+    ensures steps { OnOk result ((B.driver bench.new).steps ≡ filled area block area.sizes.pages (B.driver bench.old).steps) }
     ensures works { AsksAtMost (B.driver bench.old) (B.driver bench.new) (2 * area.sizes.pages) }
 {
     for place in 0..area.sizes.pages {
-        program(bench, area, area.page(block, place), round, buffer)??;
+        fill_page(bench, area, block, place, round, buffer)?;
     }
     Ok(())
 }
@@ -70,6 +78,7 @@ pub(crate) fn fill_block<B: Bench>(
 // Erases the three blocks.
 pub(crate) fn clear<B: Bench>(bench: &mut B, site: Site) -> Result<(), Wrong>
     requires area { (B.driver bench.old).area ≡ site.area }
+    ensures steps { OnOk result ((B.driver bench.new).steps ≡ cleared site.lower site.own site.upper (B.driver bench.old).steps) }
     ensures works { AsksAtMost (B.driver bench.old) (B.driver bench.new) 3 }
 {
     bench.erase(site.lower)?;
@@ -87,6 +96,7 @@ pub(crate) fn fill_sides<B: Bench>(
 ) -> Result<(), Wrong>
     requires area { (B.driver bench.old).area ≡ site.area }
     requires whole { length buffer.old ≡ site.area.sizes.page }
+    ensures steps { OnOk result ((B.driver bench.new).steps ≡ sides_filled site.area site.lower site.upper (B.driver bench.old).steps) }
     ensures works { AsksAtMost (B.driver bench.old) (B.driver bench.new) (4 * site.area.sizes.pages) }
 {
     fill_block(bench, site.area, site.lower, round, buffer)?;
@@ -94,6 +104,7 @@ pub(crate) fn fill_sides<B: Bench>(
 }
 
 // Fills the three blocks, which are erased, a page of each in turn.
+#[tactic(auto, using(crate::proofs::Working::filled_in_turn_more))]
 pub(crate) fn fill_in_turn<B: Bench>(
     bench: &mut B,
     site: Site,
@@ -102,13 +113,14 @@ pub(crate) fn fill_in_turn<B: Bench>(
 ) -> Result<(), Wrong>
     requires area { (B.driver bench.old).area ≡ site.area }
     requires whole { length buffer.old ≡ site.area.sizes.page }
+    ensures steps { OnOk result ((B.driver bench.new).steps ≡ filled_in_turn site.area site.lower site.own site.upper site.area.sizes.pages (B.driver bench.old).steps) }
     ensures works { AsksAtMost (B.driver bench.old) (B.driver bench.new) (6 * site.area.sizes.pages) }
 {
     let area = site.area;
     for place in 0..area.sizes.pages {
-        program(bench, area, area.page(site.lower, place), round, buffer)??;
-        program(bench, area, area.page(site.own, place), round, buffer)??;
-        program(bench, area, area.page(site.upper, place), round, buffer)??;
+        fill_page(bench, area, site.lower, place, round, buffer)?;
+        fill_page(bench, area, site.own, place, round, buffer)?;
+        fill_page(bench, area, site.upper, place, round, buffer)?;
     }
     Ok(())
 }

@@ -1,1 +1,2 @@
 pub mod Flaws
+pub mod Moments

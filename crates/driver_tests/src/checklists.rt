@@ -1,11 +1,13 @@
 //! The checklist, run over flashes in memory and over drivers that break a rule.
 use crate::flash_bench::FlashBench;
+use crate::flaw::{Flaw, Way};
 use crate::flawed::Flawed;
 use crate::memory_part::MemoryPart;
-use driver_checks::{Case, check_driver};
+use driver_checks::{Bench, Case, check_driver};
 use flash_model::{Geometry, SimFlash};
 use nor_part::{MemoryNor, NorFlash};
 use std::alloc::Global;
+use std::process::Abort;
 use std::test::Fail;
 
 // A flash in memory of 16 blocks, on a bench.
@@ -45,17 +47,95 @@ fn used_flashes_pass(rt: HostRuntime) -> Result<(), Fail> {
     Ok(())
 }
 
-// A driver that breaks the rule of a case is told by that case.
+// A driver with this flaw is told by the flaw's case.
+fn expect_told<B: Bench + Drop>(
+    rt: &impl Abort,
+    alloc: Global,
+    bench: B,
+    flaw: Flaw,
+) -> Result<(), Fail> {
+    let failed = check_driver(alloc, &mut Flawed::new(bench, flaw))?;
+    assert!(rt; failed.contains(&flaw.case), "{flaw:?}: {failed:?}");
+    Ok(())
+}
+
+// A driver that breaks the rule of a case in which no fault is planned is told by that case.
 #[test]
 fn flaws_are_told(rt: HostRuntime) -> Result<(), Fail> {
-    for flaw in Case::ALL {
-        let mut bench = Flawed::new(sim_bench(rt.alloc())?, flaw);
-        let failed = check_driver(rt.alloc(), &mut bench)?;
-        assert!(rt; failed.contains(&flaw), "{flaw:?} in memory: {failed:?}");
-        let mut bench = Flawed::new(nor_bench(rt.alloc())?, flaw);
-        let failed = check_driver(rt.alloc(), &mut bench)?;
-        assert!(rt; failed.contains(&flaw), "{flaw:?} over a part: {failed:?}");
+    let cases = [
+        Case::Sizes,
+        Case::Fresh,
+        Case::ReadBack,
+        Case::InOrder,
+        Case::OneBlock,
+        Case::Restart,
+        Case::Ends,
+        Case::Neighbours,
+    ];
+    for case in cases {
+        expect_told(&rt, rt.alloc(), sim_bench(rt.alloc())?, Flaw::of(case))?;
+        expect_told(&rt, rt.alloc(), nor_bench(rt.alloc())?, Flaw::of(case))?;
     }
+    Ok(())
+}
+
+// The flaws that show where a fault is planned at a moment. Past the first moment of a cut the
+// operation may be done.
+fn flaws_at(moment: u8) -> [Flaw; 8] {
+    let missed = if moment == 0 { Way::Misses } else { Way::Loses };
+    [
+        Flaw::at(Case::FailedProgram, Way::Loses, moment),
+        Flaw::at(Case::FailedProgram, Way::Misses, moment),
+        Flaw::at(Case::FailedErase, Way::Loses, moment),
+        Flaw::at(Case::FailedErase, Way::Misses, moment),
+        Flaw::at(Case::CutProgram, missed, moment),
+        Flaw::at(Case::CutProgram, Way::Stays, moment),
+        Flaw::at(Case::CutErase, missed, moment),
+        Flaw::at(Case::CutErase, Way::Stays, moment),
+    ]
+}
+
+// How many moments the fault of a case has over a part in memory. Over the flash in memory it has
+// half as many.
+fn part_moments(case: Case) -> u8 {
+    match case {
+        Case::FailedProgram | Case::FailedErase => 2,
+        Case::CutProgram | Case::CutErase => 6,
+        _ => 0,
+    }
+}
+
+// A driver that breaks the rule of a case at one moment of its fault alone is told by that case.
+#[test]
+fn flaws_at_each_moment_are_told(rt: HostRuntime) -> Result<(), Fail> {
+    for moment in 0..6 {
+        for flaw in flaws_at(moment) {
+            if moment < part_moments(flaw.case) / 2 {
+                expect_told(&rt, rt.alloc(), sim_bench(rt.alloc())?, flaw)?;
+            }
+            if moment < part_moments(flaw.case) {
+                expect_told(&rt, rt.alloc(), nor_bench(rt.alloc())?, flaw)?;
+            }
+        }
+    }
+    Ok(())
+}
+
+// A bench that tells no moments is told by each case in which a fault is planned, and by no other.
+#[test]
+fn silent_benches_are_told(rt: HostRuntime) -> Result<(), Fail> {
+    let flaw = Flaw::of(Case::CutErase);
+    let failed = check_driver(
+        rt.alloc(),
+        &mut Flawed::silent(sim_bench(rt.alloc())?, flaw),
+    )?;
+    let planned = [
+        Case::FailedProgram,
+        Case::FailedErase,
+        Case::CutProgram,
+        Case::CutErase,
+    ];
+    assert_eq!(rt; failed.as_slice(), planned.as_slice());
     Ok(())
 }
 
@@ -71,10 +151,10 @@ fn some_flaws_are_told_alone(rt: HostRuntime) -> Result<(), Fail> {
         Case::Ends,
         Case::Neighbours,
     ];
-    for flaw in alone {
-        let mut bench = Flawed::new(sim_bench(rt.alloc())?, flaw);
+    for case in alone {
+        let mut bench = Flawed::new(sim_bench(rt.alloc())?, Flaw::of(case));
         let failed = check_driver(rt.alloc(), &mut bench)?;
-        assert_eq!(rt; failed.as_slice(), [flaw].as_slice());
+        assert_eq!(rt; failed.as_slice(), [case].as_slice());
     }
     Ok(())
 }

@@ -2,7 +2,7 @@
 ghost use Rattle.std.specs.Prelude.{◌≡◌};
 
 use crate::troubled::Troubled;
-use driver_checks::{Area, Bench};
+use driver_checks::{Area, Bench, Step, Steps};
 use flash_model::{DevFault, Geometry, Operation, PageState};
 use fs_types::Fault;
 
@@ -11,6 +11,7 @@ use fs_types::Fault;
 pub(crate) struct FlashBench<F: Troubled + Drop> {
     area: Area,
     flash: F,
+    steps: Steps,
     ghost sizes: { (F.device flash).geometry ≡ area.sizes },
 }
 
@@ -19,14 +20,18 @@ impl<F: Troubled + Drop> FlashBench<F> {
     pub(crate) fn new(flash: F) -> Result<FlashBench<F>, Fault> {
         let sizes = flash.geometry();
         let area = Area::new(sizes, 0, sizes.blocks)?;
-        Ok(FlashBench { area, flash })
+        Ok(FlashBench {
+            area,
+            flash,
+            steps: Steps::new(),
+        })
     }
 }
 
 impl<F: Troubled + Drop> Bench for FlashBench<F> {
     ghost use Rattle.driver_checks.specs.Driver.{driver_of};
 
-    ghost driver = { λ bench. driver_of bench.area (F.device bench.flash) };
+    ghost driver = { λ bench. driver_of bench.area (F.device bench.flash) F.moment_count bench.steps.list };
 
     fn area(&self) -> Area {
         self.area
@@ -47,20 +52,26 @@ impl<F: Troubled + Drop> Bench for FlashBench<F> {
 
     #[tactic(auto, using(crate::proofs::Benching::program_works))]
     fn program(&mut self, page: u32, bytes: &[u8]) -> Result<(), DevFault> {
-        self.flash.program(page, bytes)
+        let done = self.flash.program(page, bytes);
+        self.steps = self.steps.then(&Step::Programs(page, done));
+        done
     }
 
     #[tactic(auto, using(crate::proofs::Benching::erase_works))]
     fn erase(&mut self, block: u32) -> Result<(), DevFault> {
-        self.flash.erase(block)
+        let done = self.flash.erase(block);
+        self.steps = self.steps.then(&Step::Erases(block, done));
+        done
     }
 
     fn plan(&mut self, class: Operation, fault: DevFault, moment: u8) {
         self.flash.trouble(class, fault, moment);
+        self.steps = self.steps.then(&Step::Plans(class, fault, moment));
     }
 
     fn restart(&mut self) {
         self.flash.calm();
         self.flash.power_on();
+        self.steps = self.steps.then(&Step::Restarts);
     }
 }

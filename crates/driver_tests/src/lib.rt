@@ -6,6 +6,8 @@ mod checklists;
 #[cfg(test)]
 mod flash_bench;
 #[cfg(test)]
+mod flaw;
+#[cfg(test)]
 mod flawed;
 #[cfg(test)]
 mod memory_part;

@@ -1,5 +1,8 @@
 //! Flashes whose next operation can be troubled.
-ghost use Rattle.std.specs.Prelude.{◌≡◌};
+ghost use Rattle.std.specs.Prelude.{◌≡◌, ℕ};
+ghost use Rattle.flash_model.specs.declared.fault_kind.Operation.{Operation};
+ghost use Rattle.flash_model.specs.declared.flash.DevFault.{DevFault};
+ghost use Rattle.driver_tests.specs.Moments.{memory_moments, part_moments};
 
 use crate::memory_part::MemoryPart;
 use flash_model::{DevFault, FaultKind, Flash, Operation, Planned, SimFlash};
@@ -7,8 +10,11 @@ use nor_part::Trouble;
 
 /// A flash whose next operation can be troubled.
 pub(crate) trait Troubled: Flash {
+    ghost moment_count: { Operation → DevFault → ℕ };
+
     /// At how many moments of an operation such a fault can be planned.
-    fn moments(&self, class: Operation, fault: DevFault) -> u8;
+    fn moments(&self, class: Operation, fault: DevFault) -> u8
+        ensures { result ≡ moment_count class fault };
 
     /// Plans a fault for the next operation, which is of this class.
     fn trouble(&mut self, class: Operation, fault: DevFault, moment: u8)
@@ -20,6 +26,8 @@ pub(crate) trait Troubled: Flash {
 }
 
 impl Troubled for SimFlash {
+    ghost moment_count = { memory_moments };
+
     // A cut leaves a page as it was, torn or whole.
     fn moments(&self, _class: Operation, fault: DevFault) -> u8 {
         match fault {
@@ -52,6 +60,8 @@ fn kind_of(class: Operation, fault: DevFault, moment: u8) -> FaultKind {
 }
 
 impl Troubled for MemoryPart {
+    ghost moment_count = { part_moments };
+
     // A program and an erase are two of the part each; power goes before, in or after one of these.
     fn moments(&self, _class: Operation, fault: DevFault) -> u8 {
         match fault {

@@ -54,7 +54,7 @@ fn write<F: Flash>(
     bytes: &[u8],
 ) -> Result<(), Fault> {
     let path = Path::parse(alloc, path)?;
-    let descriptor = fs.open(alloc, &path, OpenFlags::WRITE | OpenFlags::CREAT)? as u64;
+    let descriptor = fs.open(alloc, &path, OpenFlags::WRITE | OpenFlags::CREAT)?;
     fs.pwrite(alloc, descriptor, 0, bytes)?;
     fs.close(descriptor)
 }

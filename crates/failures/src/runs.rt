@@ -1,8 +1,8 @@
 //! Runs of lines on the flash of an image, with an operation that fails.
 use flash_model::{Counters, FaultKind, Planned, SimFlash};
 use fs_types::Fault;
+use script_runs::{ScriptFault, run_script};
 use session_oracle::flash_of;
-use shell::{ScriptFault, run_script};
 use std::alloc::{AllocError, Global};
 
 /// A failure: how, and of which operation of its class.

@@ -29,7 +29,7 @@ length-grown n part base len more so_far is =
     let e : length (parts (n + 1) part) ≡ length (parts n part) + length (part n) = ap length (parts-more n part) ∙ length-append (parts n part) (part n) in
     omega (arith, e)
 
-page_text-most : (size : ℕ) (page : Page) → IsWhole size page → length (page_text page) ≤ 1 + size
+pub page_text-most : (size : ℕ) (page : Page) → IsWhole size page → length (page_text page) ≤ 1 + size
 page_text-most size erased whole = omega arith
 page_text-most size (bytes_of bytes) whole = omega (arith, whole)
 page_text-most size unreadable whole = omega arith

@@ -4,5 +4,6 @@ pub mod Filling
 pub mod Stops
 pub mod Magic
 pub mod Growing
+pub mod Lengths
 pub mod Once
 pub mod Apart

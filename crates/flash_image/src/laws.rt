@@ -1,5 +1,5 @@
 //! What is true of images, whatever the code does.
-ghost use Rattle.std.specs.Prelude.{◌≡◌, ℕ, List, ◌++◌, []};
+ghost use Rattle.std.specs.Prelude.{◌≡◌, ◌≤◌, ℕ, List, ◌++◌, [], length};
 ghost use Rattle.flash_model.specs.Device.{Device};
 ghost use Rattle.flash_model.specs.Simulation.{device_of};
 ghost use Rattle.flash_image.specs.declared.image_fault.ImageFault.{ImageFault};
@@ -24,4 +24,9 @@ pub fn images_are_told_apart()
 pub fn faults_are_told_apart()
     ensures one { (f g : ImageFault) (bytes : List ℕ) → IsFault f bytes → IsFault g bytes → f ≡ g }
     ensures none { (d : Device) (f : ImageFault) → HasImage d → ¬ IsFault f (image_of d) }
+{}
+
+/// The longest image is that of 16,384 blocks of 16 pages of 256 bytes, all of them with data.
+pub fn images_are_short()
+    ensures { (d : Device) → HasImage d → length (image_of d) ≤ 67387412 }
 {}

@@ -14,4 +14,6 @@ mod laws;
 pub use decoding::decode;
 pub use encoding::encode;
 pub use image_fault::ImageFault;
-pub use laws::{each_flash_has_an_image, faults_are_told_apart, images_are_told_apart};
+pub use laws::{
+    each_flash_has_an_image, faults_are_told_apart, images_are_short, images_are_told_apart,
+};

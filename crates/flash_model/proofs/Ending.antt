@@ -1,5 +1,5 @@
 -- What planned faults leave is what an operation may leave.
-use Rattle.std.proofs.Common.{◌≡◌, ◌≢◌, ◌⊎◌, inl, inr, ℕ, ◌+◌, ◌/◌, ◌%◌, ◌==◌, Bool, true, false, List, Option, Some, None, Result, Ok, Err, if◌then◌else◌, sym, ap, ◌∙◌, subst, refl, arith}
+use Rattle.std.proofs.Common.{◌≡◌, ◌≢◌, ◌⊎◌, inl, inr, ℕ, ◌+◌, ◌%◌, ◌==◌, Bool, true, false, List, Option, Some, None, Result, Ok, Err, if◌then◌else◌, sym, ap, ◌∙◌, subst, refl, arith}
 use Rattle.std.specs.Prelude.{option_map}
 use Rattle.std.specs.Result.{result_err}
 use Rattle.flash_model.specs.declared.flash.DevFault.{DevFault}
@@ -8,7 +8,7 @@ use Rattle.flash_model.specs.declared.fault_kind.FaultKind.TheVariants.{ReadFail
 use Rattle.flash_model.specs.declared.sim_flash.SimFlash.{SimFlash}
 use Rattle.flash_model.specs.Device.{Device, Page, unreadable, Operates, power_after, failed, cut, AfterProgram, AfterErase, Programs, Erases, Wears, block_of}
 use Rattle.flash_model.specs.Plan.{Schedule, kind_answer}
-use Rattle.flash_model.specs.Stored.{programmed, erased_to}
+use Rattle.flash_model.specs.Stored.{programmed, erased_to, ErasesPages}
 use Rattle.flash_model.specs.Simulation.{LeavesBeside, device_of}
 
 befallen_program : (kind : FaultKind) (was : Page) (bytes : List ℕ) → AfterProgram was bytes (programmed (Some kind) was bytes) (Err (kind_answer kind))
@@ -122,11 +122,6 @@ program_done old mid new p b bytes due result block begins ends answer others ow
       page = subst (λ now. AfterProgram (old.pages p) bytes now result) (sym (ap (λ f. f p) pages ∙ own)) (after_program due (old.pages p) bytes result answer);
       worn = subst (λ c. Wears old new c result) block (wears old mid new b result (ap (λ (d : Device). d.worn) begins.rest) ends.worn);
     }
-
--- the pages of a block, changed by what befalls the erase
-pub record ErasesPages (old : ℕ → Page) (count b : ℕ) (due : Option FaultKind) (new : ℕ → Page) : Type 0 where
-  pub others : (p : ℕ) → p / count ≢ b → new p ≡ old p
-  pub own : (p : ℕ) → p / count ≡ b → new p ≡ erased_to due (p % count) (old p)
 
 -- an erase that begins, changes the pages of its block by what befalls it and ends
 pub erase_done : (old mid new : Device) (b : ℕ) (due : Option FaultKind) (result : Result (Unit {0}) DevFault)

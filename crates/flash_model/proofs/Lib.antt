@@ -1,3 +1,4 @@
 pub mod Filtered
+pub mod Filling
 pub mod Erasing
 pub mod Ending

@@ -3,6 +3,7 @@ pub mod Device
 pub mod Blocks
 pub mod Plan
 pub mod Stored
+pub mod StoredLaws
 pub mod Simulation
 pub mod WholePages
 pub mod Later

@@ -14,7 +14,7 @@ use Rattle.flash_model.specs.Plan.{Schedule, kind_due, begun, kind_answer, count
 abbrev pub device_of : SimFlash → Device
 device_of flash = record {
   geometry = flash.geometry;
-  pages = page_at flash.pages.items;
+  pages = page_at flash.pages;
   powered = flash.powered;
   worn = λ block. slice_index_or flash.worn.items block false;
   failed_reads = flash.failed_reads.n;

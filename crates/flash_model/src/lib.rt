@@ -4,14 +4,15 @@
 mod fault_kind;
 mod flash;
 mod geometry;
+mod page_view;
 mod plan;
 mod planned;
 mod sim_flash;
-mod sim_page;
+mod sim_pages;
 
 pub use fault_kind::{Counters, FaultKind, Operation, PlannedFault};
 pub use flash::{DevFault, Flash, PageState};
 pub use geometry::Geometry;
+pub use page_view::PageView;
 pub use planned::Planned;
 pub use sim_flash::SimFlash;
-pub use sim_page::PageView;

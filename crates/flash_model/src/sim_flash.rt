@@ -1,18 +1,17 @@
 //! A flash in memory that fails as planned.
 ghost use Rattle.std.specs.Prelude.{◌≡◌, ◌*◌, ◌<◌, vec_len};
 ghost use Rattle.flash_model.specs.Geometry.{IsGeometry};
-ghost use Rattle.flash_model.specs.Stored.{HaveRoom};
 
 mod contents;
 
 use crate::fault_kind::{Counters, FaultKind, Operation, PlannedFault};
 use crate::flash::{DevFault, Flash, PageState};
 use crate::geometry::Geometry;
+use crate::page_view::PageView;
 use crate::plan::Plan;
 use crate::planned::Planned;
-use crate::sim_page::{
-    PageView, SimPage, erase_block, erased_pages, program_page, read_page, wear,
-};
+use crate::sim_pages::SimPages;
+use contents::put_wear;
 use counts::Count;
 use fs_types::Fault;
 use std::alloc::Global;
@@ -26,7 +25,7 @@ use std::alloc::Global;
 #[derive(Drop)]
 pub struct SimFlash {
     geometry: Geometry,
-    pages: Vec<SimPage>,
+    pages: SimPages,
     worn: Vec<bool>,
     powered: bool,
     plan: Plan,
@@ -35,9 +34,9 @@ pub struct SimFlash {
     cuts: Count,
     operations: Count,
     ghost lawful: { IsGeometry geometry },
-    ghost all_pages: { vec_len pages ≡ geometry.blocks * geometry.pages },
+    ghost all_pages: { vec_len pages.states ≡ geometry.blocks * geometry.pages },
+    ghost whole_pages: { pages.size ≡ geometry.page },
     ghost all_blocks: { vec_len worn ≡ geometry.blocks },
-    ghost room: { HaveRoom pages.items geometry.page },
 }
 
 impl SimFlash {
@@ -64,7 +63,7 @@ impl SimFlash {
         if !geometry.is_lawful() {
             return Err(Fault::BadGeometry);
         }
-        let pages = erased_pages(alloc, geometry.page_count(), geometry.page as usize)?;
+        let pages = SimPages::new(alloc, geometry.page_count(), geometry.page as usize)?;
         let worn = vec![in alloc; false; geometry.blocks as usize]?;
         Ok(SimFlash {
             geometry,
@@ -85,7 +84,7 @@ impl SimFlash {
         requires { number < page_count (device_of self.now).geometry }
         ensures { shown_page result ≡ (device_of self.now).pages number }
     {
-        self.pages[number as usize].view()
+        self.pages.view(number as usize)
     }
 
     /// Whether the block is worn: a program or an erase in it failed.
@@ -142,7 +141,7 @@ impl SimFlash {
         match due.map(FaultKind::answer) {
             None => Ok(()),
             Some(DevFault::Failed) => {
-                wear(&mut self.worn, block as usize);
+                put_wear(&mut self.worn, block as usize, true);
                 self.failures = self.failures.more();
                 Err(DevFault::Failed)
             }
@@ -181,7 +180,7 @@ impl Flash for SimFlash {
         ensures counts { counts_of self.new ≡ counts_after self.old Operation.Read }
     {
         match self.begin(Operation::Read)?.map(FaultKind::answer) {
-            None => Ok(read_page(&self.pages, page as usize, buffer)),
+            None => Ok(self.pages.read(page as usize, buffer)),
             Some(DevFault::Failed) => {
                 self.failed_reads = self.failed_reads.more();
                 Err(DevFault::Failed)
@@ -209,7 +208,7 @@ impl Flash for SimFlash {
         ensures counts { counts_of self.new ≡ counts_after self.old Operation.Program }
     {
         let due = self.begin(Operation::Program)?;
-        program_page(&mut self.pages, page as usize, bytes, due);
+        self.pages.program(page as usize, bytes, due);
         self.end(page / self.geometry.pages, due)
     }
 
@@ -224,12 +223,8 @@ impl Flash for SimFlash {
         ensures counts { counts_of self.new ≡ counts_after self.old Operation.Erase }
     {
         let due = self.begin(Operation::Erase)?;
-        erase_block(
-            &mut self.pages,
-            block as usize,
-            self.geometry.pages as usize,
-            due,
-        );
+        self.pages
+            .erase_block(block as usize, self.geometry.pages as usize, due);
         self.end(block, due)
     }
 

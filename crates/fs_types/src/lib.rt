@@ -19,7 +19,7 @@ pub use fault::Fault;
 pub use limits::{
     ANCHORS, CHAIN_NODES, MAX_BAD_BLOCKS, MAX_CHECKPOINT_BYTES, MAX_CHECKPOINTS, MAX_ENTRIES,
     MAX_FILE_BYTES, MAX_NAME_BYTES, MAX_NAMES, MAX_OPEN_FILES, MAX_VERSIONS, MIN_VERSIONS,
-    NODE_ENTRIES,
+    NODE_ENTRIES, limit_laws,
 };
 pub use name::Name;
 pub use open_flags::OpenFlags;

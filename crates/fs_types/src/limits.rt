@@ -1,4 +1,5 @@
 //! How much there may be of names, paths, directories, files, versions and open files.
+ghost use Rattle.std.specs.Prelude.{◌≡◌};
 
 /// The blocks of the anchors, which are the first of a flash; the first data block is the next one.
 pub const ANCHORS: u32 = 8;
@@ -38,3 +39,24 @@ pub const MAX_BAD_BLOCKS: usize = 256;
 
 /// The most open files.
 pub const MAX_OPEN_FILES: usize = 16;
+
+/// Each limit as its number.
+pub fn limit_laws()
+    // Of names, paths and directories.
+    ensures names { MAX_NAME_BYTES ≡ 64 }
+    ensures paths { MAX_NAMES ≡ 16 }
+    ensures nodes { (NODE_ENTRIES ≡ 32) × (CHAIN_NODES ≡ 32) }
+    ensures entries { MAX_ENTRIES ≡ 1024 }
+
+    // Of files.
+    ensures files { MAX_FILE_BYTES ≡ 16777216 }
+    ensures open_files { MAX_OPEN_FILES ≡ 16 }
+
+    // Of histories.
+    ensures versions { (MIN_VERSIONS ≡ 2) × (MAX_VERSIONS ≡ 128) }
+    ensures checkpoints { (MAX_CHECKPOINTS ≡ 16) × (MAX_CHECKPOINT_BYTES ≡ 31) }
+
+    // Of a flash.
+    ensures anchors { ANCHORS ≡ 8 }
+    ensures bad_blocks { MAX_BAD_BLOCKS ≡ 256 }
+{}

@@ -1,6 +1,6 @@
 //! The calls that are asked of what is mounted.
-use crate::numbers::Numbers;
 use fs_types::{Event, Fault};
+use image_makers::Numbers;
 use session_oracle::event_of;
 use std::alloc::{AllocError, Global};
 

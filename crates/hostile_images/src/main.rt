@@ -6,28 +6,16 @@
 //! image with which something else is met is told, and the status is 1.
 #![tactic(auto)]
 
-mod bad_lists;
-mod chains;
-mod contents;
-mod drafts;
 mod facts;
-mod halves;
-mod kinds;
 mod lines;
-mod low_bytes;
-mod nodes;
-mod numbers;
-mod records;
-mod shared;
 mod tallies;
 mod trials;
 mod watches;
 mod wrong;
 
 use anyhow::Result;
-use kinds::{KINDS, Kind};
+use image_makers::{KINDS, Kind, Numbers};
 use lines::draw_calls;
-use numbers::Numbers;
 use std::alloc::Global;
 use std::process::ExitCode;
 use tallies::{Tally, add};

@@ -9,10 +9,9 @@ use Rattle.flash_model.specs.declared.sim_flash.SimFlash.{SimFlash}
 use Rattle.flash_image.specs.Images.{IsFault}
 use Rattle.flash_image.specs.declared.image_fault.ImageFault.{ImageFault}
 use Rattle.mounting.specs.Formats.{FormatCause}
-use Rattle.shell.specs.Memory.{IsNewFlash}
-use Rattle.shell.specs.Scripts.{IsUnmounted}
-use Rattle.shell.specs.Tools.{IsDecoded, AreLawful}
-use Rattle.shell.specs.declared.scripts.ScriptFault.{ScriptFault}
+use Rattle.script_runs.specs.Flashes.{IsNewFlash, IsDecoded, AreLawful}
+use Rattle.script_runs.specs.Scripts.{IsUnmounted}
+use Rattle.script_runs.specs.declared.scripts.ScriptFault.{ScriptFault}
 use Rattle.image_buffer.specs.Faults.{buffer_fault_of_image, buffer_fault_of_system, buffer_fault_of_script}
 use Rattle.image_buffer.specs.Buffers.{MakeRefusal, FormatRefusal, DecodeRefusal, CheckRefusal, BufferPlays, PlayRefusal, RunRefusal}
 use Rattle.image_buffer.specs.declared.buffer_fault.BufferFault.{BufferFault}

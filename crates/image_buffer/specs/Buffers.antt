@@ -9,10 +9,9 @@ use Rattle.flash_image.specs.Images.{image_of, IsFault}
 use Rattle.mounting.specs.Formats.{FormatCause}
 use Rattle.system.specs.Mounts.{IsMountOf}
 use Rattle.system.specs.declared.systems.System.{System}
-use Rattle.shell.specs.Memory.{IsNewFlash}
-use Rattle.shell.specs.Scripts.{EndsOnSimFlash, IsUnmounted}
-use Rattle.shell.specs.Tools.{IsDecoded, IsMade}
-use Rattle.shell.specs.declared.scripts.ScriptFault.{ScriptFault}
+use Rattle.script_runs.specs.Flashes.{IsNewFlash, IsDecoded, IsMade}
+use Rattle.script_runs.specs.Scripts.{EndsOnSimFlash, IsUnmounted}
+use Rattle.script_runs.specs.declared.scripts.ScriptFault.{ScriptFault}
 use Rattle.image_buffer.specs.Faults.{buffer_fault_of_script}
 use Rattle.image_buffer.specs.declared.buffer_fault.BufferFault.{BufferFault}
 use Rattle.image_buffer.specs.declared.buffers.Played.{Played}

@@ -4,7 +4,7 @@ ghost use Rattle.image_buffer.specs.Faults.{image_number_of};
 
 use flash_image::ImageFault;
 use fs_types::Fault;
-use shell::ScriptFault;
+use script_runs::ScriptFault;
 use thiserror::Error;
 
 /// Why nothing was done with an image in a buffer. The buffers are as they were.

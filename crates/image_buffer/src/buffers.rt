@@ -3,7 +3,7 @@ ghost use Rattle.std.specs.Prelude.{◌≡◌, Ok, IfOk, IfErr};
 ghost use Rattle.flash_model.specs.Simulation.{device_of};
 ghost use Rattle.flash_model.specs.declared.sim_flash.SimFlash.{SimFlash};
 ghost use Rattle.flash_image.specs.Images.{image_of};
-ghost use Rattle.shell.specs.Tools.{IsDecoded, IsMade};
+ghost use Rattle.script_runs.specs.Flashes.{IsDecoded, IsMade};
 ghost use Rattle.image_buffer.specs.Buffers.{BufferFormatEnds, BufferCheckEnds, BufferRunEnds, MakeRefusal, DecodeRefusal, PlayRefusal, IsPlayed, buffers};
 ghost use Rattle.image_buffer.specs.declared.buffer_fault.BufferFault.{BufferFault};
 
@@ -11,7 +11,7 @@ use crate::buffer_fault::BufferFault;
 use crate::front::put_front;
 use flash_image::{decode, encode};
 use flash_model::{Geometry, SimFlash};
-use shell::run_script;
+use script_runs::run_script;
 use std::alloc::Global;
 use undofs::{format, mount};
 

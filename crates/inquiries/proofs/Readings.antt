@@ -2,7 +2,7 @@
 use Rattle.std.proofs.Common.{◌≡◌, ◌∙◌, ◌⊎◌, inl, inr, ◌≤◌, ℕ, Bool, true, false, Option, Some, None, Result, Ok, Err, refl, sym, ap, subst, arith}
 use Rattle.std.proofs.lemmas.Bool.{true≢false}
 use Rattle.std.proofs.lemmas.List.{take_all}
-use Rattle.std.specs.Prelude.{◌&&◌, if◌then◌else◌, IfOk, IfErr, List, length, map}
+use Rattle.std.specs.Prelude.{◌&&◌, if◌then◌else◌, IfOk, IfErr, List, length}
 use Rattle.std.specs.FinMap.{get}
 use Rattle.std.specs.Option.{option_or, option_map_or}
 use Rattle.fs_types.specs.Names.{Path}
@@ -13,21 +13,25 @@ use Rattle.fs_types.specs.declared.fault.Fault.{Fault}
 use Rattle.fs_types.specs.declared.fault.Fault.TheVariants.{NoEntry, IsDirectory, FlashFull, ReadOnly, Overflow, ReadFailed, PowerCut, NoMemory}
 use Rattle.fs_types.specs.declared.limits.TheConstants.{MAX_FILE_BYTES}
 use Rattle.plain_trees.specs.Contents.{Entry, is_dir, lookup_refusal, read_from}
-use Rattle.plain_trees.specs.Trees.{Tree, bytes_of_file, bytes_of, IsFileTree}
-use Rattle.history_machine.specs.History.{Past, view_refusal}
+use Rattle.plain_trees.specs.Trees.{bytes_of_file, bytes_of, IsFileTree}
+use Rattle.history_machine.specs.History.{view_refusal}
 use Rattle.history_machine.specs.Machine.{Machine, view_tree, refusal, machine_of, reply_of, log_of, is_accepted, changes_tree, change_need, need}
 use Rattle.flash_model.specs.Device.{Device}
-use Rattle.working_state.specs.Seen.{Seen, seen_on, machine_on}
-use Rattle.working_state.specs.Steps.{is_writing, is_sync, tells_space, replied, IsDone, MayRefuse}
+use Rattle.working_state.specs.Seen.{Seen, seen_on, machine_on, showing, Shown, shown_on}
+use Rattle.working_state.specs.Steps.{is_writing, is_sync, tells_space, replied, MayRefuse}
 use Rattle.working_state.proofs.Steps.{writes-version}
 use Rattle.system.specs.Steps.{TriesTwice, SystemAnswers, SystemStep}
 use Rattle.system.specs.Systems.{IsSystem}
 use Rattle.system.specs.declared.systems.System.{System}
 use Rattle.system.proofs.Retried.{never_full}
 use Rattle.undofs.proofs.Replies.{no_space, reply_is}
+use Rattle.undofs.proofs.RunLaws.{refused_keeps}
 use Rattle.flash_model.specs.declared.flash.Flash.{Ghosts}
+use Rattle.undofs.specs.Values.{log_reply}
 use Rattle.undofs.specs.declared.fs.Fs.{Fs}
+use Rattle.undofs.specs.declared.log.Log.{Log}
 use Rattle.inquiries.specs.Readings.{Meets, shown, IsUnchanged, Fails}
+use Rattle.inquiries.specs.Versions.{kept_serials, kept_names}
 use Rattle.inquiries.proofs.Entries.{view-file_tree}
 
 -- a call that changes nothing, and needs no node
@@ -54,17 +58,10 @@ file_reads view path offset count = record { still = λ m. refl; quiet = λ m. a
 pub log_reads : IsReading Call.Log
 log_reads = record { still = λ m. refl; quiet = λ m. and_false (is_accepted m Call.Log); unsynced = refl; untold = refl; needless = λ capacity m. refl }
 
-done_of : (twice : Type 0) (s : Seen) (m : Machine) (off : Bool) (call : Call) (reply : Reply) (t : Seen) (n : Machine) (off' : Bool) → SystemAnswers twice s m off call (Ok reply) t n off' → IsDone s m call reply t n
-done_of twice s m true call reply t n off' h = h.1
-done_of twice s m false call reply t n off' h = h.1
-
 -- the machine that it leaves
-same_of : (twice : Type 0) (s : Seen) (m : Machine) (off : Bool) (call : Call) (result : Result Reply Fault) (t : Seen) (n : Machine) (off' : Bool) → IsReading call → SystemAnswers twice s m off call result t n off' → n ≡ m
-same_of twice s m off call (Ok reply) t n off' is h =
-    let done = done_of twice s m off call reply t n off' h in
-    done.leaves ∙ ap (machine_of m call) done.accepted ∙ is.still m
-same_of twice s m true call (Err fault) t n off' is h = h.2
-same_of twice s m false call (Err fault) t n off' is h = h.1
+same_of : (twice : Type 0) (old : Shown) (call : Call) (result : Result Reply Fault) (new : Shown) → IsReading call → SystemAnswers twice old call result new → new.machine ≡ old.machine
+same_of twice old call (Ok reply) new is h = h.1.leaves ∙ ap (machine_of old.machine call) h.1.accepted ∙ is.still old.machine
+same_of twice old call (Err fault) new is h = refused_keeps twice old call fault new h
 
 -- it needs no node, whatever it changes
 no_need : (capacity : ℕ) (m : Machine) (call : Call) → IsReading call → need capacity m call ≡ 0
@@ -91,7 +88,7 @@ tried_once : (d e : Device) (m n : System) (call : Call) (result : Result Reply 
 tried_once d e m n call result is twice = never_full d twice.device m twice.system call (Err FlashFull) twice.first is.needless refl
 
 why_of : (d e : Device) (m n : System) (off off' : Bool) (call : Call) (fault : Fault) → IsReading call → (off ≡ true → d.powered ≡ false)
-    → SystemAnswers (TriesTwice d m call (Err fault) e n) (seen_on d m.state) (machine_on d m.state) off call (Err fault) (seen_on e n.state) (machine_on e n.state) off'
+    → SystemAnswers (TriesTwice d m call (Err fault) e n) (showing (seen_on d m.state) (machine_on d m.state) off) call (Err fault) (showing (seen_on e n.state) (machine_on e n.state) off')
     → (refusal (machine_on d m.state) call ≡ Some fault) ⊎ Meets d e fault
 why_of d e m n true off' call fault is dark h =
     inr (subst (Meets d e) (sym h.0) (ap (λ (s : Seen). s.powered) h.1 ∙ dark refl))
@@ -105,7 +102,7 @@ why_of d e m n false off' call fault is dark h = elim h.0 [
 
 module _ (d e : Device) (m n : System) (call : Call) (result : Result Reply Fault) (is : IsReading call) (step : SystemStep d m call result e n) where
   pub same_machine : machine_on e n.state ≡ machine_on d m.state
-  same_machine = same_of (TriesTwice d m call result e n) (seen_on d m.state) (machine_on d m.state) m.state.is_off call result (seen_on e n.state) (machine_on e n.state) n.state.is_off is step.answers
+  same_machine = same_of (TriesTwice d m call result e n) (shown_on d m.state) call result (shown_on e n.state) is step.answers
 
   pub more_failed : d.failed_reads ≤ e.failed_reads
   more_failed = step.later.failed_reads
@@ -113,8 +110,7 @@ module _ (d e : Device) (m n : System) (call : Call) (result : Result Reply Faul
   pub accepted_reply : (reply : Reply) → result ≡ Ok reply → (refusal (machine_on d m.state) call ≡ None) × (reply ≡ reply_of no_space (machine_on d m.state) call)
   accepted_reply reply was =
       let step' : SystemStep d m call (Ok reply) e n = subst (λ r. SystemStep d m call r e n) was step in
-      let done = done_of (TriesTwice d m call (Ok reply) e n) (seen_on d m.state) (machine_on d m.state) m.state.is_off call reply (seen_on e n.state) (machine_on e n.state) n.state.is_off step'.answers in
-      (done.accepted, reply_is d e m n call reply is.untold step')
+      (step'.answers.1.accepted, reply_is d e m n call reply is.untold step')
 
   pub why_refused : (fault : Fault) → IsSystem d m → result ≡ Err fault → (refusal (machine_on d m.state) call ≡ Some fault) ⊎ Meets d e fault
   why_refused fault s was =
@@ -137,21 +133,40 @@ module _ {T : Type 0} (f : T → Reply) (d e : Device) (m n : System) (call : Ca
 
 -- ---- the log
 
--- what it tells
-pub log_told : (d : Device) (m : System) (reply : Reply) → SystemStep d m Call.Log (Ok reply) d m → reply ≡ log_of (machine_on d m.state).history
-log_told d m reply step = (accepted_reply d d m m Call.Log (Ok reply) log_reads step reply refl).1
+module _ (d : Device) (m : System) (result : Result Log Fault) (step : SystemStep d m Call.Log (replied log_reply result) d m) where
+  -- what it tells
+  logged : IfOk result (λ log. log_reply log ≡ log_of (machine_on d m.state).history)
+  logged = told_of log_reply d d m m Call.Log log_reads result step
 
--- the parts of a log
-pub log_parts : (h : Past Tree) (next cursor : ℕ) (dropped : Bool) (serials : List ℕ) (names : List (List ℕ)) → Reply.Log next dropped serials cursor names ≡ log_of h
-    → (serials ≡ map (λ v. v.serial) h.versions) × (cursor ≡ h.cursor) × (names ≡ map (λ e. e.0) h.checkpoints)
-log_parts h next cursor dropped serials names is = (cc, cc, cc)
+  pub logged_versions : IfOk result (λ log. log.versions ≡ kept_serials (machine_on d m.state))
+  logged_versions = each result logged
+    where
+      each : (r : Result Log Fault) → IfOk r (λ log. log_reply log ≡ log_of (machine_on d m.state).history) → IfOk r (λ log. log.versions ≡ kept_serials (machine_on d m.state))
+      each (Ok log) is = cc
+      each (Err fault) is = tt
 
--- and by what it is refused
-pub log_met : (d : Device) (m : System) (fault : Fault) → IsSystem d m → SystemStep d m Call.Log (Err fault) d m → Meets d d fault
-log_met d m fault s step = elim (why_refused d d m m Call.Log (Err fault) log_reads step fault s refl) [
-  | inl own ↦ let wrong : None ≡ Some fault = own in absurd cc
-  | inr met ↦ met
-]
+  pub logged_cursor : IfOk result (λ log. log.cursor ≡ (machine_on d m.state).history.cursor)
+  logged_cursor = each result logged
+    where
+      each : (r : Result Log Fault) → IfOk r (λ log. log_reply log ≡ log_of (machine_on d m.state).history) → IfOk r (λ log. log.cursor ≡ (machine_on d m.state).history.cursor)
+      each (Ok log) is = cc
+      each (Err fault) is = tt
+
+  pub logged_checkpoints : IfOk result (λ log. log.checkpoints ≡ kept_names (machine_on d m.state))
+  logged_checkpoints = each result logged
+    where
+      each : (r : Result Log Fault) → IfOk r (λ log. log_reply log ≡ log_of (machine_on d m.state).history) → IfOk r (λ log. log.checkpoints ≡ kept_names (machine_on d m.state))
+      each (Ok log) is = cc
+      each (Err fault) is = tt
+
+  -- and by what it is refused
+  pub log_met : IsSystem d m → IfErr result (Meets d d)
+  log_met system = each result (refused_of log_reply d d m m Call.Log log_reads result system step)
+    where
+      each : (r : Result Log Fault) → IfErr r (λ fault. (refusal (machine_on d m.state) Call.Log ≡ Some fault) ⊎ Meets d d fault) → IfErr r (Meets d d)
+      each (Ok log) why = tt
+      each (Err fault) (inl own) = let wrong : None ≡ Some fault = own in absurd cc
+      each (Err fault) (inr met) = met
 
 -- ---- the bytes of a file
 
@@ -188,13 +203,14 @@ file_of d e m n view path (Err fault) s step = tt
 
 module _ {F : Type 0} {flash : Ghosts F} where
   pub unchanged-refl : (a : Fs F flash) → IsUnchanged a a
-  unchanged-refl a = record { machine = refl; pages = λ p. refl; failed_reads = omega arith }
+  unchanged-refl a = record { machine = refl; pages = λ p. refl; failed_reads = omega arith; same_flash = refl }
 
   pub unchanged-trans : (a b c : Fs F flash) → IsUnchanged a b → IsUnchanged b c → IsUnchanged a c
   unchanged-trans a b c first second = record {
     machine = second.machine ∙ first.machine;
     pages = λ p. second.pages p ∙ first.pages p;
     failed_reads = omega (arith, first.failed_reads, second.failed_reads);
+    same_flash = second.same_flash ∙ first.same_flash;
   }
 
   -- what was met in the second was met in both

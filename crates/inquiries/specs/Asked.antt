@@ -2,6 +2,7 @@
 use Rattle.std.specs.Prelude.{◌≡◌, ◌⊎◌, ℕ, Some, None, List}
 use Rattle.fs_types.specs.declared.fault.Fault.{Fault}
 use Rattle.flash_model.specs.Device.{Device}
+use Rattle.flash_model.specs.Reading.{OnlyReads}
 use Rattle.working_state.specs.Seen.{machine_on}
 use Rattle.system.specs.Mounts.{IsMountOf}
 use Rattle.system.specs.declared.systems.System.{System}
@@ -19,15 +20,15 @@ pub record Tells (d : Device) (inquiry : Inquiry) (bytes : List ℕ) : Type 0 wh
   pub accepted : inquiry_refusal (machine_on device system.state) inquiry ≡ None
   pub told : bytes ≡ told (machine_on device system.state) inquiry
 
--- it is mounted, and what is asked is refused: by the refusal that is its own, or by what the work met
-pub record RefusesInquiry (d : Device) (inquiry : Inquiry) (fault : Fault) : Type 0 where
+-- it is mounted, and what is asked is refused: by the refusal that is its own, or by what the work met on the flash as it is left
+pub record RefusesInquiry (d : Device) (inquiry : Inquiry) (left : Device) (fault : Fault) : Type 0 where
   pub device : Device
   pub system : System
-  pub left : Device
   pub mounted : IsMountOf d device system
+  pub reads : OnlyReads d device
   pub why : (inquiry_refusal (machine_on device system.state) inquiry ≡ Some fault) ⊎ Meets device left fault
 
--- why nothing is told: no system is mounted, or what is asked is refused
-abbrev pub AskCause : Device → Inquiry → AskFault → Type 0
-AskCause d inquiry (AskFault.Unmounted fault) = RefusesMount d fault
-AskCause d inquiry (AskFault.Refused fault) = RefusesInquiry d inquiry fault
+-- why nothing is told of a flash that is left so: no system is mounted, or what is asked is refused
+abbrev pub AskCause : Device → Inquiry → Device → AskFault → Type 0
+AskCause d inquiry left (AskFault.Unmounted fault) = RefusesMount d left fault
+AskCause d inquiry left (AskFault.Refused fault) = RefusesInquiry d inquiry left fault

@@ -5,6 +5,7 @@ use Rattle.history_machine.specs.Machine.{Machine}
 use Rattle.flash_model.specs.Device.{Device}
 use Rattle.flash_model.specs.declared.flash.Flash.{Ghosts}
 use Rattle.working_state.specs.Seen.{machine_on}
+use Rattle.undofs.specs.Systems.{flash_name}
 use Rattle.undofs.specs.declared.fs.Fs.{Fs}
 
 -- what the work on a flash may meet: a read failed; the power is off; memory was wanted
@@ -24,6 +25,7 @@ module _ {F : Type 0} {flash : Ghosts F} where
     pub machine : shown new ≡ shown old
     pub pages : (p : ℕ) → (flash.device new.flash.now).pages p ≡ (flash.device old.flash.now).pages p
     pub failed_reads : (flash.device old.flash.now).failed_reads ≤ (flash.device new.flash.now).failed_reads
+    pub same_flash : flash_name new ≡ flash_name old
 
   -- why a reading is refused: by the refusal that is its own, if it has one, or by what the work met
   abbrev pub Fails : Option Fault → Fs F flash → Fs F flash → Fault → Type 0

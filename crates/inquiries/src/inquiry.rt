@@ -2,6 +2,7 @@
 ghost use Rattle.std.specs.Prelude.{◌≡◌, None, IfOk, IfErr};
 ghost use Rattle.inquiries.specs.Inquiries.{inquiry_refusal, told};
 ghost use Rattle.inquiries.specs.Readings.{shown, IsUnchanged, Fails};
+ghost use Rattle.undofs.specs.Systems.{flash_name};
 
 use crate::differences::tell_differences;
 use crate::items::items_of;
@@ -46,6 +47,7 @@ pub enum Inquiry {
 /// [`Fault::ReadFailed`], [`Fault::PowerCut`] and [`Fault::NoMemory`] may come.
 pub fn tell<F: Flash>(alloc: Global, fs: &mut Fs<'_, F>, inquiry: &Inquiry) -> Result<Bytes, Fault>
     ensures same { IsUnchanged fs.old fs.new }
+    ensures same_flash { flash_name fs.new ≡ flash_name fs.old }
     ensures accepted { IfOk result (λ _. inquiry_refusal (shown fs.old) inquiry.now ≡ None) }
     ensures ok { IfOk result (λ bytes. bytes ≡ told (shown fs.old) inquiry.now) }
     ensures err { IfErr result (Fails (inquiry_refusal (shown fs.old) inquiry.now) fs.old fs.new) }

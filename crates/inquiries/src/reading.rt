@@ -10,9 +10,9 @@ ghost use Rattle.inquiries.specs.Readings.{shown, IsUnchanged, Fails, Meets};
 ghost use Rattle.inquiries.specs.Versions.{kept_serials, kept_names};
 
 use flash_model::Flash;
-use fs_types::{Bytes, CpName, Fault, MAX_FILE_BYTES, Name, Path, Reply, Sequence, Stat, View};
+use fs_types::{Bytes, Fault, MAX_FILE_BYTES, Name, Path, Sequence, Stat, View};
 use std::alloc::Global;
-use undofs::Fs;
+use undofs::{Fs, Log};
 
 /// So many bytes are asked for where all bytes of a file are: none has more.
 const ALL_BYTES: u64 = MAX_FILE_BYTES as u64;
@@ -55,36 +55,14 @@ pub(crate) fn check_view<F: Flash>(
     Ok(())
 }
 
-/// The trees that are kept: the serials of the versions, the oldest first, the place of the present
-/// one among them, and the names of the checkpoints in byte order.
-#[derive(Debug, Drop)]
-pub(crate) struct KeptTrees {
-    pub(crate) serials: Sequence<u64>,
-    pub(crate) cursor: u64,
-    pub(crate) checkpoints: Sequence<CpName>,
-}
-
 /// The trees that are kept.
-pub(crate) fn kept_trees<F: Flash>(alloc: Global, fs: &Fs<'_, F>) -> Result<KeptTrees, Fault>
-    ensures serials { IfOk result (λ kept. kept.serials ≡ kept_serials (shown fs.now)) }
+pub(crate) fn kept_trees<F: Flash>(alloc: Global, fs: &Fs<'_, F>) -> Result<Log, Fault>
+    ensures serials { IfOk result (λ kept. kept.versions ≡ kept_serials (shown fs.now)) }
     ensures cursor { IfOk result (λ kept. kept.cursor ≡ (shown fs.now).history.cursor) }
     ensures checkpoints { IfOk result (λ kept. kept.checkpoints ≡ kept_names (shown fs.now)) }
     ensures err { IfErr result (Meets (F.device fs.now.flash.now) (F.device fs.now.flash.now)) }
 {
-    match fs.log(alloc)? {
-        Reply::Log {
-            next: _,
-            dropped: _,
-            versions,
-            cursor,
-            checkpoints,
-        } => Ok(KeptTrees {
-            serials: versions,
-            cursor,
-            checkpoints,
-        }),
-        _ => unreachable!(),
-    }
+    fs.log(alloc)
 }
 
 /// All bytes of a file of a view.

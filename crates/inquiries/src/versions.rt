@@ -24,7 +24,7 @@ pub(crate) fn tell_versions<F: Flash>(alloc: Global, fs: &mut Fs<'_, F>) -> Resu
 {
     let kept = kept_trees(alloc, fs)?;
     let mut out = Vec::new(alloc);
-    add_versions(alloc, fs, kept.serials.as_slice(), kept.cursor, &mut out)?;
+    add_versions(alloc, fs, kept.versions.as_slice(), kept.cursor, &mut out)?;
     add_checkpoints(alloc, fs, kept.checkpoints.as_slice(), &mut out)?;
     Ok(Bytes::from_vec(out))
 }

@@ -257,7 +257,11 @@ const RECORDS: [Changed; 13] = [
 
 /// A flash with the record on an anchor, with other bytes at places, and a root that each format has: an
 /// empty directory that stands alone.
-fn record_with(alloc: Global, anchor: u32, changes: &[(usize, u8)]) -> Result<SimFlash, Fault> {
+pub(crate) fn record_with(
+    alloc: Global,
+    anchor: u32,
+    changes: &[(usize, u8)],
+) -> Result<SimFlash, Fault> {
     let mut record = FRESH;
     for (place, byte) in changes {
         if let Some(changed) = record.get_mut(*place) {

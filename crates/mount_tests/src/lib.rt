@@ -18,4 +18,6 @@ mod reclaiming;
 #[cfg(test)]
 mod records;
 #[cfg(test)]
+mod refusals;
+#[cfg(test)]
 mod verifications;

@@ -1,12 +1,12 @@
 //! File systems that are made on a flash and mounted, and what of them is mounted again.
 use bitflags::Flags;
 use flash_model::{FaultKind, Flash, Geometry, PageView, PlannedFault, SimFlash};
-use fs_types::{CpName, Fault, OpenFlags, Path, Reply, View};
-use shell::run_script;
+use fs_types::{CpName, Fault, OpenFlags, Path, View};
+use script_runs::run_script;
 use std::alloc::Global;
 use std::test::Fail;
 use system::{mount, mount_with};
-use undofs::{Fs, format};
+use undofs::{Descriptor, Fs, Space, format};
 
 const SIZES: Geometry = Geometry {
     page: 256,
@@ -76,30 +76,17 @@ fn a_format_passes_blocks_that_fail(rt: HostRuntime) -> Result<(), Fail> {
     Ok(())
 }
 
-/// What `df` tells: data blocks, bad ones, free ones, and anchors that work.
-fn numbers_of(answer: Result<Reply, Fault>) -> Result<[u64; 4], Fault> {
-    match answer? {
-        Reply::Df {
-            blocks,
-            bad,
-            free,
-            anchors,
-        } => Ok([blocks, bad, free, anchors]),
-        _ => Err(Fault::Damaged),
-    }
-}
-
 /// What `fsync` answers of the descriptor of an open file, of one that is closed, and of another.
 fn fsyncs_of(
     alloc: Global,
     system: &mut Fs<'_, SimFlash>,
 ) -> Result<[Result<(), Fault>; 3], Fault> {
     let path = Path::parse(alloc, b"/f")?;
-    let descriptor = system.open(alloc, &path, OpenFlags::from_bits_retain(6))? as u64;
+    let descriptor = system.open(alloc, &path, OpenFlags::from_bits_retain(6))?;
     let open = system.fsync(alloc, descriptor);
     system.close(descriptor)?;
     let closed = system.fsync(alloc, descriptor);
-    Ok([open, closed, system.fsync(alloc, 16)])
+    Ok([open, closed, system.fsync(alloc, Descriptor { number: 16 })])
 }
 
 /// Makes a directory and a checkpoint, and syncs; a second directory is made after that.
@@ -111,10 +98,10 @@ fn make_both(alloc: Global, system: &mut Fs<'_, SimFlash>) -> Result<(), Fault> 
 }
 
 /// What is free on a new system, and what `fsync` answers there, before two directories are made.
-type Answers = ([u64; 4], [Result<(), Fault>; 3]);
+type Answers = (Space, [Result<(), Fault>; 3]);
 
 fn answers_of(alloc: Global, system: &mut Fs<'_, SimFlash>) -> Result<Answers, Fault> {
-    let space = numbers_of(system.df(alloc))?;
+    let space = system.df(alloc)?;
     let fsyncs = fsyncs_of(alloc, system)?;
     make_both(alloc, system)?;
     Ok((space, fsyncs))
@@ -143,10 +130,16 @@ fn mounted(alloc: Global, flash: &mut SimFlash) -> Result<(u64, usize, u32, [boo
 #[test]
 fn what_was_synced_is_mounted(rt: HostRuntime) -> Result<(), Fail> {
     let mut flash = formatted(rt.alloc(), SIZES, 8)?;
+    let space = Space {
+        blocks: 24,
+        bad: 0,
+        free: 23,
+        anchors: 8,
+    };
     let bad = Err(Fault::BadDescriptor);
     assert_eq!(rt;
         answers(rt.alloc(), &mut flash),
-        Ok(([24, 0, 23, 8], [Ok(()), bad, bad]))
+        Ok((space, [Ok(()), bad, bad]))
     );
     assert_eq!(rt;
         mounted(rt.alloc(), &mut flash),

@@ -40,7 +40,7 @@ use Rattle.mounting.specs.Contents.{record_of}
 use Rattle.mounting.specs.Costs.{record_pages, AsksToClear, AsksForRecord, AsksToFormat, AsksToFormatAtMost}
 use Rattle.mounting.specs.Records.{history_of, roots_of}
 use Rattle.mounting.specs.Saved.{record_in, saved_on}
-use Rattle.mounting.specs.Formats.{IsFormatted, HaveFailed, ListsFailed, AreCleared, IsNumbered, FormatCause, ClearCause, full_for, FirstRootCause, FirstRecordCause}
+use Rattle.mounting.specs.Formats.{BeginsOnLowest, IsFirstRoot, IsFormatted, HaveFailed, ListsFailed, AreCleared, IsNumbered, FormatCause, ClearCause, full_for, FirstRootCause, FirstRecordCause}
 use Rattle.mounting.proofs.PlainRoots.{not_plain}
 use Rattle.mounting.proofs.SameNodes.{HasSameData, same_nodes, same_tree}
 
@@ -189,8 +189,8 @@ module _ (d : Device) (was : Bad) (limit : ℕ) (e : Device) (s : State) (begun 
     first = λ c low before. only.stays_bad c (first.first c low before);
   }
 
-  formatted : (sequence : ℕ) → IsCommitted f.pages (record_of e.geometry s.history s.storage.ring.last) sequence bad → is_read_only bad ≡ false → IsFormatted limit f
-  formatted sequence committed writable = on (committed_is_newest f (record_of e.geometry s.history s.storage.ring.last) sequence bad only.geometry committed)
+  formatted : (sequence : ℕ) → IsCommitted f.pages (record_of e.geometry s.history s.storage.ring.last) sequence bad → is_read_only bad ≡ false → BeginsOnLowest f bad → IsFormatted limit f
+  formatted sequence committed writable placed = on (committed_is_newest f (record_of e.geometry s.history s.storage.ring.last) sequence bad only.geometry committed)
     where
       on : (list : List ℕ) × IsStrictlyIncreasing list × (set.from_list list ≡ bad) × (committed_on f ≡ Some (Ok (committed_record e s sequence list))) → IsFormatted limit f
       on (list, ascends, listed, newest) =
@@ -206,18 +206,22 @@ module _ (d : Device) (was : Bad) (limit : ℕ) (e : Device) (s : State) (begun 
                   subst (IsRoot (block_bytes f.geometry - body_header) (node_of f)) (sym is) rooted,
               not_plain (committed_record e s sequence list) refl,
             );
-            root_block = λ root has.
+            first_root = λ root has.
                 let is : root ≡ begun.root = only_root begun.root root (subst (λ (h : Past ℕ). Contains (roots_of h) root) same has) in
-                subst (IsFirstGood (set.from_list list)) (sym is) (subst (λ (b : Bad). IsFirstGood b begun.root) (sym listed) first_good);
-            last = λ root has.
-                let is : root ≡ begun.root = only_root begun.root root (subst (λ (h : Past ℕ). Contains (roots_of h) root) same has) in
-                begun.last ∙ sym is;
+                subst (IsFirstRoot f (committed_record e s sequence list)) (sym is) (record {
+                  node = ap (λ (x : Blocks). x begun.root) nodes ∙ begun.node;
+                  block = subst (λ (b : Bad). IsFirstGood b begun.root) (sym listed) first_good;
+                  last = begun.last;
+                });
             writable = ap is_read_only listed ∙ writable;
+            place = subst (BeginsOnLowest f) (sym listed) placed;
+            format = refl;
           }
 
-  pub all_formatted : (sequence : ℕ) (result : Result (Unit {0}) Fault) → OnOk result (IsCommitted f.pages (record_of e.geometry s.history s.storage.ring.last) sequence bad) → OnOk result (is_read_only bad ≡ false) → OnOk result (IsFormatted limit f)
-  all_formatted sequence (Ok done) committed writable = formatted sequence committed writable
-  all_formatted sequence (Err fault) committed writable = tt
+  pub all_formatted : (sequence : ℕ) (result : Result (Unit {0}) Fault) → OnOk result (IsCommitted f.pages (record_of e.geometry s.history s.storage.ring.last) sequence bad) → OnOk result (is_read_only bad ≡ false) → OnOk result (BeginsOnLowest f bad)
+      → OnOk result (IsFormatted limit f)
+  all_formatted sequence (Ok done) committed writable placed = formatted sequence committed writable placed
+  all_formatted sequence (Err fault) committed writable placed = tt
 
 -- ---- the list of the record, and its sequence
 

@@ -1,4 +1,5 @@
 pub mod Asking
+pub mod FirstPlaces
 pub mod Formatting
 pub mod Installed
 pub mod LawfulContents

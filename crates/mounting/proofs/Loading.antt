@@ -1,5 +1,5 @@
 -- What a mount has found: the working state that it makes of a record, and why it makes none.
-use Rattle.std.proofs.Common.{◌≡◌, ◌≢◌, replicate, inl, inr, ℕ, zero, suc, ◌-◌, ◌/◌, ◌<◌, Bool, true, false, ◌||◌, Option, Some, None, Result, Err, List, [], ◌∷◌, ◌++◌, length, map, refl, sym, ap, subst, ◌∙◌, arith}
+use Rattle.std.proofs.Common.{◌≡◌, ◌≢◌, replicate, inl, inr, ℕ, zero, suc, ◌-◌, ◌<◌, Bool, true, false, ◌||◌, Option, Some, None, Result, Err, List, [], ◌∷◌, ◌++◌, length, map, refl, sym, ap, subst, ◌∙◌, arith}
 use Rattle.std.proofs.lemmas.Bool.{true≢false}
 use Rattle.std.proofs.lemmas.List.Elements.{All-map, Contains-append_left, Contains-append_right}
 use Rattle.std.proofs.lemmas.Cmp.{nat_cmp_total}
@@ -12,7 +12,6 @@ use Rattle.fs_types.specs.Names.{Name, name_cmp}
 use Rattle.fs_types.specs.declared.call.Group.{Group}
 use Rattle.fs_types.specs.declared.call.Version.{Version}
 use Rattle.fs_types.specs.declared.fault.Fault.{Fault}
-use Rattle.fs_types.specs.declared.fault.Fault.TheVariants.{Damaged, ReadFailed, PowerCut, NoMemory}
 use Rattle.history_machine.specs.Descriptors.{Descriptor, Descriptors, none_open, descriptor_at}
 use Rattle.history_machine.specs.History.{Past, IsLawful, map_roots, map_group}
 use Rattle.history_machine.specs.HistoryMaps.{lawful-map}
@@ -27,9 +26,6 @@ use Rattle.node_format.specs.Headers.{body_header}
 use Rattle.node_store.specs.Fitting.{Fits}
 use Rattle.node_store.specs.NodePages.{node_of}
 use Rattle.node_store.specs.ReadingLaws.{OnlyReads_nodes}
-use Rattle.node_store.specs.Faults.{IsReadFault}
-use Rattle.node_store.specs.declared.store.Store.{Store}
-use Rattle.node_store.specs.Stores.{Causes}
 use Rattle.block_trees.specs.Bodies.{Blocks}
 use Rattle.block_trees.specs.Reached.{Reached, IsFirst, IsNamed}
 use Rattle.block_trees.specs.Trees.{IsRoot}
@@ -42,15 +38,6 @@ use Rattle.working_state.specs.Mounted.{IsStanding, IsMounted}
 use Rattle.working_state.specs.Roots.{HasRoot}
 use Rattle.working_state.specs.declared.state.State.{State}
 use Rattle.mounting.specs.Records.{history_of, roots_of, knows_plain_only, HaveTrees, HasTrees, IsLoaded, RootsCause}
-
-pub roots_why : {F : Type 0} (device : F → Device) (s t : Store F) (plain : Bool) (roots : List ℕ) (fault : Fault) → IsReadFault fault
-    → (fault ≡ Damaged → HaveTrees plain (device s.flash.now) roots → ⊥) → (fault ≢ Damaged → Causes device s t fault)
-    → RootsCause plain (device s.flash.now) roots (device t.flash.now) fault
-roots_why device s t plain roots Damaged is damaged why = damaged refl
-roots_why device s t plain roots ReadFailed is damaged why = (why (λ e. cc)).reason
-roots_why device s t plain roots PowerCut is damaged why = (why (λ e. cc)).reason
-roots_why device s t plain roots NoMemory is damaged why = tt
-roots_why device s t plain roots _ is damaged why = absurd (true≢false (sym is))
 
 -- with no note exactly the marked blocks are used
 pub installed : (marks note used : set.FinSet nat_cmp) (f : Blocks) (roots : List ℕ) → note ≡ set.empty → used ≡ set.union marks note

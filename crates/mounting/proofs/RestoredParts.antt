@@ -18,7 +18,7 @@ use Rattle.fs_types.specs.declared.call.Version.{Version}
 use Rattle.history.specs.Kept.{IsKept}
 use Rattle.record_format.specs.declared.record.Checkpoint.{Checkpoint}
 use Rattle.record_format.specs.declared.record.Record.{Record}
-use Rattle.record_format.specs.Payloads.{is_record, has_counts, has_versions, has_checkpoints, serials_ascend, names_ascend}
+use Rattle.record_format.specs.Payloads.{is_record, has_counts, has_versions, serials_ascend, names_ascend}
 use Rattle.record_format.proofs.LawfulRecords.{both_true, counts_of, serials_below}
 use Rattle.mounting.specs.Records.{history_of, roots_of}
 
@@ -45,12 +45,6 @@ all_below next [] h = All-nil _
 all_below next (v ∷ vs) h =
     let parts = both_true (nat_lt v.serial next) (list_all (λ (version : Version ℕ). nat_lt version.serial next) vs) h in
     All-cons (λ (w : Version ℕ). w.serial < next) v vs (ltb-true _ _ parts.0) (all_below next vs parts.1)
-
-pub names_of_record : (r : Record) → is_record r ≡ true → names_ascend [] r.checkpoints ≡ true
-names_of_record r lawful =
-    let rest = (both_true (has_counts r) _ lawful).1 in
-    let others = (both_true (has_versions r) _ rest).1 in
-    (both_true (has_checkpoints r) _ others).0
 
 -- the history that a lawful record holds
 pub kept_history : (r : Record) (checkpoints : List (Name × ℕ)) → is_record r ≡ true → checkpoints ≡ map (λ (c : Checkpoint). (c.name, c.root)) r.checkpoints

@@ -1,5 +1,6 @@
 -- What a format leaves of a flash, and why it is refused.
-use Rattle.std.specs.Prelude.{◌≡◌, ◌⊎◌, ℕ, ◌+◌, ◌-◌, ◌^◌, ◌<◌, ◌≤◌, true, false, Some, Contains}
+use Rattle.std.specs.Prelude.{◌≡◌, ◌⊎◌, ℕ, ◌+◌, ◌-◌, ◌*◌, ◌^◌, ◌<◌, ◌≤◌, true, false, Some, [], Contains}
+use Rattle.std.specs.Option.{option_map}
 use Rattle.std.specs.FinSet as set
 use Rattle.std.specs.Ordering.{nat_cmp}
 use Rattle.history_machine.specs.History.{fresh}
@@ -11,24 +12,39 @@ use Rattle.flash_model.specs.Device.{Device}
 use Rattle.flash_model.specs.Geometry.{IsGeometry}
 use Rattle.allocator.specs.Ring.{IsDataBlock}
 use Rattle.bad_blocks.specs.Mode.{bad_anchors, is_read_only}
+use Rattle.record_format.specs.declared.formats.TheConstants.{FORMAT}
 use Rattle.record_format.specs.declared.record.Record.{Record}
 use Rattle.commit_pair.specs.Anchored.{OnlyAnchors, Fades, AreErased}
-use Rattle.commit_pair.specs.Parts.{greatest_on}
+use Rattle.commit_pair.specs.Committing.{IsLowest}
+use Rattle.commit_pair.specs.Parts.{parts_on, newest_at, greatest_on}
+use Rattle.node_format.specs.Links.{chain_bytes}
+use Rattle.node_store.specs.NodePages.{node_of}
 use Rattle.working_state.specs.Fresh.{IsFirstGood, HasGrown, GrowsByData}
 use Rattle.mounting.specs.Records.{history_of, roots_of, trees_of, HasTrees}
 use Rattle.mounting.specs.Saved.{saved_on}
 
--- the newest record holds one version, of serial 1, with an empty root, of at most `limit` kept ones, and no checkpoint. The
--- root is in the first data block that the record does not list as bad, and that is the block that was taken last. Read-only mode
--- is off: two anchors work at least
+-- the newest record begins on the first page of the lowest anchor that is not in this list of bad blocks
+abbrev pub BeginsOnLowest : Device → set.FinSet nat_cmp → Type 0
+BeginsOnLowest d bad = (anchor : ℕ) × IsLowest bad anchor × (option_map (λ found. found.page) (newest_at d.geometry (parts_on d.geometry d.pages)) ≡ Some (anchor * d.geometry.pages))
+
+-- the root of a new system is one node of a chain, without entries, in the first data block that the record does not list as
+-- bad, and that is the block that was taken last
+pub record IsFirstRoot (d : Device) (newest : Record) (root : ℕ) : Type 0 where
+  pub node : node_of d root ≡ Some (chain_bytes 0 [])
+  pub block : IsFirstGood (set.from_list newest.bad) root
+  pub last : newest.last ≡ root
+
+-- the newest record, of the format that is written, holds one version, of serial 1, with an empty root, of at most `limit` kept
+-- ones, and no checkpoint. Read-only mode is off: two anchors work at least
 pub record IsFormatted (limit : ℕ) (d : Device) : Type 0 where
   pub lawful : IsGeometry d.geometry
   pub newest : Record
   pub saved : saved_on d ≡ Some newest
+  pub place : BeginsOnLowest d (set.from_list newest.bad)
+  pub format : newest.format ≡ FORMAT
   pub history : trees_of d newest ≡ fresh limit bare
   pub trees : HasTrees d newest
-  pub root_block : (root : ℕ) → Contains (roots_of (history_of newest)) root → IsFirstGood (set.from_list newest.bad) root
-  pub last : (root : ℕ) → Contains (roots_of (history_of newest)) root → newest.last ≡ root
+  pub first_root : (root : ℕ) → Contains (roots_of (history_of newest)) root → IsFirstRoot d newest root
   pub writable : is_read_only (set.from_list newest.bad) ≡ false
 
 -- these are the blocks in which an operation failed since, each of which is worn

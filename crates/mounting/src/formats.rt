@@ -1,5 +1,5 @@
 //! Making an empty file system on a flash.
-ghost use Rattle.std.specs.Prelude.{◌≡◌, ◌⊎◌, ◌↔◌, ℕ, ◌+◌, ◌*◌, ◌<◌, ◌≤◌, true, false, Err, IfOk, IfErr, OnOk, IsTrue};
+ghost use Rattle.std.specs.Prelude.{◌≡◌, ◌⊎◌, ◌↔◌, ℕ, ◌+◌, ◌*◌, ◌<◌, ◌≤◌, true, false, None, Err, IfOk, IfErr, OnOk, IsTrue};
 ghost use Rattle.std.specs.FinSet as set;
 ghost use Rattle.fs_types.specs.declared.limits.TheConstants.{ANCHORS, MAX_VERSIONS, MIN_VERSIONS};
 ghost use Rattle.fs_types.specs.declared.fault.Fault.{Fault};
@@ -8,12 +8,13 @@ ghost use Rattle.bad_blocks.specs.Mode as modes;
 ghost use Rattle.commit_pair.specs.Parts.{greatest_on};
 ghost use Rattle.commit_pair.specs.Anchored.{OnlyAnchors};
 ghost use Rattle.commit_pair.specs.Committing.{IsCommitted};
+ghost use Rattle.commit_pair.specs.Newest.{remembered};
 ghost use Rattle.commit_pair.specs.Remembering.{MayCommit};
 ghost use Rattle.working_state.specs.Fresh.{IsBegun, AsksForRoot};
 ghost use Rattle.working_state.specs.Moments.{moment};
 ghost use Rattle.mounting.specs.Contents as contents;
 ghost use Rattle.mounting.specs.Costs.{AsksToClear, AsksForRecord, AsksToFormat, AsksToFormatAtMost};
-ghost use Rattle.mounting.specs.Formats.{IsFormatted, ListsFailed, AreCleared, IsNumbered, FormatCause, ModeCause, ClearCause, full_for, FirstRootCause, FirstRecordCause};
+ghost use Rattle.mounting.specs.Formats.{BeginsOnLowest, IsFormatted, ListsFailed, AreCleared, IsNumbered, FormatCause, ModeCause, ClearCause, full_for, FirstRootCause, FirstRecordCause};
 
 use crate::contents::record_of;
 use bad_blocks::{BadBlocks, bad_anchors};
@@ -104,6 +105,7 @@ fn clear_anchors<F: Flash>(flash: &mut F, anchors: &mut Anchors) -> Result<BadBl
     ensures few { IfOk result (λ bad. modes.bad_anchors bad < 7) }
     ensures asks { AsksToClear (F.device flash.old) (F.device flash.new) }
     ensures ready { IfOk result (λ bad. MayCommit (F.device flash.new) bad anchors.new) }
+    ensures none { remembered anchors.new ≡ None }
     ensures why { IfErr result (λ fault. ClearCause (F.device flash.old) fault (F.device flash.new)) }
 {
     let mut bad = BadBlocks::new();
@@ -156,11 +158,13 @@ fn commit_first<F: Flash>(
     requires ring_blocks { state.old.storage.ring.blocks ≡ (F.device flash.old).geometry.blocks }
     requires listed { (b : ℕ) → set.contains state.old.storage.bad b ≡ true → (b < ANCHORS) ⊎ (set.contains state.old.storage.ring.used b ≡ true) }
     requires ready { MayCommit (F.device flash.old) state.old.storage.bad anchors.old }
+    requires none { remembered anchors.old ≡ None }
 
     // The record.
     ensures committed { OnOk result (IsCommitted (F.device flash.new).pages
         (contents.record_of (F.device flash.old).geometry state.old.history state.old.storage.ring.last)
         (greatest_on (F.device flash.old).geometry (F.device flash.old).pages + 1) state.new.storage.bad) }
+    ensures placed { OnOk result (BeginsOnLowest (F.device flash.new) state.new.storage.bad) }
     ensures only_anchors { OnlyAnchors (F.device flash.old) state.old.storage.bad (F.device flash.new) state.new.storage.bad }
     ensures writable { OnOk result (modes.is_read_only state.new.storage.bad ≡ false) }
 

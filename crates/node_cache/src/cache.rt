@@ -36,6 +36,7 @@ impl NodeCache {
     pub fn new(alloc: Global, room: usize) -> Result<NodeCache, Fault>
         ensures ok { IfOk result (λ c. c ≡ record { entries = []; room = room }) }
         ensures room { (result ≡ Err Fault.Invalid) ↔ ((room < 1) ⊎ (MAX_CACHED_NODES < room)) }
+        ensures most { MAX_CACHED_NODES ≡ 64 }
         ensures err { IfErr result (λ fault. fault ≢ Fault.Invalid → fault ≡ Fault.NoMemory) }
     {
         if MAX_CACHED_NODES < room {

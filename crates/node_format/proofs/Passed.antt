@@ -129,15 +129,6 @@ split_beyond items count bytes name done rest item after front lt read beyond so
       after = ap (list_all (λ other. is_before name other.name)) s.first ∙ and_true _ _ first (all_after name item.name others first late);
     }
 
-pub split_none : (items : List Item) (count : ℕ) (bytes : List ℕ) (name : Name) (done : ℕ) (rest : List ℕ) → count ≡ done
-    → (so_far : IsPassed items count bytes name done rest) → IsSplit items name items None (items_at 0 rest) × AreSpelled 0 rest (items_at 0 rest)
-unfolding items_at
-split_none items count bytes name done rest same so_far =
-    let nothing : count - done ≡ 0 = omega arith in
-    let others : AreSpelled 0 rest (items_at 0 rest) = subst (λ (k : ℕ). AreSpelled k rest (items_at k rest)) nothing so_far.others in
-    let all : items ≡ so_far.passed = so_far.parts ∙ ap (λ (k : ℕ). so_far.passed ++ items_at k rest) nothing ∙ append-nil so_far.passed in
-    (record { parts = sym (append-nil items); before = ap (list_all (λ other. is_before other.name name)) all ∙ so_far.before; after = refl }, others)
-
 -- where entries are left, one can be read
 pub one_left : (items : List Item) (count : ℕ) (bytes : List ℕ) (name : Name) (done : ℕ) (rest : List ℕ) → done < count → None ≡ item_at rest → IsPassed items count bytes name done rest → ⊥
 one_left items count bytes name done rest lt none so_far =

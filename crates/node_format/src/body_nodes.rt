@@ -105,7 +105,7 @@ fn has_slot(index: u32, slot: usize) -> bool
 
 /// The first 16 bytes of the body node of an index with so many data bytes, with memory for all of it.
 fn header(alloc: Global, index: u32, used: u32) -> Result<Vec<u8>, AllocError>
-    ensures { IfOk result (λ v. v.items ≡ codes "UFNB" ++ (little_bytes 4 index ++ (little_bytes 4 used ++ little_bytes 4 0))) }
+    ensures spelled { IfOk result (λ v. v.items ≡ codes "UFNB" ++ (little_bytes 4 index ++ (little_bytes 4 used ++ little_bytes 4 0))) }
 {
     let mut out = Vec::with_capacity(alloc, HEADER + used as usize)?;
     out.extend_from_slice(&MAGIC)?;

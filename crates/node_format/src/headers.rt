@@ -25,6 +25,11 @@ const DIRECTORY_HEADER: u32 = 16;
 /// The most entries of a node of a directory.
 pub(crate) const MOST_ENTRIES: u32 = NODE_ENTRIES as u32;
 
+/// A body node has 16 slots.
+pub fn slot_law()
+    ensures { SLOTS ≡ 16 }
+{}
+
 /// The size in bytes of the node whose first bytes are given, or None where its header is not well
 /// formed. Only the first 16 bytes are looked at.
 pub fn node_size(block_bytes: u32, header: &[u8]) -> Option<u32>

@@ -14,7 +14,7 @@ pub use body_nodes::{BodyNode, body_node, body_room};
 pub use entries::{Entries, chain_node, empty_directory};
 pub use entry::Entry;
 pub use entry_list::EntryList;
-pub use headers::{BODY_HEADER, SLOTS, node_size};
+pub use headers::{BODY_HEADER, SLOTS, node_size, slot_law};
 pub use place::Place;
 pub use spelled::Spelled;
 pub use split::Split;

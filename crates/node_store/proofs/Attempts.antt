@@ -1,16 +1,13 @@
 -- Attempts to write a node, one after the other.
-use Rattle.std.proofs.Common.{◌≡◌, ℕ, ◌+◌, ◌*◌, ◌<◌, ◌≤◌, List, Err, length, sym, ap, subst, ◌∙◌, arith}
+use Rattle.std.proofs.Common.{◌≡◌, ℕ, ◌+◌, ◌*◌, ◌<◌, ◌≤◌, List, Err, length, sym, subst, arith}
 use Rattle.std.specs.FinSet as set
-use Rattle.std.proofs.lemmas.Bool.{both_ways}
 use Rattle.fs_types.specs.declared.limits.TheConstants.{MAX_BAD_BLOCKS}
 use Rattle.fs_types.specs.declared.fault.Fault.{Fault}
 use Rattle.fs_types.specs.declared.fault.Fault.TheVariants.{FlashFull, ReadOnly, PowerCut, NoMemory}
 use Rattle.flash_model.specs.declared.geometry.Geometry.{Geometry}
 use Rattle.node_store.specs.NodePages.{pages_for}
-use Rattle.node_store.specs.Fitting.{ListsNoneTried}
 use Rattle.node_store.specs.Storage.{Storage, Evolved, IsAdded, Adds, Tries, Pays, Spends}
 use Rattle.node_store.specs.StorageLaws.{Evolved_fresh}
-use Rattle.node_store.specs.declared.storage.Storage.{Storage as Kept}
 
 -- an attempt that is refused refuses the write
 pub refused_adds : (s m t : Storage) (bytes : List ℕ) (fault : Fault) → set.len m.bad < MAX_BAD_BLOCKS → Tries m bytes t (Err fault) → Adds s bytes t (Err fault)
@@ -29,14 +26,8 @@ added_on s m t bytes b evolved added = record {
   room = added.room;
 }
 
-pub Pays_itself : (s : Storage) → Pays s s 0
-Pays_itself s = omega arith
-
 pub Pays_on : (s m t : Storage) (takes : ℕ) → Pays s m 0 → Pays m t takes → Pays s t takes
 Pays_on s m t takes first next = omega arith
-
-pub Spends_itself : (s : Storage) (bytes : List ℕ) → Spends s s bytes
-Spends_itself s bytes = omega arith
 
 spent : (each a b c k l m : ℕ) → b + k * each ≤ a + l * each → c + l * each ≤ b + m * each → c + k * each ≤ a + m * each
 spent each a b c k l m first next = omega arith
@@ -49,6 +40,3 @@ Spends_on s m t bytes evolved first next =
 -- where the list has room it is not at its limit
 pub no_limit : {A : Type 0} → (n : ℕ) → n < MAX_BAD_BLOCKS → n ≡ MAX_BAD_BLOCKS → A
 no_limit n room full = absurd (omega arith)
-
-pub none_new : (s t : Kept) → t.ring.used ≡ s.ring.used → ListsNoneTried s t
-none_new s t same = λ b fresh used. absurd (both_ways (set.contains s.ring.used b) fresh (ap (λ blocks. set.contains blocks b) (sym same) ∙ used))

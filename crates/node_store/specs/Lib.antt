@@ -15,6 +15,7 @@ pub mod Fitting
 pub mod FittingLaws
 pub mod Storage
 pub mod StorageLaws
+pub mod NewNodes
 pub mod Stores
 pub mod StoreLaws
 pub mod NodeLaws

@@ -24,52 +24,50 @@ storage d bads r = record { device = d; bad = bads; ring = r }
 abbrev pub is_kept : Storage → ℕ → Bool
 is_kept s b = set.contains s.ring.used b
 
--- a take gives the next data block that is neither used nor bad, and leaves one free block less
-pub record IsTaken (old : Ring) (bad : set.FinSet nat_cmp) (b : ℕ) (new : Ring) : Type 0 where
-  pub last_block : IsDataBlock old.blocks old.last
-  pub next : IsNext (is_busy old bad) old.blocks old.last b
-  pub last : new.last ≡ b
-  pub only : new.used ≡ set.insert old.used b
-  pub data_block : IsDataBlock old.blocks b
-  pub fresh : set.contains old.used b ≡ false
-  pub good : set.contains bad b ≡ false
-  pub blocks : new.blocks ≡ old.blocks
-  pub used : set.contains new.used b ≡ true
-  pub kept : (c : ℕ) → set.contains old.used c ≡ true → set.contains new.used c ≡ true
-  pub noted : (c : ℕ) → set.contains new.used c ≡ true → set.contains old.used c ≡ false → set.contains new.note c ≡ true
-  pub note_stays : (c : ℕ) → set.contains old.note c ≡ true → set.contains new.note c ≡ true
-  pub takes : new.takes ≡ old.takes + 1
-  pub paid : free_count new bad + new.takes ≡ free_count old bad + old.takes
+-- the device has the same sizes; what is worn stays so, what happened is counted on, and power that is off changes nothing
+pub record DeviceGoesOn (old new : Device) : Type 0 where
+  pub geometry : new.geometry ≡ old.geometry
+  pub worn : (b : ℕ) → old.worn b ≡ true → new.worn b ≡ true
+  pub failed_reads : old.failed_reads ≤ new.failed_reads
+  pub cuts : old.cuts ≤ new.cuts
+  pub was_on : new.powered ≡ true → old.powered ≡ true
+  pub stays_off : old.powered ≡ false → new ≡ old
 
--- what calls lead to, whatever they answer
-pub record Evolved (s t : Storage) : Type 0 where
-  pub geometry : t.device.geometry ≡ s.device.geometry
-  pub blocks : t.ring.blocks ≡ s.ring.blocks
-  -- no page of a kept block or of an anchor changes
+-- pages change in those blocks alone that become kept: not in kept ones, in anchors, or in blocks that are not kept then
+pub record PagesFill (s t : Storage) : Type 0 where
   pub kept_pages : (p : ℕ) → is_kept s (block_of s.device p) ≡ true → t.device.pages p ≡ s.device.pages p
   pub anchor_pages : (p : ℕ) → block_of s.device p < ANCHORS → t.device.pages p ≡ s.device.pages p
-  -- nor any of a block that is not kept then
   pub free_pages : (p : ℕ) → is_kept t (block_of s.device p) ≡ false → t.device.pages p ≡ s.device.pages p
-  -- a block that became kept was filled in order, and unless it is bad or power went, it holds a node
+  -- such a block was filled in order, and unless it is bad or power went, it holds a node
   pub order : (b : ℕ) → is_kept t b ≡ true → is_kept s b ≡ false → IsFilledInOrder s.device b t.device
   pub filled : t.device.powered ≡ true → (b : ℕ) → is_kept t b ≡ true → is_kept s b ≡ false → set.contains t.bad b ≡ false → HoldsNode t.device b
+
+-- kept blocks stay kept, the note gains each one that becomes kept and loses none, and each take leaves one free block less
+pub record RingGoesOn (s t : Storage) : Type 0 where
+  pub blocks : t.ring.blocks ≡ s.ring.blocks
   pub kept : (b : ℕ) → is_kept s b ≡ true → is_kept t b ≡ true
-  -- the note gains each block that became kept, and loses none
   pub noted : (b : ℕ) → is_kept t b ≡ true → is_kept s b ≡ false → set.contains t.ring.note b ≡ true
   pub note_stays : (b : ℕ) → set.contains s.ring.note b ≡ true → set.contains t.ring.note b ≡ true
-  -- the bad list grows by exactly the failures, and by data blocks that are worn, which the ring has as used
+  pub taken : free_count t.ring t.bad + t.ring.takes ≡ free_count s.ring s.bad + s.ring.takes
+
+-- the bad list grows by exactly the failures, and by data blocks that are worn, which the ring has as used
+pub record BadListGrows (s t : Storage) : Type 0 where
   pub stays_bad : (b : ℕ) → set.contains s.bad b ≡ true → set.contains t.bad b ≡ true
   pub bad_used : (b : ℕ) → set.contains t.bad b ≡ true → set.contains s.bad b ≡ false → is_kept t b ≡ true
   pub bad_data : (b : ℕ) → set.contains t.bad b ≡ true → set.contains s.bad b ≡ false → IsDataBlock s.ring.blocks b
   pub bad_worn : (b : ℕ) → set.contains t.bad b ≡ true → set.contains s.bad b ≡ false → t.device.worn b ≡ true
-  pub worn : (b : ℕ) → s.device.worn b ≡ true → t.device.worn b ≡ true
   pub failures : t.device.failures + set.len s.bad ≡ s.device.failures + set.len t.bad
-  pub failed_reads : s.device.failed_reads ≤ t.device.failed_reads
-  pub cuts : s.device.cuts ≤ t.device.cuts
-  pub was_on : t.device.powered ≡ true → s.device.powered ≡ true
-  pub stays_off : s.device.powered ≡ false → t.device ≡ s.device
-  -- each take leaves one free block less
-  pub taken : free_count t.ring t.bad + t.ring.takes ≡ free_count s.ring s.bad + s.ring.takes
+
+-- what calls lead to, whatever they answer
+pub record Evolved (s t : Storage) : Type 0 where
+  pub device : DeviceGoesOn s.device t.device
+  pub open device use {geometry, worn, failed_reads, cuts, was_on, stays_off}
+  pub pages : PagesFill s t
+  pub open pages use {kept_pages, anchor_pages, free_pages, order, filled}
+  pub ring : RingGoesOn s t
+  pub open ring use {blocks, kept, noted, note_stays, taken}
+  pub bad : BadListGrows s t
+  pub open bad use {stays_bad, bad_used, bad_data, bad_worn, failures}
 
 -- between two states came reads alone
 pub record IsUntouched (s t : Storage) : Type 0 where

@@ -13,7 +13,7 @@ use Rattle.flash_model.specs.declared.flash.DevFault.{DevFault}
 use Rattle.flash_model.specs.declared.flash.DevFault.TheVariants.{Failed, PowerCut}
 use Rattle.flash_model.specs.Geometry.{IsGeometry, block_bytes}
 use Rattle.flash_model.specs.Device.{Device, block_of, failed}
-use Rattle.allocator.specs.Ring.{Ring, IsDataBlock, IsNext, is_busy, free_count}
+use Rattle.allocator.specs.Ring.{Ring, IsDataBlock, IsNext, IsTaken, is_busy, free_count}
 use Rattle.allocator.specs.RingLaws.{next_on}
 use Rattle.allocator.specs.FreeCount.{free_count-alike}
 use Rattle.node_store.specs.NodePages.{HasPages, HoldsNode}
@@ -22,32 +22,40 @@ use Rattle.node_store.specs.NodeLaws.{node_of-pages, HoldsNode_same}
 use Rattle.flash_model.specs.Reading.{OnlyReads_itself, OnlyReads_on}
 use Rattle.node_store.specs.Writing.{IsBlockWritten, IsFilledInOrder, WritesBlock}
 use Rattle.node_store.specs.WritingLaws.{order_on, order_from}
-use Rattle.node_store.specs.Storage.{Storage, storage, is_kept, IsTaken, Evolved, IsUntouched, IsAdded, Pays, IsNextBlock, PassesBad}
+use Rattle.node_store.specs.Storage.{Storage, storage, is_kept, Evolved, IsUntouched, IsAdded, Pays, IsNextBlock, PassesBad}
 use Rattle.fs_types.specs.declared.limits.TheConstants.{ANCHORS, MAX_BAD_BLOCKS}
 
 pub Evolved_itself : (s : Storage) → Evolved s s
 Evolved_itself s = record {
-  geometry = refl;
-  blocks = refl;
-  kept_pages = λ p kept. refl;
-  anchor_pages = λ p below. refl;
-  free_pages = λ p free. refl;
-  order = λ b kept fresh. absurd (both_ways (is_kept s b) fresh kept);
-  filled = λ on b kept fresh good. absurd (both_ways (is_kept s b) fresh kept);
-  kept = λ b kept. kept;
-  noted = λ b kept fresh. absurd (both_ways (is_kept s b) fresh kept);
-  note_stays = λ b noted. noted;
-  stays_bad = λ b bad. bad;
-  bad_used = λ b bad good. absurd (both_ways (set.contains s.bad b) good bad);
-  bad_data = λ b bad good. absurd (both_ways (set.contains s.bad b) good bad);
-  bad_worn = λ b bad good. absurd (both_ways (set.contains s.bad b) good bad);
-  worn = λ b was. was;
-  failures = refl;
-  failed_reads = omega arith;
-  cuts = omega arith;
-  was_on = λ on. on;
-  stays_off = λ off. refl;
-  taken = refl;
+  device = record {
+    geometry = refl;
+    worn = λ b was. was;
+    failed_reads = omega arith;
+    cuts = omega arith;
+    was_on = λ on. on;
+    stays_off = λ off. refl;
+  };
+  pages = record {
+    kept_pages = λ p kept. refl;
+    anchor_pages = λ p below. refl;
+    free_pages = λ p free. refl;
+    order = λ b kept fresh. absurd (both_ways (is_kept s b) fresh kept);
+    filled = λ on b kept fresh good. absurd (both_ways (is_kept s b) fresh kept);
+  };
+  ring = record {
+    blocks = refl;
+    kept = λ b kept. kept;
+    noted = λ b kept fresh. absurd (both_ways (is_kept s b) fresh kept);
+    note_stays = λ b noted. noted;
+    taken = refl;
+  };
+  bad = record {
+    stays_bad = λ b bad. bad;
+    bad_used = λ b bad good. absurd (both_ways (set.contains s.bad b) good bad);
+    bad_data = λ b bad good. absurd (both_ways (set.contains s.bad b) good bad);
+    bad_worn = λ b bad good. absurd (both_ways (set.contains s.bad b) good bad);
+    failures = refl;
+  };
 }
 
 -- a block that is not kept later was not kept before
@@ -64,49 +72,57 @@ pub Evolved_on : (s t u : Storage) → Evolved s t → Evolved t u → Evolved s
 Evolved_on s t u e f =
     let same : (p : ℕ) → block_of t.device p ≡ block_of s.device p = λ p. ap (λ (g : Geometry). p / g.pages) e.geometry in
     record {
-      geometry = f.geometry ∙ e.geometry;
-      blocks = f.blocks ∙ e.blocks;
-      kept_pages = λ p kept. f.kept_pages p (ap (is_kept t) (same p) ∙ e.kept (block_of s.device p) kept) ∙ e.kept_pages p kept;
-      anchor_pages = λ p below. f.anchor_pages p (subst (λ b. b < ANCHORS) (sym (same p)) below) ∙ e.anchor_pages p below;
-      free_pages = λ p free.
-          f.free_pages p (ap (is_kept u) (same p) ∙ free) ∙ e.free_pages p (Evolved_fresh t u (block_of s.device p) f free);
-      order = λ b kept fresh. elim (cases_Bool (is_kept t b)) [
-        | inl then_kept ↦ order_on s.device t.device u.device b f.geometry same
-            (λ p own. f.kept_pages p (ap (is_kept t) own ∙ then_kept)) (e.order b then_kept fresh)
-        | inr then_fresh ↦ order_from s.device t.device u.device b same
-            (λ p own. e.free_pages p (ap (is_kept t) own ∙ then_fresh)) (f.order b kept then_fresh)
-      ];
-      filled = λ on b kept fresh good. elim (cases_Bool (is_kept t b)) [
-        | inl then_kept ↦ HoldsNode_same t.device u.device b f.geometry (λ p own. f.kept_pages p (ap (is_kept t) own ∙ then_kept))
-            (e.filled (f.was_on on) b then_kept fresh (still_good t u b f good))
-        | inr then_fresh ↦ f.filled on b kept then_fresh good
-      ];
-      kept = λ b kept. f.kept b (e.kept b kept);
-      noted = λ b kept fresh. elim (cases_Bool (is_kept t b)) [
-        | inl then_kept ↦ f.note_stays b (e.noted b then_kept fresh)
-        | inr then_fresh ↦ f.noted b kept then_fresh
-      ];
-      note_stays = λ b noted. f.note_stays b (e.note_stays b noted);
-      stays_bad = λ b bad. f.stays_bad b (e.stays_bad b bad);
-      bad_used = λ b bad good. elim (cases_Bool (set.contains t.bad b)) [
-        | inl then_bad ↦ f.kept b (e.bad_used b then_bad good)
-        | inr then_good ↦ f.bad_used b bad then_good
-      ];
-      bad_data = λ b bad good. elim (cases_Bool (set.contains t.bad b)) [
-        | inl then_bad ↦ e.bad_data b then_bad good
-        | inr then_good ↦ subst (λ n. IsDataBlock n b) e.blocks (f.bad_data b bad then_good)
-      ];
-      bad_worn = λ b bad good. elim (cases_Bool (set.contains t.bad b)) [
-        | inl then_bad ↦ f.worn b (e.bad_worn b then_bad good)
-        | inr then_good ↦ f.bad_worn b bad then_good
-      ];
-      worn = λ b was. f.worn b (e.worn b was);
-      failures = omega arith;
-      failed_reads = omega arith;
-      cuts = omega arith;
-      was_on = λ on. e.was_on (f.was_on on);
-      stays_off = λ off. f.stays_off (ap (λ (x : Device). x.powered) (e.stays_off off) ∙ off) ∙ e.stays_off off;
-      taken = f.taken ∙ e.taken;
+      device = record {
+        geometry = f.geometry ∙ e.geometry;
+        worn = λ b was. f.worn b (e.worn b was);
+        failed_reads = omega arith;
+        cuts = omega arith;
+        was_on = λ on. e.was_on (f.was_on on);
+        stays_off = λ off. f.stays_off (ap (λ (x : Device). x.powered) (e.stays_off off) ∙ off) ∙ e.stays_off off;
+      };
+      pages = record {
+        kept_pages = λ p kept. f.kept_pages p (ap (is_kept t) (same p) ∙ e.kept (block_of s.device p) kept) ∙ e.kept_pages p kept;
+        anchor_pages = λ p below. f.anchor_pages p (subst (λ b. b < ANCHORS) (sym (same p)) below) ∙ e.anchor_pages p below;
+        free_pages = λ p free.
+            f.free_pages p (ap (is_kept u) (same p) ∙ free) ∙ e.free_pages p (Evolved_fresh t u (block_of s.device p) f free);
+        order = λ b kept fresh. elim (cases_Bool (is_kept t b)) [
+          | inl then_kept ↦ order_on s.device t.device u.device b f.geometry same
+              (λ p own. f.kept_pages p (ap (is_kept t) own ∙ then_kept)) (e.order b then_kept fresh)
+          | inr then_fresh ↦ order_from s.device t.device u.device b same
+              (λ p own. e.free_pages p (ap (is_kept t) own ∙ then_fresh)) (f.order b kept then_fresh)
+        ];
+        filled = λ on b kept fresh good. elim (cases_Bool (is_kept t b)) [
+          | inl then_kept ↦ HoldsNode_same t.device u.device b f.geometry (λ p own. f.kept_pages p (ap (is_kept t) own ∙ then_kept))
+              (e.filled (f.was_on on) b then_kept fresh (still_good t u b f good))
+          | inr then_fresh ↦ f.filled on b kept then_fresh good
+        ];
+      };
+      ring = record {
+        blocks = f.blocks ∙ e.blocks;
+        kept = λ b kept. f.kept b (e.kept b kept);
+        noted = λ b kept fresh. elim (cases_Bool (is_kept t b)) [
+          | inl then_kept ↦ f.note_stays b (e.noted b then_kept fresh)
+          | inr then_fresh ↦ f.noted b kept then_fresh
+        ];
+        note_stays = λ b noted. f.note_stays b (e.note_stays b noted);
+        taken = f.taken ∙ e.taken;
+      };
+      bad = record {
+        stays_bad = λ b bad. f.stays_bad b (e.stays_bad b bad);
+        bad_used = λ b bad good. elim (cases_Bool (set.contains t.bad b)) [
+          | inl then_bad ↦ f.kept b (e.bad_used b then_bad good)
+          | inr then_good ↦ f.bad_used b bad then_good
+        ];
+        bad_data = λ b bad good. elim (cases_Bool (set.contains t.bad b)) [
+          | inl then_bad ↦ e.bad_data b then_bad good
+          | inr then_good ↦ subst (λ n. IsDataBlock n b) e.blocks (f.bad_data b bad then_good)
+        ];
+        bad_worn = λ b bad good. elim (cases_Bool (set.contains t.bad b)) [
+          | inl then_bad ↦ f.worn b (e.bad_worn b then_bad good)
+          | inr then_good ↦ f.bad_worn b bad then_good
+        ];
+        failures = omega arith;
+      };
     }
 
 pub Untouched_itself : (s : Storage) → IsUntouched s s
@@ -122,27 +138,35 @@ Untouched_on s t u e f = record {
 -- reads evolve a storage
 pub Untouched_evolved : (s t : Storage) → IsUntouched s t → Evolved s t
 Untouched_evolved s t u = record {
-  geometry = u.device.geometry;
-  blocks = ap (λ (r : Ring). r.blocks) u.ring;
-  kept_pages = λ p kept. u.device.pages p;
-  anchor_pages = λ p below. u.device.pages p;
-  free_pages = λ p free. u.device.pages p;
-  order = λ b kept fresh. absurd (both_ways (is_kept t b) (ap (λ (r : Ring). set.contains r.used b) u.ring ∙ fresh) kept);
-  filled = λ on b kept fresh good. absurd (both_ways (is_kept t b) (ap (λ (r : Ring). set.contains r.used b) u.ring ∙ fresh) kept);
-  kept = λ b kept. ap (λ (r : Ring). set.contains r.used b) u.ring ∙ kept;
-  noted = λ b kept fresh. absurd (both_ways (is_kept t b) (ap (λ (r : Ring). set.contains r.used b) u.ring ∙ fresh) kept);
-  note_stays = λ b noted. ap (λ (r : Ring). set.contains r.note b) u.ring ∙ noted;
-  stays_bad = λ b bad. ap (λ bads. set.contains bads b) u.bad ∙ bad;
-  bad_used = λ b bad good. absurd (both_ways (set.contains t.bad b) (ap (λ bads. set.contains bads b) u.bad ∙ good) bad);
-  bad_data = λ b bad good. absurd (both_ways (set.contains t.bad b) (ap (λ bads. set.contains bads b) u.bad ∙ good) bad);
-  bad_worn = λ b bad good. absurd (both_ways (set.contains t.bad b) (ap (λ bads. set.contains bads b) u.bad ∙ good) bad);
-  worn = λ b was. u.device.worn b ∙ was;
-  failures = ap (λ n. n + set.len s.bad) u.device.failures ∙ ap (λ bads. s.device.failures + set.len bads) (sym u.bad);
-  failed_reads = u.device.failed_reads;
-  cuts = u.device.cuts;
-  was_on = u.device.was_on;
-  stays_off = u.device.stays_off;
-  taken = ap (λ (r : Ring). free_count r t.bad + r.takes) u.ring ∙ ap (λ bads. free_count s.ring bads + s.ring.takes) u.bad;
+  device = record {
+    geometry = u.device.geometry;
+    worn = λ b was. u.device.worn b ∙ was;
+    failed_reads = u.device.failed_reads;
+    cuts = u.device.cuts;
+    was_on = u.device.was_on;
+    stays_off = u.device.stays_off;
+  };
+  pages = record {
+    kept_pages = λ p kept. u.device.pages p;
+    anchor_pages = λ p below. u.device.pages p;
+    free_pages = λ p free. u.device.pages p;
+    order = λ b kept fresh. absurd (both_ways (is_kept t b) (ap (λ (r : Ring). set.contains r.used b) u.ring ∙ fresh) kept);
+    filled = λ on b kept fresh good. absurd (both_ways (is_kept t b) (ap (λ (r : Ring). set.contains r.used b) u.ring ∙ fresh) kept);
+  };
+  ring = record {
+    blocks = ap (λ (r : Ring). r.blocks) u.ring;
+    kept = λ b kept. ap (λ (r : Ring). set.contains r.used b) u.ring ∙ kept;
+    noted = λ b kept fresh. absurd (both_ways (is_kept t b) (ap (λ (r : Ring). set.contains r.used b) u.ring ∙ fresh) kept);
+    note_stays = λ b noted. ap (λ (r : Ring). set.contains r.note b) u.ring ∙ noted;
+    taken = ap (λ (r : Ring). free_count r t.bad + r.takes) u.ring ∙ ap (λ bads. free_count s.ring bads + s.ring.takes) u.bad;
+  };
+  bad = record {
+    stays_bad = λ b bad. ap (λ bads. set.contains bads b) u.bad ∙ bad;
+    bad_used = λ b bad good. absurd (both_ways (set.contains t.bad b) (ap (λ bads. set.contains bads b) u.bad ∙ good) bad);
+    bad_data = λ b bad good. absurd (both_ways (set.contains t.bad b) (ap (λ bads. set.contains bads b) u.bad ∙ good) bad);
+    bad_worn = λ b bad good. absurd (both_ways (set.contains t.bad b) (ap (λ bads. set.contains bads b) u.bad ∙ good) bad);
+    failures = ap (λ n. n + set.len s.bad) u.device.failures ∙ ap (λ bads. s.device.failures + set.len bads) (sym u.bad);
+  };
 }
 
 -- a kept block is another
@@ -169,7 +193,7 @@ new_listed bad b c now good =
 -- the block that became used with a take is the one taken
 became : (old : Ring) (bad : set.FinSet nat_cmp) (b : ℕ) (new : Ring) (c : ℕ) → IsTaken old bad b new → set.contains new.used c ≡ true
     → set.contains old.used c ≡ false → c ≡ b
-became old bad b new c take used fresh = new_listed old.used b c (ap (λ s. set.contains s c) (sym take.only) ∙ used) fresh
+became old bad b new c take used fresh = new_listed old.used b c (ap (λ s. set.contains s c) (sym (ap (λ (r : Ring). r.used) take.ring)) ∙ used) fresh
 
 -- a block that is not used after a take is another
 apart_then : (old : Ring) (bad : set.FinSet nat_cmp) (b : ℕ) (new : Ring) (c : ℕ) → IsTaken old bad b new → set.contains new.used c ≡ false → c ≢ b
@@ -187,32 +211,40 @@ pub took_good : (s : Storage) (b : ℕ) (ring : Ring) (bytes : List ℕ) (d : De
     → IsNode (block_bytes s.device.geometry) bytes → IsTaken s.ring s.bad b ring → WritesBlock s.device b bytes d result → failed result ≡ 0
     → Evolved s (record { device = d; bad = s.bad; ring = ring })
 took_good s b ring bytes d result node take w none = record {
-  geometry = w.geometry;
-  blocks = take.blocks;
-  kept_pages = λ p kept. w.others p (apart_from s b (block_of s.device p) take.fresh kept);
-  anchor_pages = λ p below. w.others p (λ same. absurd (omega (arith, take.data_block.0)));
-  free_pages = λ p free. w.others p (apart_then s.ring s.bad b ring (block_of s.device p) take free);
-  order = λ c kept fresh. subst (λ n. IsFilledInOrder s.device n d) (sym (became s.ring s.bad b ring c take kept fresh)) w.order;
-  filled = λ on c kept fresh good.
-      subst (HoldsNode d) (sym (became s.ring s.bad b ring c take kept fresh)) (record {
-        bytes = bytes;
-        node = subst (λ (g : Geometry). IsNode (block_bytes g) bytes) (sym w.geometry) node;
-        pages = written_on d b bytes result w.ends none on;
-      });
-  kept = take.kept;
-  noted = take.noted;
-  note_stays = take.note_stays;
-  stays_bad = λ c bad. bad;
-  bad_used = λ c bad good. absurd (both_ways (set.contains s.bad c) good bad);
-  bad_data = λ c bad good. absurd (both_ways (set.contains s.bad c) good bad);
-  bad_worn = λ c bad good. absurd (both_ways (set.contains s.bad c) good bad);
-  worn = w.worn;
-  failures = let fails = w.failures in omega arith;
-  failed_reads = omega arith;
-  cuts = w.cuts;
-  was_on = w.was_on;
-  stays_off = w.stays_off;
-  taken = take.paid;
+  device = record {
+    geometry = w.geometry;
+    worn = w.worn;
+    failed_reads = omega arith;
+    cuts = w.cuts;
+    was_on = w.was_on;
+    stays_off = w.stays_off;
+  };
+  pages = record {
+    kept_pages = λ p kept. w.others p (apart_from s b (block_of s.device p) take.fresh kept);
+    anchor_pages = λ p below. w.others p (λ same. absurd (omega (arith, take.next.data_block.0)));
+    free_pages = λ p free. w.others p (apart_then s.ring s.bad b ring (block_of s.device p) take free);
+    order = λ c kept fresh. subst (λ n. IsFilledInOrder s.device n d) (sym (became s.ring s.bad b ring c take kept fresh)) w.order;
+    filled = λ on c kept fresh good.
+        subst (HoldsNode d) (sym (became s.ring s.bad b ring c take kept fresh)) (record {
+          bytes = bytes;
+          node = subst (λ (g : Geometry). IsNode (block_bytes g) bytes) (sym w.geometry) node;
+          pages = written_on d b bytes result w.ends none on;
+        });
+  };
+  ring = record {
+    blocks = ap (λ (r : Ring). r.blocks) take.ring;
+    kept = take.kept;
+    noted = take.noted;
+    note_stays = take.note_stays;
+    taken = take.paid;
+  };
+  bad = record {
+    stays_bad = λ c bad. bad;
+    bad_used = λ c bad good. absurd (both_ways (set.contains s.bad c) good bad);
+    bad_data = λ c bad good. absurd (both_ways (set.contains s.bad c) good bad);
+    bad_worn = λ c bad good. absurd (both_ways (set.contains s.bad c) good bad);
+    failures = let fails = w.failures in omega arith;
+  };
 }
 
 -- a used block is as busy when it is listed
@@ -237,28 +269,36 @@ len_listed bad b good = set.len-insert nat_cmp_total bad b ∙ ap (λ t. cond t 
 pub took_bad : (s : Storage) (b : ℕ) (ring : Ring) (bytes : List ℕ) (d : Device) → IsTaken s.ring s.bad b ring
     → WritesBlock s.device b bytes d (Err Failed) → Evolved s (record { device = d; bad = set.insert s.bad b; ring = ring })
 took_bad s b ring bytes d take w = record {
-  geometry = w.geometry;
-  blocks = take.blocks;
-  kept_pages = λ p kept. w.others p (apart_from s b (block_of s.device p) take.fresh kept);
-  anchor_pages = λ p below. w.others p (λ same. absurd (omega (arith, take.data_block.0)));
-  free_pages = λ p free. w.others p (apart_then s.ring s.bad b ring (block_of s.device p) take free);
-  order = λ c kept fresh. subst (λ n. IsFilledInOrder s.device n d) (sym (became s.ring s.bad b ring c take kept fresh)) w.order;
-  filled = λ on c kept fresh good.
-      absurd (both_ways (set.contains (set.insert s.bad b) c) good (here_listed s.bad b c (became s.ring s.bad b ring c take kept fresh)));
-  kept = take.kept;
-  noted = take.noted;
-  note_stays = take.note_stays;
-  stays_bad = stays_listed s.bad b;
-  bad_used = λ c bad good. ap (set.contains ring.used) (new_listed s.bad b c bad good) ∙ take.used;
-  bad_data = λ c bad good. subst (IsDataBlock s.ring.blocks) (sym (new_listed s.bad b c bad good)) take.data_block;
-  bad_worn = λ c bad good. ap d.worn (new_listed s.bad b c bad good) ∙ w.ends;
-  worn = w.worn;
-  failures = let fails = w.failures in let more = len_listed s.bad b take.good in omega arith;
-  failed_reads = omega arith;
-  cuts = w.cuts;
-  was_on = w.was_on;
-  stays_off = w.stays_off;
-  taken = ap (λ n. n + ring.takes) (free_alike ring s.bad b take.used) ∙ take.paid;
+  device = record {
+    geometry = w.geometry;
+    worn = w.worn;
+    failed_reads = omega arith;
+    cuts = w.cuts;
+    was_on = w.was_on;
+    stays_off = w.stays_off;
+  };
+  pages = record {
+    kept_pages = λ p kept. w.others p (apart_from s b (block_of s.device p) take.fresh kept);
+    anchor_pages = λ p below. w.others p (λ same. absurd (omega (arith, take.next.data_block.0)));
+    free_pages = λ p free. w.others p (apart_then s.ring s.bad b ring (block_of s.device p) take free);
+    order = λ c kept fresh. subst (λ n. IsFilledInOrder s.device n d) (sym (became s.ring s.bad b ring c take kept fresh)) w.order;
+    filled = λ on c kept fresh good.
+        absurd (both_ways (set.contains (set.insert s.bad b) c) good (here_listed s.bad b c (became s.ring s.bad b ring c take kept fresh)));
+  };
+  ring = record {
+    blocks = ap (λ (r : Ring). r.blocks) take.ring;
+    kept = take.kept;
+    noted = take.noted;
+    note_stays = take.note_stays;
+    taken = ap (λ n. n + ring.takes) (free_alike ring s.bad b take.used) ∙ take.paid;
+  };
+  bad = record {
+    stays_bad = stays_listed s.bad b;
+    bad_used = λ c bad good. ap (set.contains ring.used) (new_listed s.bad b c bad good) ∙ take.used;
+    bad_data = λ c bad good. subst (IsDataBlock s.ring.blocks) (sym (new_listed s.bad b c bad good)) take.next.data_block;
+    bad_worn = λ c bad good. ap d.worn (new_listed s.bad b c bad good) ∙ w.ends;
+    failures = let fails = w.failures in let more = len_listed s.bad b take.good in omega arith;
+  };
 }
 
 abbrev one_if : Bool → ℕ
@@ -284,11 +324,11 @@ pub took_added : (s : Storage) (b : ℕ) (ring : Ring) (bytes : List ℕ) (d : D
 took_added s b ring bytes d u lawful blocks node room take w =
     let same = sym w.geometry in
     let below : b < d.geometry.blocks =
-    subst (λ n. b < n) (blocks ∙ ap (λ (g : Geometry). g.blocks) same) take.data_block.1 in
+    subst (λ n. b < n) (blocks ∙ ap (λ (g : Geometry). g.blocks) same) take.next.data_block.1 in
     record {
       fresh = take.fresh;
       kept = take.used;
-      node = node_of-pages d b bytes (subst IsGeometry same lawful) take.data_block.0 below
+      node = node_of-pages d b bytes (subst IsGeometry same lawful) take.next.data_block.0 below
           (subst (λ (g : Geometry). IsNode (block_bytes g) bytes) same node) w.ends;
       pages = w.ends;
       room = room;
@@ -296,16 +336,16 @@ took_added s b ring bytes d u lawful blocks node room take w =
 
 -- what takes cost, by how the write of the block ended
 pub pays_good : (s : Storage) (b : ℕ) (ring : Ring) (d : Device) → IsTaken s.ring s.bad b ring → Pays s (storage d s.bad ring) 1
-pays_good s b ring d take = let takes = take.takes in omega arith
+pays_good s b ring d take = let takes = ap (λ (r : Ring). r.takes) take.ring in omega arith
 
 pub pays_bad : (s : Storage) (b : ℕ) (ring : Ring) (d : Device) → IsTaken s.ring s.bad b ring → Pays s (storage d (set.insert s.bad b) ring) 0
-pays_bad s b ring d take = let takes = take.takes in let more = len_listed s.bad b take.good in omega arith
+pays_bad s b ring d take = let takes = ap (λ (r : Ring). r.takes) take.ring in let more = len_listed s.bad b take.good in omega arith
 
 -- one free block less, though the block is bad
 pub less_free : (s : Storage) (b : ℕ) (ring : Ring) → IsTaken s.ring s.bad b ring
     → free_count ring (set.insert s.bad b) < free_count s.ring s.bad
 less_free s b ring take =
-    let takes = take.takes in
+    let takes = ap (λ (r : Ring). r.takes) take.ring in
     let paid = take.paid in
     let alike = free_alike ring s.bad b take.used in
     omega arith
@@ -334,7 +374,7 @@ pub took_passed : (s : Storage) (b : ℕ) (ring : Ring) (d : Device) → IsTaken
 took_passed s b ring d take = λ bad c has next.
     let here : set.contains bad b ≡ true = has b (here_listed s.bad b b refl) in
     let after : IsNext (is_busy ring bad) s.ring.blocks b c =
-    subst (λ last. IsNext (is_busy ring bad) s.ring.blocks last c) take.last (subst (λ n. IsNext (is_busy ring bad) n ring.last c) take.blocks next) in
+    subst (λ last. IsNext (is_busy ring bad) s.ring.blocks last c) (ap (λ (r : Ring). r.last) take.ring) (subst (λ n. IsNext (is_busy ring bad) n ring.last c) (ap (λ (r : Ring). r.blocks) take.ring) next) in
     next_on (is_busy s.ring s.bad) (is_busy ring bad) (is_busy s.ring bad) s.ring.blocks s.ring.last b c take.last_block take.next after
     (λ x was. elim (or_cases (set.contains s.ring.used x) (set.contains s.bad x) was) [
       | inl used ↦ or_left (set.contains s.ring.used x) (set.contains bad x) used

@@ -7,12 +7,14 @@ use Rattle.fs_types.specs.declared.fault.Fault.TheVariants.{FlashFull, ReadOnly,
 use Rattle.flash_model.specs.declared.geometry.Geometry.{Geometry}
 use Rattle.flash_model.specs.Geometry.{IsGeometry}
 use Rattle.flash_model.specs.Device.{Device}
+use Rattle.allocator.specs.Ring.{Ring}
 use Rattle.node_store.specs.declared.store.Store.{Store}
+use Rattle.node_store.specs.Fitting.{StillFits}
 use Rattle.node_store.specs.FittingLaws.{still_itself, still_on}
 use Rattle.node_store.specs.NodePages.{node_of}
 use Rattle.node_store.specs.NodeLaws.{node_of-same}
-use Rattle.node_store.specs.Storage.{Storage, is_kept, Evolved}
-use Rattle.node_store.specs.StorageLaws.{Untouched_itself, Untouched_on, Evolved_itself, Evolved_on}
+use Rattle.node_store.specs.Storage.{Storage, is_kept, Evolved, IsUntouched}
+use Rattle.node_store.specs.StorageLaws.{Untouched_itself, Untouched_on, Untouched_evolved, Evolved_itself, Evolved_on}
 use Rattle.node_store.specs.Faults.{IsReadFault}
 use Rattle.node_store.specs.Reading.{Brings}
 use Rattle.node_store.specs.Stores.{parts, IsSoundStore, Follows, Causes}
@@ -67,6 +69,27 @@ module _ {F : Type 0} (device : F → Device) where
         let second = subst (λ (p : ℕ). (device u.flash.now).operations + t.reads.n * p ≤ (device t.flash.now).operations + u.reads.n * p) pages (g.asks (omega arith)) in
         omega (arith, first, second);
   }
+
+  -- one look, which reads a page at most and leaves which blocks are bad and which are used
+  pub Follows_look : (s t : Store F) → IsGeometry (device s.flash.now).geometry → t.flash.ghost_name ≡ s.flash.ghost_name → t.storage.ghost_name ≡ s.storage.ghost_name
+      → StillFits (device s.flash.now) s.storage.now (device t.flash.now) t.storage.now → IsUntouched (parts device s) (parts device t)
+      → t.reads.n ≡ s.reads.n + 1 → t.writes.n ≡ s.writes.n → (device t.flash.now).operations ≤ (device s.flash.now).operations + 1 → Follows device s t
+  Follows_look s t lawful same_flash same_storage fits untouched reads writes most =
+      let takes : t.storage.now.ring.takes ≡ s.storage.now.ring.takes = ap (λ (r : Ring). r.takes) untouched.ring in
+      let listed : set.len t.storage.now.bad ≡ set.len s.storage.now.bad = ap (λ bads. set.len bads) untouched.bad in
+      let page = lawful.some_pages in
+      record {
+        same_flash = same_flash;
+        same_storage = same_storage;
+        fits = fits;
+        evolved = Untouched_evolved (parts device s) (parts device t) untouched;
+        more_writes = omega (arith, writes);
+        paid = omega (arith, takes, listed, writes);
+        untouched = λ same. untouched;
+        at_limit = λ full. untouched;
+        asks = λ same. subst (λ (n : ℕ). (device t.flash.now).operations + s.reads.n * (device s.flash.now).geometry.pages ≤ (device s.flash.now).operations + n * (device s.flash.now).geometry.pages) (sym reads)
+            (one_more (device s.flash.now).operations (device t.flash.now).operations s.reads.n (device s.flash.now).geometry.pages (omega (arith, most, page)));
+      }
 
   pub Causes_on : (s t u : Store F) (fault : Fault) → Follows device s t → Causes device t u fault → Causes device s u fault
   Causes_on s t u FlashFull f c =

@@ -1,13 +1,14 @@
 //! Adding a node to the flash: blocks are taken and tried until one holds it.
 ghost use Rattle.std.specs.Prelude.{◌≡◌, ◌≢◌, ℕ, ◌+◌, ◌≤◌, ◌<◌, false, length, vec_len, true, Some, None, Ok, IfOk, IfErr, MatchResult};
 ghost use Rattle.std.specs.FinSet as set;
-ghost use Rattle.allocator.specs.Ring.{next_free, free_count};
+ghost use Rattle.allocator.specs.Ring.{next_free, free_count, IsTaken};
 ghost use Rattle.flash_model.specs.Device.{block_of};
 ghost use Rattle.flash_model.specs.Geometry.{IsGeometry, block_bytes};
 ghost use Rattle.node_cache.specs.Cache.{node_in};
 ghost use Rattle.node_format.specs.Headers.{IsNode};
-ghost use Rattle.node_store.specs.Fitting.{Fits, StillFits, IsListedFirst, ListsNone, ListsNoneTried};
-ghost use Rattle.node_store.specs.Storage.{IsTaken, IsUntouched, IsNextBlock, IsAttempt, storage, Evolved, Adds, Pays, Spends, unpaid};
+ghost use Rattle.node_store.specs.Fitting.{StillFits, IsListedFirst, ListsNone};
+ghost use Rattle.node_store.specs.NewNodes.{IsWritable, WritesNode, ListsWritten};
+ghost use Rattle.node_store.specs.Storage.{IsAttempt, storage};
 ghost use Rattle.node_store.specs.Stores.{storage_on};
 ghost use Rattle.fs_types.specs.declared.limits.TheConstants.{MAX_BAD_BLOCKS};
 
@@ -99,10 +100,7 @@ fn write_next<F: Flash>(
     storage: &mut Storage,
     node: &mut Vec<u8>,
 ) -> Result<Option<u32>, Fault>
-    requires lawful { IsGeometry (F.device flash.old).geometry }
-    requires ring_blocks { storage.old.ring.blocks ≡ (F.device flash.old).geometry.blocks }
-    requires fits { Fits (F.device flash.old) storage.old }
-    requires node { IsNode (block_bytes (F.device flash.old).geometry) node.old.items }
+    requires writable { IsWritable (F.device flash.old) storage.old node.old.items }
     requires room { set.len storage.old.bad < MAX_BAD_BLOCKS }
 
     // The attempt, and the node where others may follow.
@@ -135,22 +133,10 @@ fn write_next<F: Flash>(
 
 /// Tries one block after the other until one holds the node.
 fn place_node<F: Flash>(flash: &mut F, storage: &mut Storage, node: Vec<u8>) -> Result<u32, Fault>
-    requires lawful { IsGeometry (F.device flash.old).geometry }
-    requires ring_blocks { storage.old.ring.blocks ≡ (F.device flash.old).geometry.blocks }
-    requires fits { Fits (F.device flash.old) storage.old }
-    requires node { IsNode (block_bytes (F.device flash.old).geometry) node.items }
+    requires writable { IsWritable (F.device flash.old) storage.old node.items }
     requires room { set.len storage.old.bad < MAX_BAD_BLOCKS }
-
-    // The flash, and the blocks that are taken.
-    ensures adds { Adds (storage_on (F.device flash.old) storage.old) node.items (storage_on (F.device flash.new) storage.new) result }
-    ensures evolved { Evolved (storage_on (F.device flash.old) storage.old) (storage_on (F.device flash.new) storage.new) }
-    ensures pays { Pays (storage_on (F.device flash.old) storage.old) (storage_on (F.device flash.new) storage.new) (unpaid result) }
-    ensures next { IfOk result (λ block. IsNextBlock (storage_on (F.device flash.old) storage.old) (storage_on (F.device flash.new) storage.new) block) }
-    ensures operations { Spends (storage_on (F.device flash.old) storage.old) (storage_on (F.device flash.new) storage.new) node.items }
-
-    // The cache.
-    ensures fits { StillFits (F.device flash.old) storage.old (F.device flash.new) storage.new }
-    ensures lists { MatchResult result (λ block. IsListedFirst storage.new block node.items) (λ _. ListsNoneTried storage.old storage.new) }
+    ensures writes { WritesNode (storage_on (F.device flash.old) storage.old) node.items (storage_on (F.device flash.new) storage.new) result }
+    ensures lists { ListsWritten (F.device flash.old) storage.old node.items (F.device flash.new) storage.new result }
 {
     let mut node = node;
     'attempts: loop {
@@ -173,22 +159,9 @@ pub fn write_owned_node<F: Flash>(
     storage: &mut Storage,
     node: Vec<u8>,
 ) -> Result<u32, Fault>
-    requires lawful { IsGeometry (F.device flash.old).geometry }
-    requires ring_blocks { storage.old.ring.blocks ≡ (F.device flash.old).geometry.blocks }
-    requires fits { Fits (F.device flash.old) storage.old }
-    requires node { IsNode (block_bytes (F.device flash.old).geometry) node.items }
-
-    // The flash, and the blocks that are taken.
-    ensures adds { Adds (storage_on (F.device flash.old) storage.old) node.items (storage_on (F.device flash.new) storage.new) result }
-    ensures evolved { Evolved (storage_on (F.device flash.old) storage.old) (storage_on (F.device flash.new) storage.new) }
-    ensures pays { Pays (storage_on (F.device flash.old) storage.old) (storage_on (F.device flash.new) storage.new) (unpaid result) }
-    ensures next { IfOk result (λ block. IsNextBlock (storage_on (F.device flash.old) storage.old) (storage_on (F.device flash.new) storage.new) block) }
-    ensures operations { Spends (storage_on (F.device flash.old) storage.old) (storage_on (F.device flash.new) storage.new) node.items }
-    ensures at_limit { set.len storage.old.bad ≡ MAX_BAD_BLOCKS → IsUntouched (storage_on (F.device flash.old) storage.old) (storage_on (F.device flash.new) storage.new) }
-
-    // The cache.
-    ensures fits { StillFits (F.device flash.old) storage.old (F.device flash.new) storage.new }
-    ensures lists { MatchResult result (λ block. IsListedFirst storage.new block node.items) (λ _. ListsNoneTried storage.old storage.new) }
+    requires { IsWritable (F.device flash.old) storage.old node.items }
+    ensures writes { WritesNode (storage_on (F.device flash.old) storage.old) node.items (storage_on (F.device flash.new) storage.new) result }
+    ensures lists { ListsWritten (F.device flash.old) storage.old node.items (F.device flash.new) storage.new result }
 {
     if storage.bad.is_full() {
         return Err(Fault::ReadOnly);
@@ -203,22 +176,9 @@ pub fn write_node<F: Flash>(
     storage: &mut Storage,
     bytes: &[u8],
 ) -> Result<u32, Fault>
-    requires lawful { IsGeometry (F.device flash.old).geometry }
-    requires ring_blocks { storage.old.ring.blocks ≡ (F.device flash.old).geometry.blocks }
-    requires fits { Fits (F.device flash.old) storage.old }
-    requires node { IsNode (block_bytes (F.device flash.old).geometry) bytes.now }
-
-    // The flash, and the blocks that are taken.
-    ensures adds { Adds (storage_on (F.device flash.old) storage.old) bytes.now (storage_on (F.device flash.new) storage.new) result }
-    ensures evolved { Evolved (storage_on (F.device flash.old) storage.old) (storage_on (F.device flash.new) storage.new) }
-    ensures pays { Pays (storage_on (F.device flash.old) storage.old) (storage_on (F.device flash.new) storage.new) (unpaid result) }
-    ensures next { IfOk result (λ block. IsNextBlock (storage_on (F.device flash.old) storage.old) (storage_on (F.device flash.new) storage.new) block) }
-    ensures operations { Spends (storage_on (F.device flash.old) storage.old) (storage_on (F.device flash.new) storage.new) bytes.now }
-    ensures at_limit { set.len storage.old.bad ≡ MAX_BAD_BLOCKS → IsUntouched (storage_on (F.device flash.old) storage.old) (storage_on (F.device flash.new) storage.new) }
-
-    // The cache.
-    ensures fits { StillFits (F.device flash.old) storage.old (F.device flash.new) storage.new }
-    ensures lists { MatchResult result (λ block. IsListedFirst storage.new block bytes.now) (λ _. ListsNoneTried storage.old storage.new) }
+    requires { IsWritable (F.device flash.old) storage.old bytes.now }
+    ensures writes { WritesNode (storage_on (F.device flash.old) storage.old) bytes.now (storage_on (F.device flash.new) storage.new) result }
+    ensures lists { ListsWritten (F.device flash.old) storage.old bytes.now (F.device flash.new) storage.new result }
 {
     if storage.bad.is_full() {
         return Err(Fault::ReadOnly);

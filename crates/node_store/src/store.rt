@@ -186,9 +186,10 @@ impl<F: Flash> Nodes for Store<'_, F> {
         ensures reads { self.new.reads.n ≡ self.old.reads.n }
         ensures asks { (F.device self.new.flash.now).operations ≡ (F.device self.old.flash.now).operations }
 
-        // The block is taken out of the cache, and the device is not asked.
+        // The block is taken out of the cache, the one that was read in part last stays that, and the device is not asked.
         ensures device { F.device self.new.flash.now ≡ F.device self.old.flash.now }
         ensures forgets { self.new.storage.now.cache ≡ without self.old.storage.now.cache block }
+        ensures partly { self.new.storage.now.partly ≡ self.old.storage.now.partly }
     {
         self.storage.cache.forget(block);
     }

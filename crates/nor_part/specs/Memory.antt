@@ -15,6 +15,10 @@ memory_page_at pages n = option_map_or (λ page. page.bytes.items) (slice_get pa
 abbrev pub AreFullPages : List MemoryPage → Type 0
 AreFullPages pages = (n : ℕ) → ForSome (slice_get pages n) (λ page. vec_len page.bytes ≡ 256)
 
+-- each page is as an erase leaves it
+abbrev pub AreBlankPages : List MemoryPage → Type 0
+AreBlankPages pages = (n : ℕ) → ForSome (slice_get pages n) (λ page. page.bytes.items ≡ replicate 256 255)
+
 -- the answer of an operation that is befallen so
 abbrev pub trouble_answer : Option Trouble → Result (Unit {0}) DevFault
 trouble_answer None = Ok tt

@@ -1,7 +1,7 @@
 //! Pages of a serial NOR part in memory.
-ghost use Rattle.std.specs.Prelude.{◌≡◌, ◌≢◌, ℕ, ◌/◌, ◌*◌, ◌+◌, ◌<◌, ◌≤◌, IfOk, Ok, Err, true, length, vec_len, slice_index};
+ghost use Rattle.std.specs.Prelude.{◌≡◌, ◌≢◌, ℕ, ◌/◌, ◌*◌, ◌+◌, ◌<◌, ◌≤◌, IfOk, Ok, Err, true, length, vec_len, slice_index, replicate};
 ghost use Rattle.nor_part.specs.Part.{HasCleared, HasTorn, LeavesTrace, is_blank, ProgramsPage, ErasesSector};
-ghost use Rattle.nor_part.specs.Memory.{memory_page_at, AreFullPages, trouble_answer};
+ghost use Rattle.nor_part.specs.Memory.{memory_page_at, AreFullPages, AreBlankPages, trouble_answer};
 
 use crate::cells::{clear, set, tear};
 use crate::nor::Nor;
@@ -16,7 +16,7 @@ pub(crate) struct MemoryPage {
 
 impl MemoryPage {
     fn new(alloc: Global) -> Result<MemoryPage, AllocError>
-        ensures { IfOk result (λ page. vec_len page.bytes ≡ 256) }
+        ensures { IfOk result (λ page. page.bytes.items ≡ replicate 256 255) }
     {
         Ok(MemoryPage {
             bytes: vec![in alloc; 0xff; 256]?,
@@ -55,12 +55,13 @@ pub struct MemoryNor {
 }
 
 impl MemoryNor {
-    ghost use Rattle.std.specs.Prelude.{◌≡◌, ◌*◌, ◌<◌, IfOk, vec_len};
+    ghost use Rattle.std.specs.Prelude.{◌≡◌, ℕ, ◌*◌, ◌<◌, IfOk, vec_len, replicate};
     ghost use Rattle.nor_part.specs.MemoryParts.{held_of, page_total};
 
     /// A blank part of so many sectors of 4,096 bytes. No trouble is planned.
     pub fn new(alloc: Global, sectors: u32) -> Result<MemoryNor, AllocError>
-        ensures { IfOk result (λ part. page_total part ≡ 16 * sectors) }
+        ensures count { IfOk result (λ part. page_total part ≡ 16 * sectors) }
+        ensures blank { IfOk result (λ part. (page : ℕ) → held_of part page ≡ replicate 256 255) }
     {
         Ok(MemoryNor {
             pages: blank_pages(alloc, 16 * sectors as usize)?,
@@ -243,6 +244,7 @@ fn set_sector(pages: &mut Vec<MemoryPage>, sector: usize)
 fn blank_pages(alloc: Global, count: usize) -> Result<Vec<MemoryPage>, AllocError>
     ensures len { IfOk result (λ pages. vec_len pages ≡ count) }
     ensures whole { IfOk result (λ pages. AreFullPages pages.items) }
+    ensures blank { IfOk result (λ pages. AreBlankPages pages.items) }
 {
     let mut pages = Vec::with_capacity(alloc, count)?;
     for _ in 0..count {

@@ -1,6 +1,6 @@
 //! Scripts over a part in memory: one after the other, and with one operation of the part troubled.
 use nor_part::{MemoryNor, NorFlash, Trouble};
-use shell::run_script_on;
+use script_runs::run_script_on;
 use std::alloc::Global;
 use std::test::Fail;
 use undofs::{Flash, format};

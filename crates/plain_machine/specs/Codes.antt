@@ -1,23 +1,14 @@
 -- How machines, and what they are made of, are stored as lists and pairs.
 use Rattle.std.specs.Prelude.{ℕ, Bool, Option, List, refl}
 use Rattle.std.specs.Coded.{Coded, code_by, coded×, coded_ℕ, coded_bool, coded_list, coded_option}
-use Rattle.std.specs.FinMap as finmap
-use Rattle.plain_trees.specs.Contents.{Entry}
 use Rattle.plain_trees.specs.Trees.{Tree}
 use Rattle.history_machine.specs.History.{Past}
 use Rattle.history_machine.specs.Descriptors.{Descriptors}
 use Rattle.history_machine.specs.Machine.{Machine, machine_with}
 use Rattle.fs_types.specs.declared.call.Group.{Group}
 use Rattle.fs_types.specs.declared.call.Version.{Version}
-use Rattle.open_files.specs.Codes.{path_code, descriptors_code}
-use Rattle.plain_machine.specs.Plain.{entry_of, bytes_in, entry_of-bytes_in}
-
--- a directory is no list of bytes
-abbrev pub entry_code : Coded Entry
-entry_code = code_by (Option (List ℕ)) (coded_option (coded_list coded_ℕ)) bytes_in entry_of entry_of-bytes_in
-
-abbrev pub tree_code : Coded Tree
-tree_code = finmap.code path_code entry_code
+use Rattle.open_files.specs.Codes.{descriptors_code}
+use Rattle.memory_trees.specs.Codes.{tree_code}
 
 abbrev pub version_code : Coded (Version Tree)
 version_code = code_by (ℕ × Tree) (coded× coded_ℕ tree_code) (λ v. (v.serial, v.root)) (λ p. record { serial = p.0; root = p.1 }) (λ _. refl)

@@ -1,13 +1,8 @@
 -- What the plain machine answers and leaves.
-use Rattle.std.specs.Prelude.{◌≡◌, ℕ, ◌+◌, ◌-◌, ◌^◌, ◌<◌, not, Bool, true, false, ◌==◌, ◌&&◌, ◌⊎◌, nat_lt, Option, Some, None, Result, Err, List, [], ◌∷◌, ◌++◌, length, is_some, unwrap_or, refl, if◌then◌else◌}
-use Rattle.std.specs.FinMap.{from_entries, insert}
-use Rattle.std.specs.List.Sorted.{IsStrictlySortedBy}
-use Rattle.std.specs.Map.{keys_of}
+use Rattle.std.specs.Prelude.{◌≡◌, ℕ, ◌+◌, ◌-◌, ◌^◌, ◌<◌, not, Bool, true, false, ◌==◌, ◌&&◌, ◌⊎◌, nat_lt, Option, Some, None, Result, Err, List, length, is_some, unwrap_or, if◌then◌else◌}
 use Rattle.std.specs.Option.{option_map_or}
-use Rattle.fs_types.specs.declared.limits.TheConstants.{MAX_NAMES, MAX_FILE_BYTES}
-use Rattle.fs_types.specs.Names.{Name, Path, path_cmp}
-use Rattle.plain_trees.specs.Contents.{Entry, beneath}
-use Rattle.plain_trees.specs.Contents.Entry.{Dir, File}
+use Rattle.fs_types.specs.declared.limits.TheConstants.{MAX_FILE_BYTES}
+use Rattle.fs_types.specs.Names.{Path}
 use Rattle.plain_trees.specs.Trees.{Tree, bare, entry_count, bytes_of_file}
 use Rattle.history_machine.specs.History.{Past, fresh, changed, present_root, due_root, undo_refusal, redo_refusal, serial_refusal, forget_refusal, checkpoint_refusal, name_refusal}
 use Rattle.history_machine.specs.Descriptors.{Descriptor, Descriptors}
@@ -17,57 +12,6 @@ use Rattle.fs_types.specs.declared.call.Group.{Group}
 use Rattle.fs_types.specs.declared.call.Reply.{Reply}
 use Rattle.fs_types.specs.declared.fault.Fault.{Fault}
 use Rattle.fs_types.specs.declared.fault.Fault.TheVariants.{TooBig, NotEmpty, Overflow, NoMemory}
-
--- a directory has no bytes
-abbrev pub entry_of : Option (List ℕ) → Entry
-entry_of None = Dir
-entry_of (Some bytes) = File bytes
-
-abbrev pub bytes_in : Entry → Option (List ℕ)
-bytes_in Dir = None
-bytes_in (File bytes) = Some bytes
-
-pub entry_of-bytes_in : (x : Entry) → entry_of (bytes_in x) ≡ x
-entry_of-bytes_in Dir = refl
-entry_of-bytes_in (File bytes) = refl
-
--- the name that is all that is left of a path
-abbrev pub only_name : Option Path → Option Name
-only_name None = None
-only_name (Some []) = None
-only_name (Some (n ∷ [])) = Some n
-only_name (Some (n ∷ m ∷ rest)) = None
-
--- a path stands right in a directory
-abbrev pub is_child : Path → Path → Bool
-is_child directory p = is_some (only_name (beneath directory p))
-
--- where a path stands after a move, or None where another takes its place
-abbrev pub path_moved_at : Path → Path → Option Path → Option Path → Option Path
-path_moved_at new p (Some rest) _ = Some (new ++ rest)
-path_moved_at new p None (Some rest) = None
-path_moved_at new p None None = Some p
-
-abbrev pub path_moved : Path → Path → Path → Option Path
-path_moved old new p = path_moved_at new p (beneath old p) (beneath new p)
-
--- the map with the entries of a list put into it, the last one first
-abbrev pub insert_all : List (Path × Entry) → Tree → Tree
-insert_all [] t = t
-insert_all (e ∷ es) t = insert (insert_all es t) e.0 e.1
-
--- the tree that a list of entries makes; of two for one path the first counts
-abbrev pub tree_of : List (Path × Entry) → Tree
-tree_of es = from_entries {R = path_cmp} es
-
--- entries in order make this tree
-pub record IsTreeOf (es : List (Path × Entry)) (t : Tree) : Type 0 where
-  pub sorted : IsStrictlySortedBy path_cmp (keys_of es)
-  pub made : tree_of es ≡ t
-
--- a path at `old` or below it would have more names than a path may have, where `old` becomes so many
-abbrev pub is_deep : Path → ℕ → Path → Bool
-is_deep old depth p = option_map_or (λ rest. nat_lt MAX_NAMES (depth + length rest)) (beneath old p) false
 
 -- a machine with this present tree
 abbrev pub machine_of_tree : Tree → Descriptors → Machine

@@ -11,12 +11,11 @@ ghost use Rattle.plain_machine.specs.Plain.{machine_of_tree, ftruncates, file_of
 ghost use Rattle.history_machine.specs.Machine.{machine_with};
 
 use crate::groups::{begin, end, working_tree};
-use crate::node::Node;
 use crate::replies::bytes_at;
-use crate::tree::Tree;
 use bitflags::Flags;
 use fs_types::{Bytes, Call, CpName, Fault, Group, OpenFlags, Path};
 use history::History;
+use memory_trees::{Node, Tree};
 use open_files::{OpenFile, OpenFiles};
 use std::alloc::{AllocError, Global};
 

@@ -4,9 +4,9 @@ ghost use Rattle.std.specs.Option.{option_map_or};
 ghost use Rattle.plain_trees.specs.Trees.{bare};
 ghost use Rattle.history_machine.specs.History.{changed, present_root, view_refusal, working_root, seen_root, history_with, group_with, due_root};
 
-use crate::tree::Tree;
 use fs_types::{Fault, Group, View};
 use history::History;
+use memory_trees::Tree;
 
 /// The tree that calls work on: the group's, where one is open, else the present one.
 pub fn working_tree<'a>(history: &'a History<Tree>, group: &'a Option<Group<Tree>>) -> &'a Tree

@@ -4,17 +4,11 @@
 mod effects;
 mod groups;
 mod machine;
-mod maps;
-mod names;
 mod needs;
-mod node;
 mod parts;
 mod refusals;
 mod replies;
 mod space;
-mod tree;
 
 pub use machine::PlainMachine;
-pub use node::Node;
 pub use space::Space;
-pub use tree::Tree;

@@ -1,5 +1,5 @@
 //! The machine, and its step.
-ghost use Rattle.std.specs.Prelude.{◌≡◌, ◌<◌, ◌≤◌, min, true, false, Some, None, IfOk, IfErr, IsErrOf, OnOk, OnErr};
+ghost use Rattle.std.specs.Prelude.{◌≡◌, ◌<◌, ◌≤◌, min, true, if◌then◌else◌, Some, None, IfOk, IfErr, OnOk, OnErr};
 ghost use Rattle.plain_trees.specs.Trees.{bare};
 ghost use Rattle.history_machine.specs.History.{fresh};
 ghost use Rattle.history_machine.specs.Machine as machine;
@@ -15,10 +15,10 @@ use crate::needs::change_need;
 use crate::parts::history_of;
 use crate::refusals::refusal;
 use crate::space::Space;
-use crate::tree::Tree;
 use crate::{effects, replies};
 use fs_types::{Call, CpName, Fault, Group, Reply, Version};
 use history::History;
+use memory_trees::Tree;
 use open_files::OpenFiles;
 use std::alloc::{AllocError, Global};
 use std::collections::BTreeMap;
@@ -74,7 +74,7 @@ impl PlainMachine {
     ) -> Result<PlainMachine, Fault>
         ensures machine { IfOk result (λ m. m ≡ machine.mounted (history_of_parts versions.items cursor dropped next checkpoints.entries limit)) }
         ensures kept { OnOk result (is_history (history_of_parts versions.items cursor dropped next checkpoints.entries limit) ≡ true) }
-        ensures invalid { IsErrOf result Fault.Invalid → is_history (history_of_parts versions.items cursor dropped next checkpoints.entries limit) ≡ false }
+        ensures refused { IfErr result (λ fault. fault ≡ (if is_history (history_of_parts versions.items cursor dropped next checkpoints.entries limit) then Fault.NoMemory else Fault.Invalid)) }
     {
         Ok(PlainMachine {
             history: history_of(alloc, versions, cursor, dropped, next, checkpoints, limit)?,

@@ -8,9 +8,9 @@ ghost use Rattle.fs_types.specs.declared.call.Call.{Call};
 
 use crate::groups::working_tree;
 use crate::replies::bytes_at;
-use crate::tree::Tree;
 use fs_types::{Call, Group, NODE_ENTRIES, Name, Path};
 use history::History;
+use memory_trees::Tree;
 use open_files::OpenFiles;
 
 /// How many nodes a directory of so many entries has.

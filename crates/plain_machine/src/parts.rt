@@ -1,13 +1,13 @@
 //! A history put together from its parts.
-ghost use Rattle.std.specs.Prelude.{◌≡◌, ◌+◌, ◌≤◌, ◌&&◌, true, false, IfOk, OnOk, IfErr, IsErrOf, nat_lt, nat_le};
+ghost use Rattle.std.specs.Prelude.{◌≡◌, ◌+◌, ◌≤◌, ◌&&◌, true, false, if◌then◌else◌, IfOk, OnOk, IfErr, nat_lt, nat_le};
 ghost use Rattle.std.specs.List.{list_all};
 ghost use Rattle.fs_types.specs.declared.fault.Fault.{Fault};
 ghost use Rattle.fs_types.specs.declared.limits.TheConstants.{MIN_VERSIONS, MAX_VERSIONS, MAX_CHECKPOINTS};
 ghost use Rattle.plain_machine.specs.Restoring.{history_of_parts, past_serials_ascend, is_history};
 
-use crate::tree::Tree;
 use fs_types::{CpName, Fault, MAX_CHECKPOINTS, MAX_VERSIONS, MIN_VERSIONS, Version};
 use history::History;
+use memory_trees::Tree;
 use std::alloc::Global;
 use std::collections::BTreeMap;
 
@@ -24,7 +24,7 @@ pub fn history_of(
 ) -> Result<History<Tree>, Fault>
     ensures history { IfOk result (λ history. history ≡ history_of_parts versions.items cursor dropped next checkpoints.entries limit) }
     ensures kept { OnOk result (is_history (history_of_parts versions.items cursor dropped next checkpoints.entries limit) ≡ true) }
-    ensures invalid { IsErrOf result Fault.Invalid → is_history (history_of_parts versions.items cursor dropped next checkpoints.entries limit) ≡ false }
+    ensures refused { IfErr result (λ fault. fault ≡ (if is_history (history_of_parts versions.items cursor dropped next checkpoints.entries limit) then Fault.NoMemory else Fault.Invalid)) }
 {
     if !are_parts(&versions, cursor, next, &checkpoints, limit) {
         return Err(Fault::Invalid);

@@ -11,11 +11,10 @@ ghost use Rattle.plain_machine.specs.Plain.{machine_of_tree, machine_in, size_re
 ghost use Rattle.history_machine.specs.Machine.{machine_with};
 
 use crate::groups::{seen_tree, working_tree};
-use crate::node::Node;
-use crate::tree::Tree;
 use bitflags::Flags;
 use fs_types::{Bytes, Call, Fault, Group, MAX_FILE_BYTES, Name, OpenFlags, Path, View};
 use history::History;
+use memory_trees::{Node, Tree};
 use open_files::OpenFiles;
 use plain_trees::{is_beginning, parent};
 

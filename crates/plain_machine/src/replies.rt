@@ -14,9 +14,9 @@ ghost use Rattle.history_machine.specs.Machine.{machine_with};
 
 use crate::groups::{seen_tree, working_tree};
 use crate::space::Space;
-use crate::tree::Tree;
 use fs_types::{Call, Group, Path, Reply, Sequence, Stat, View};
 use history::History;
+use memory_trees::Tree;
 use open_files::OpenFiles;
 use std::alloc::{AllocError, Global};
 

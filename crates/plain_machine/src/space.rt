@@ -1,7 +1,7 @@
 //! How much of a flash is used.
 
 /// How much of a flash is used, which a machine in memory does not know.
-#[derive(Clone, Copy, Debug, PartialEq, Eq)]
+#[derive(Clone, Copy, Debug)]
 pub struct Space {
     /// Data blocks.
     pub blocks: u64,

@@ -8,8 +8,3 @@ pub is_lt-is_ge : (o : Ordering) → is_ge o ≡ false → is_lt o ≡ true
 is_lt-is_ge Less e = refl
 is_lt-is_ge Equal e = cc
 is_lt-is_ge Greater e = cc
-
-pub is_lt-not : (o : Ordering) → is_ge o ≡ true → is_lt o ≡ false
-is_lt-not Less e = cc
-is_lt-not Equal e = refl
-is_lt-not Greater e = refl

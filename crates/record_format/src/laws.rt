@@ -1,4 +1,6 @@
 //! The laws of the definitions, as contracts of functions that do nothing.
+ghost use Rattle.std.specs.Prelude.{◌≡◌};
+ghost use Rattle.record_format.specs.declared.formats.TheConstants.{FORMAT, OLD_FORMAT, OLD_MAX_VERSIONS};
 ghost use Rattle.record_format.specs.FormatLaw.{ReadIsWritten};
 ghost use Rattle.record_format.specs.Laws.{MeaningSays, SaysMeaning, OneMeaning, WrittenIsRead, MeansItsFlash, IsShort, PageIsRead};
 
@@ -18,7 +20,10 @@ pub fn page_laws()
     ensures { PageIsRead }
 {}
 
-/// The law of formats: a record of any format that is read may be written.
+/// The laws of formats: which there are, that the old one keeps at most 64 versions, and that a record
+/// of any format that is read may be written.
 pub fn format_laws()
-    ensures { ReadIsWritten }
+    ensures formats { (FORMAT ≡ 2) × (OLD_FORMAT ≡ 1) }
+    ensures old_versions { OLD_MAX_VERSIONS ≡ 64 }
+    ensures written { ReadIsWritten }
 {}

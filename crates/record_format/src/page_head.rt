@@ -12,7 +12,7 @@ pub const HEAD_SIZE: usize = 20;
 const MAGIC: [u8; 4] = *b"UFCR";
 
 /// The header of a page of a record.
-#[derive(Clone, Copy, Debug, PartialEq, Eq)]
+#[derive(Clone, Copy, Debug)]
 pub struct PageHead {
     /// The sequence of the record.
     pub sequence: u64,

@@ -15,10 +15,10 @@ mod tool_calls;
 
 use anyhow::{Context, Result};
 use error::RowError;
+use host_files::{HostFiles, ImageFiles};
 use nodes::run_with_nodes;
 use row::{Row, Side};
 use runs::{append_difference, run_on_flash, run_on_image, run_plain};
-use shell::{HostFiles, ImageFiles};
 use std::fs::File;
 use std::process::ExitCode;
 use std::rt::{Env, Files};

@@ -11,7 +11,7 @@ use allocator::Ring;
 use flash_model::{Flash, SimFlash};
 use fs_types::Answer;
 use script::{Line, LineAnswer, print_answer, read_line};
-use shell::carry_out;
+use script_runs::carry_out;
 use std::alloc::Global;
 use undofs::{System, mount_with};
 

@@ -7,9 +7,11 @@ use crate::tool_calls::append_given;
 use flash_image::decode;
 use flash_model::SimFlash;
 use fs_types::{Answer, Fault, Reply};
+use host_files::{ImageFiles, Sources};
 use plain_machine::{PlainMachine, Space};
 use script::{Line, LineAnswer, print_answer, read_line};
-use shell::{ImageFiles, Sources, run_script, tool};
+use script_runs::run_script;
+use shell::tool;
 use std::alloc::{AllocError, Global};
 use undofs::format;
 

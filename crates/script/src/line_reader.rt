@@ -1,5 +1,6 @@
 //! Lines from a reader, and text to a writer.
-ghost use Rattle.std.specs.Prelude.{◌≡◌, ◌≢◌, ℕ, ◌<◌, ◌≤◌, List, [], ◌∷◌, ◌++◌, length, take, vec_len, vec_capacity, MatchResult, OnOk, OnErr, IfOk};
+ghost use Rattle.std.specs.Prelude.{◌≡◌, ◌≢◌, ℕ, ◌<◌, ◌≤◌, List, [], ◌∷◌, ◌++◌, length, take, vec_len, vec_capacity, MatchResult, OnOk, OnErr, IfOk, IfErr};
+ghost use Rattle.std.specs.IoError.{error_kind};
 ghost use Rattle.std.specs.Io.KnownBytes.{Consumes, IsAtEnd, Appends, Keeps};
 ghost use Rattle.script.specs.Streams.{TakesByte, TakesRest, TakesPart, TakesLineBytes, TakesLines};
 ghost use Rattle.script.specs.declared.line_reader.Taken.TheVariants.{TooLong};
@@ -23,9 +24,10 @@ pub enum Taken {
 
 /// Reads a byte, and tries again where a signal interrupts.
 fn read_byte<R: Read>(reader: &mut R) -> io::Result<Option<u8>>
-    ensures { MatchResult result
+    ensures taken { MatchResult result
         (TakesByte (R.remaining reader.old) (R.remaining reader.new))
         (λ _. Keeps (R.remaining reader.old) (R.remaining reader.new)) }
+    ensures again { IfErr result (λ e. error_kind e ≢ ErrorKind.Interrupted) }
 {
     let mut byte = [0u8];
     for _ in 0..u64::MAX {
@@ -39,14 +41,15 @@ fn read_byte<R: Read>(reader: &mut R) -> io::Result<Option<u8>>
             }
         }
     }
-    Err(io::Error::from(ErrorKind::Interrupted))
+    Err(io::Error::from(ErrorKind::Other))
 }
 
 /// Reads past the rest of a line.
 fn skip_line<R: Read>(reader: &mut R) -> io::Result<()>
-    ensures { MatchResult result
+    ensures rest { MatchResult result
         (λ _. (bytes : List ℕ) × TakesRest (R.remaining reader.old) (R.remaining reader.new) bytes)
         (λ _. TakesPart (R.remaining reader.old) (R.remaining reader.new)) }
+    ensures again { IfErr result (λ e. error_kind e ≢ ErrorKind.Interrupted) }
 {
     for _ in 0..u64::MAX {
         let Some(byte) = read_byte(reader)? else {
@@ -56,7 +59,7 @@ fn skip_line<R: Read>(reader: &mut R) -> io::Result<()>
             return Ok(());
         }
     }
-    Err(io::Error::from(ErrorKind::Interrupted))
+    Err(io::Error::from(ErrorKind::Other))
 }
 
 /// Reads past the rest of a line that is too long.
@@ -65,6 +68,7 @@ fn skip_long<R: Read>(reader: &mut R) -> io::Result<Taken>
     ensures rest { MatchResult result
         (λ _. (bytes : List ℕ) × TakesRest (R.remaining reader.old) (R.remaining reader.new) bytes)
         (λ _. TakesPart (R.remaining reader.old) (R.remaining reader.new)) }
+    ensures again { IfErr result (λ e. error_kind e ≢ ErrorKind.Interrupted) }
 {
     skip_line(reader)?;
     Ok(Taken::TooLong)
@@ -76,6 +80,7 @@ fn fill_line<R: Read>(buffer: &mut Vec<u8>, reader: &mut R) -> io::Result<Taken>
     requires room { LINE_LIMIT ≤ vec_capacity buffer.old }
     ensures room { LINE_LIMIT ≤ vec_capacity buffer.new }
     ensures taken { TakesLineBytes (R.remaining reader.old) (R.remaining reader.new) result buffer.new.items }
+    ensures again { IfErr result (λ e. error_kind e ≢ ErrorKind.Interrupted) }
 {
     loop {
         let Some(byte) = read_byte(reader)? else {
@@ -123,10 +128,12 @@ impl LineReader {
     }
 
     /// Takes the next line from a reader. It ends with LF, and the last one may end with the input;
-    /// of one that is too long nothing is kept. After an error a part of a line may be lost.
+    /// of one that is too long nothing is kept. After an error a part of a line may be lost. A signal
+    /// is no error: it is read again.
     pub fn next_line<R: Read>(&mut self, reader: &mut R) -> io::Result<Taken>
         ensures taken { TakesLineBytes (R.remaining reader.old) (R.remaining reader.new) result self.new }
         ensures lines { TakesLines (R.remaining reader.old) (R.remaining reader.new) result self.new }
+        ensures again { IfErr result (λ e. error_kind e ≢ ErrorKind.Interrupted) }
     {
         self.buffer.clear();
         fill_line(&mut self.buffer, reader)
@@ -145,6 +152,7 @@ fn write_some<W: Write>(writer: &mut W, bytes: &[u8]) -> io::Result<usize>
     ensures bound { IfOk result (λ n. n ≤ length bytes.now) }
     ensures ok { IfOk result (λ n. Appends (W.contents writer.old) (W.contents writer.new) (take n bytes.now)) }
     ensures err { OnErr result (Keeps (W.contents writer.old) (W.contents writer.new)) }
+    ensures again { IfErr result (λ e. error_kind e ≢ ErrorKind.Interrupted) }
 {
     for _ in 0..u64::MAX {
         match writer.write(bytes) {
@@ -156,13 +164,15 @@ fn write_some<W: Write>(writer: &mut W, bytes: &[u8]) -> io::Result<usize>
             }
         }
     }
-    Err(io::Error::from(ErrorKind::Interrupted))
+    Err(io::Error::from(ErrorKind::Other))
 }
 
-/// Writes all of the bytes. Where that fails, a beginning of them was written.
+/// Writes all of the bytes. Where that fails, a beginning of them was written. A signal is no failure:
+/// it is written again.
 pub fn write_out<W: Write>(writer: &mut W, bytes: &[u8]) -> io::Result<()>
     ensures ok { OnOk result (Appends (W.contents writer.old) (W.contents writer.new) bytes.now) }
     ensures err { OnErr result ((n : ℕ) × Appends (W.contents writer.old) (W.contents writer.new) (take n bytes.now)) }
+    ensures again { IfErr result (λ e. error_kind e ≢ ErrorKind.Interrupted) }
 {
     let mut written = 0;
     while written < bytes.len() {

@@ -2,7 +2,8 @@
 use crate::shows::Shows;
 use crate::trees::{Root, below, path_of};
 use fs_types::{Call, CpName, Fault, Name, Reply, Stat, Version};
-use plain_machine::{Node, PlainMachine, Tree};
+use memory_trees::{Node, Tree};
+use plain_machine::PlainMachine;
 use std::alloc::Global;
 use std::collections::BTreeMap;
 

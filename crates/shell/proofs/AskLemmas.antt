@@ -1,24 +1,24 @@
 -- How what is asked of an image ends, by how its parts do.
-use Rattle.std.proofs.Common.{◌≡◌, ◌⊎◌, ℕ, Option, Result, Ok, Err, List, IfErr, OnOk, IfSome, take, inl, inr, refl, sym, subst, ap, ◌∙◌}
+use Rattle.std.proofs.Common.{◌≡◌, ◌⊎◌, ℕ, false, Option, Result, Ok, Err, List, IfErr, OnOk, IfSome, take, inl, inr, refl, sym, subst, ap, ◌∙◌}
 use Rattle.std.specs.Io.KnownBytes.{Appends}
 use Rattle.fs_types.specs.Names.{Path}
 use Rattle.fs_types.specs.declared.call.View.{View}
 use Rattle.inquiries.specs.declared.inquiry.Inquiry.{Inquiry}
 use Rattle.shell.specs.Asking.{IsMisspelled, file_at, file_in, tree_in, differences_between, differences_from}
-use Rattle.shell.specs.Files.{Held}
+use Rattle.host_files.specs.Files.{Held, takes_away}
 use Rattle.shell.specs.Tools.{IsTold, IsUnclaimed, Unsaved, GetEnds, TellEnds}
 use Rattle.shell.specs.declared.failure.Failure.{Failure}
 
 -- the bytes that are told are put into a file
 pub got_saved : (spelled : Result Inquiry Failure) (name file : List ℕ) (held saved : Held) (inquiry : Inquiry) (bytes lent : List ℕ) (result : Result (Unit {0}) Failure)
-    → spelled ≡ Ok inquiry → IsTold (held name) inquiry bytes → lent ≡ bytes → OnOk result (IfSome (saved file) (λ all. all ≡ lent))
+    → takes_away file name ≡ false → spelled ≡ Ok inquiry → IsTold (held name) inquiry bytes → lent ≡ bytes → OnOk result (IfSome (saved file) (λ all. all ≡ lent))
     → IfErr result (λ failure. (IsUnclaimed failure × (saved ≡ held)) ⊎ Unsaved (held file) (saved file) lent failure)
     → GetEnds spelled name file held saved result
-got_saved spelled name file held saved inquiry bytes lent (Ok done) is told same ok err =
-    (lent, record { inquiry = inquiry; is = is; told = subst (IsTold (held name) inquiry) (sym same) told }, ok)
-got_saved spelled name file held saved inquiry bytes lent (Err failure) is told same ok err = elim err [
-  | inl unclaimed ↦ inl (inr unclaimed.0, unclaimed.1)
-  | inr unsaved ↦ inr (lent, record { inquiry = inquiry; is = is; told = subst (IsTold (held name) inquiry) (sym same) told }, unsaved)
+got_saved spelled name file held saved inquiry bytes lent (Ok done) apart is told same ok err =
+    (apart, (lent, record { inquiry = inquiry; is = is; told = subst (IsTold (held name) inquiry) (sym same) told }, ok))
+got_saved spelled name file held saved inquiry bytes lent (Err failure) apart is told same ok err = elim err [
+  | inl unclaimed ↦ inl unclaimed
+  | inr unsaved ↦ inr (apart, inr (lent, record { inquiry = inquiry; is = is; told = subst (IsTold (held name) inquiry) (sym same) told }, unsaved))
 ]
 
 -- they are written

@@ -1,5 +1,5 @@
 -- How what is done on an image ends, by how its parts do.
-use Rattle.std.proofs.Common.{◌≡◌, ◌<◌, ℕ, Bool, Option, Some, None, Result, Ok, Err, List, IfErr, OnOk, take, codes, inl, inr, refl, sym, ◌∙◌, subst, arith}
+use Rattle.std.proofs.Common.{◌≡◌, ◌<◌, ◌⊎◌, ℕ, Bool, Option, Some, None, Result, Ok, Err, List, IfErr, OnOk, take, codes, inl, inr, refl, sym, ◌∙◌, subst, arith}
 use Rattle.std.specs.Io.KnownBytes.{Appends}
 use Rattle.fs_types.specs.declared.limits.TheConstants.{MIN_VERSIONS, MAX_VERSIONS}
 use Rattle.fs_types.specs.declared.fault.Fault.{Fault}
@@ -14,9 +14,9 @@ use Rattle.mounting.specs.Formats.{FormatCause}
 use Rattle.system.specs.Mounts.{IsMountOf}
 use Rattle.system.specs.declared.systems.System.{System}
 use Rattle.shell.specs.Failures.{of_system}
-use Rattle.shell.specs.Files.{Held, AreBytesRead}
-use Rattle.shell.specs.Memory.{IsNewFlash}
-use Rattle.shell.specs.Tools.{AreLawful, IsDecoded, DecodeCause, IsUnread, IsSpelledFlash, LoadCause, IsImageFile, Unsaved, SavesChange, ChangeUnsaved, IsMade, FormatEnds, FormatFailure, PlaysBy, Plays, RunEnds, CheckEnds}
+use Rattle.host_files.specs.Files.{Held, AreBytesRead}
+use Rattle.script_runs.specs.Flashes.{IsNewFlash, AreLawful, IsDecoded, IsMade}
+use Rattle.shell.specs.Tools.{DecodeCause, IsUnclaimed, IsUnread, IsSpelledFlash, LoadCause, IsImageFile, Unsaved, SavesChange, ChangeUnsaved, FormatEnds, FormatFailure, PlaysBy, Plays, RunEnds, CheckEnds}
 use Rattle.shell.specs.declared.failure.Failure.{Failure}
 
 -- a limit that is not refused
@@ -81,44 +81,52 @@ plays_front stop held bytes front input left (Err failure) old new (inl (cause, 
 plays_front stop held bytes front input left (Err failure) old new (inr (start, end, ended, decoded, ends, is)) = inr (start, end, ended, loaded_front held bytes front start decoded, ends, is)
 
 -- a run ends so whatever the files hold that were claimed, since a claim changes none
-after_claim : (stop : Bool) (name : List ℕ) (held claimed saved : Held) (input left : Option (List ℕ)) (result : Result (Unit {0}) Failure) (old new : Option (List ℕ))
-    → claimed ≡ held → RunEnds stop name claimed saved input left result old new → RunEnds stop name held saved input left result old new
-after_claim stop name held claimed saved input left result old new same ends = subst (λ (h : Held). RunEnds stop name h saved input left result old new) same ends
+after_claim : (stop : Bool) (name : List ℕ) (IsClaimed : List ℕ → Type 0) (held claimed saved : Held) (input left : Option (List ℕ)) (result : Result (Unit {0}) Failure) (old new : Option (List ℕ))
+    → claimed ≡ held → RunEnds stop name IsClaimed claimed saved input left result old new → RunEnds stop name IsClaimed held saved input left result old new
+after_claim stop name IsClaimed held claimed saved input left result old new same ends =
+    subst (λ (h : Held). RunEnds stop name IsClaimed h saved input left result old new) same ends
 
 -- what a script leaves is saved where it changed
-pub run_saved : (stop : Bool) (name : List ℕ) (held claimed saved : Held) (bytes kept : List ℕ) (input left : Option (List ℕ)) (end : SimFlash) (result : Result (Unit {0}) Failure) (old new : Option (List ℕ))
-    → claimed ≡ held → AreBytesRead (claimed name) bytes → PlaysBy stop (IsDecoded bytes) (DecodeCause bytes) input left (Ok end) old new → kept ≡ bytes
+pub run_saved : (stop : Bool) (name : List ℕ) (IsClaimed : List ℕ → Type 0) (held claimed saved : Held) (bytes kept : List ℕ) (input left : Option (List ℕ)) (end : SimFlash) (result : Result (Unit {0}) Failure) (old new : Option (List ℕ))
+    → claimed ≡ held → IsClaimed bytes → AreBytesRead (claimed name) bytes → PlaysBy stop (IsDecoded bytes) (DecodeCause bytes) input left (Ok end) old new → kept ≡ bytes
     → OnOk result (SavesChange name claimed saved kept (image_of (device_of end))) → IfErr result (ChangeUnsaved name claimed saved kept (image_of (device_of end)))
-    → RunEnds stop name held saved input left result old new
-run_saved stop name held claimed saved bytes kept input left end (Ok done) old new same front (start, decoded, ends) is ok err =
-    after_claim stop name held claimed saved input left (Ok done) old new same (
+    → RunEnds stop name IsClaimed held saved input left result old new
+run_saved stop name IsClaimed held claimed saved bytes kept input left end (Ok done) old new same held_so front (start, decoded, ends) is ok err =
+    after_claim stop name IsClaimed held claimed saved input left (Ok done) old new same (
       start,
       end,
+      subst IsClaimed decoded.spelled held_so,
       loaded_front (claimed name) bytes front start decoded,
       ends,
       subst (λ (was : List ℕ). SavesChange name claimed saved was (image_of (device_of end))) (is ∙ decoded.spelled) ok,
     )
-run_saved stop name held claimed saved bytes kept input left end (Err failure) old new same front (start, decoded, ends) is ok err =
-    after_claim stop name held claimed saved input left (Err failure) old new same (inr (
+run_saved stop name IsClaimed held claimed saved bytes kept input left end (Err failure) old new same held_so front (start, decoded, ends) is ok err =
+    after_claim stop name IsClaimed held claimed saved input left (Err failure) old new same (inr (
       start,
       end,
+      subst IsClaimed decoded.spelled held_so,
       loaded_front (claimed name) bytes front start decoded,
       ends,
       subst (λ (was : List ℕ). ChangeUnsaved name claimed saved was (image_of (device_of end)) failure) (is ∙ decoded.spelled) err,
     ))
 
 -- a script that does not run to its end changes no file
-pub run_broken : (stop : Bool) (name : List ℕ) (held claimed : Held) (bytes : List ℕ) (input left : Option (List ℕ)) (failure : Failure) (old new : Option (List ℕ))
+pub run_broken : (stop : Bool) (name : List ℕ) (IsClaimed : List ℕ → Type 0) (held claimed : Held) (bytes : List ℕ) (input left : Option (List ℕ)) (failure : Failure) (old new : Option (List ℕ))
     → claimed ≡ held → AreBytesRead (claimed name) bytes → PlaysBy stop (IsDecoded bytes) (DecodeCause bytes) input left (Err failure) old new
-    → RunEnds stop name held claimed input left (Err failure) old new
-run_broken stop name held claimed bytes input left failure old new same front plays =
-    after_claim stop name held claimed claimed input left (Err failure) old new same (inl (inr (plays_front stop (claimed name) bytes front input left (Err failure) old new plays), refl))
+    → RunEnds stop name IsClaimed held claimed input left (Err failure) old new
+run_broken stop name IsClaimed held claimed bytes input left failure old new same front plays =
+    after_claim stop name IsClaimed held claimed claimed input left (Err failure) old new same (inl (inr (plays_front stop (claimed name) bytes front input left (Err failure) old new plays), refl))
 
--- nor does one of which the image is not read
-pub run_unread : (stop : Bool) (name : List ℕ) (held claimed : Held) (input : Option (List ℕ)) (failure : Failure) (old : Option (List ℕ))
-    → claimed ≡ held → IsUnread (claimed name) failure → RunEnds stop name held claimed input input (Err failure) old old
-run_unread stop name held claimed input failure old same unread =
-    after_claim stop name held claimed claimed input input (Err failure) old old same (inl (inr (inl (cause_unread (claimed name) failure unread, refl, refl)), refl))
+-- nor does one of which the image is not claimed, or not read
+run_unread : (stop : Bool) (name : List ℕ) (IsClaimed : List ℕ → Type 0) (held claimed : Held) (input : Option (List ℕ)) (failure : Failure) (old : Option (List ℕ))
+    → claimed ≡ held → IsUnread (claimed name) failure → RunEnds stop name IsClaimed held claimed input input (Err failure) old old
+run_unread stop name IsClaimed held claimed input failure old same unread =
+    after_claim stop name IsClaimed held claimed claimed input input (Err failure) old old same (inl (inr (inl (cause_unread (claimed name) failure unread, refl, refl)), refl))
+
+pub run_untaken : (stop : Bool) (name : List ℕ) (IsClaimed : List ℕ → Type 0) (held claimed : Held) (input : Option (List ℕ)) (failure : Failure) (old : Option (List ℕ))
+    → claimed ≡ held → IsUnclaimed failure ⊎ IsUnread (claimed name) failure → RunEnds stop name IsClaimed held claimed input input (Err failure) old old
+run_untaken stop name IsClaimed held claimed input failure old same (inl unclaimed) = inl (inl (unclaimed, refl, refl), same)
+run_untaken stop name IsClaimed held claimed input failure old same (inr unread) = run_unread stop name IsClaimed held claimed input failure old same unread
 
 pub check_said : (held : Option (List ℕ)) (start end : SimFlash) (system : System) (result : Result (Unit {0}) Failure) (old new : Option (List ℕ))
     → IsSpelledFlash held start → IsMountOf (device_of start) (device_of end) system → OnOk result (Appends old new (codes "ok\n"))

@@ -1,11 +1,6 @@
 pub mod AskLemmas
-pub mod Fronts
 pub mod ImageLemmas
 pub mod MemoryWords
-pub mod PlanLemmas
 pub mod PutLemmas
-pub mod ScriptLaws
 pub mod SourceLemmas
-pub mod TakenLines
 pub mod ToolLemmas
-pub mod TurnLemmas

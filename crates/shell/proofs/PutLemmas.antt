@@ -1,9 +1,9 @@
 -- Events of a put, one after the other, and what comes of them.
-use Rattle.std.proofs.Common.{◌≡◌, ◌<◌, ◌+◌, ◌≤◌, ℕ, List, [], ◌∷◌, ◌++◌, take, drop, map, length, get_or, Option, Some, None, Result, Ok, Err, IfSome, IfErr, OnOk, ◌⊎◌, inl, inr, refl, sym, ap, ◌∙◌, subst, append_assoc, append-nil, take_all, take-append-drop}
+use Rattle.std.proofs.Common.{◌≡◌, ◌<◌, ◌+◌, ◌≤◌, ℕ, List, [], ◌∷◌, ◌++◌, take, drop, map, length, get_or, Option, Some, None, Result, Ok, Err, false, IfSome, IfErr, OnOk, ◌⊎◌, inl, inr, refl, sym, ap, ◌∙◌, subst, append_assoc, append-nil, take_all, take-append-drop}
 use Rattle.std.specs.List.{flat_map, Contains}
 use Rattle.std.proofs.lemmas.List.{take_more, map_more, map-append}
 use Rattle.std.proofs.lemmas.List.Concat.{flat_map-append}
-use Rattle.std.proofs.lemmas.List.Elements.{Contains-push, Contains-append_left}
+use Rattle.std.proofs.lemmas.List.Elements.{All-push, Contains-push, Contains-append_left}
 use Rattle.history_machine.specs.History.{Past}
 use Rattle.plain_trees.specs.Trees.{Tree}
 use Rattle.fs_types.specs.Names.{Path, path_refusal}
@@ -20,16 +20,18 @@ use Rattle.undofs.specs.Runs.{World, Happens, Run}
 use Rattle.undofs.specs.Sessions.{Stands, world}
 use Rattle.undofs.proofs.SessionSteps.{mount_begins, serve_law}
 use Rattle.shell.specs.Failures.{of_refusal}
-use Rattle.shell.specs.Files.{Held, AreBytesRead}
+use Rattle.host_files.specs.Files.{Held, AreBytesRead, takes_away}
 use Rattle.shell.specs.Puts.{thing_events, group_start, group_end, put_events, stop_of, GoOn, StopLast, IsThingBy, IsThing, AreThings, Puts, Stops, IsUnput, PlaceCause, PutsBy, PutCause, GatherCause, SpellingCause, path_spelled}
 use Rattle.shell.specs.Served.{Place, place, Turns, ServesAll, Halts, ServesPut, PutsOne, PutsEach, PutsAll}
-use Rattle.shell.specs.Sources.{Found, source_found, put_place, way_fault, kind_fault, either_fault, source_fault, Unplaced}
-use Rattle.shell.specs.Tools.{IsDecoded, DecodeCause, IsUnclaimed, IsUnread, IsSpelledFlash, LoadCause, SavesChange, ChangeUnsaved, SourcesEnd}
+use Rattle.host_files.specs.Sources.{Found, source_found}
+use Rattle.shell.specs.Places.{put_place, way_fault, kind_fault, either_fault, source_fault, Unplaced, AreOthers}
+use Rattle.script_runs.specs.Flashes.{IsDecoded}
+use Rattle.shell.specs.Tools.{DecodeCause, IsUnclaimed, IsUnread, IsSpelledFlash, LoadCause, SavesChange, ChangeUnsaved, SourcesEnd}
 use Rattle.shell.specs.declared.failure.Failure.{Failure}
 use Rattle.shell.specs.declared.put.Mounted.{Mounted}
-use Rattle.shell.specs.declared.scripts.Refusal.{Refusal}
-use Rattle.shell.specs.declared.source.Source.{Source}
-use Rattle.shell.specs.declared.source.SourceKind.{SourceKind}
+use Rattle.script_runs.specs.declared.scripts.Refusal.{Refusal}
+use Rattle.host_files.specs.declared.source.Source.{Source}
+use Rattle.host_files.specs.declared.source.SourceKind.{SourceKind}
 use Rattle.shell.specs.declared.thing.Thing.{Thing}
 use Rattle.shell.proofs.ImageLemmas.{loaded_front, cause_front, cause_unread}
 
@@ -249,6 +251,7 @@ file_thing held base found bytes lawful other front = (lawful, by_kind found.kin
     by_kind SourceKind.Crowded h other = absurd cc
     by_kind SourceKind.Link h other = absurd cc
     by_kind SourceKind.Special h other = absurd cc
+    by_kind SourceKind.Image h other = absurd cc
     by_kind SourceKind.Unreadable h other = absurd cc
 
 pub folder_thing : (held : Held) (base : Path) (found : Found) → source_fault base found ≡ None → found.kind ≡ SourceKind.Folder → IsThing held base found (Thing.Directory (put_place base found))
@@ -300,50 +303,66 @@ put_cause held name bytes front base all failure (inr (inr (inr (inr (start, fir
     inr (inr (inr (inr (start, first, later, things, refusal, loaded_front (held name) bytes front start there, parts, are, stops, why))))
 
 -- sources are put so whatever the files hold that were claimed, since a claim changes none
-once_claimed : (name : List ℕ) (base : Path) (all : List Found) (held claimed saved : Held) (result : Result (Unit {0}) Failure) → claimed ≡ held → SourcesEnd name base all claimed saved result
-    → SourcesEnd name base all held saved result
-once_claimed name base all held claimed saved result same ends = subst (λ (h : Held). SourcesEnd name base all h saved result) same ends
+once_claimed : (name : List ℕ) (IsClaimed : List ℕ → Type 0) (base : Path) (all : List Found) (held claimed saved : Held) (result : Result (Unit {0}) Failure) → claimed ≡ held → SourcesEnd name IsClaimed base all claimed saved result
+    → SourcesEnd name IsClaimed base all held saved result
+once_claimed name IsClaimed base all held claimed saved result same ends = subst (λ (h : Held). SourcesEnd name IsClaimed base all h saved result) same ends
 
-pub sources_unclaimed : (name : List ℕ) (base : Path) (all : List Found) (held claimed : Held) (failure : Failure) → claimed ≡ held → IsUnclaimed failure
-    → SourcesEnd name base all held claimed (Err failure)
-sources_unclaimed name base all held claimed failure same cause = inl (inl cause, same)
+sources_unclaimed : (name : List ℕ) (IsClaimed : List ℕ → Type 0) (base : Path) (all : List Found) (held claimed : Held) (failure : Failure) → claimed ≡ held → IsUnclaimed failure
+    → SourcesEnd name IsClaimed base all held claimed (Err failure)
+sources_unclaimed name IsClaimed base all held claimed failure same cause = inl (inl cause, same)
 
-pub sources_unread : (name : List ℕ) (base : Path) (all : List Found) (held claimed : Held) (failure : Failure) → claimed ≡ held → IsUnread (claimed name) failure
-    → SourcesEnd name base all held claimed (Err failure)
-sources_unread name base all held claimed failure same unread =
-    once_claimed name base all held claimed claimed (Err failure) same (inl (inr (inl (cause_unread (claimed name) failure unread)), refl))
+sources_unread : (name : List ℕ) (IsClaimed : List ℕ → Type 0) (base : Path) (all : List Found) (held claimed : Held) (failure : Failure) → claimed ≡ held → IsUnread (claimed name) failure
+    → SourcesEnd name IsClaimed base all held claimed (Err failure)
+sources_unread name IsClaimed base all held claimed failure same unread =
+    once_claimed name IsClaimed base all held claimed claimed (Err failure) same (inl (inr (inl (cause_unread (claimed name) failure unread)), refl))
 
-pub sources_unput : (name : List ℕ) (base : Path) (all : List Found) (held claimed : Held) (bytes : List ℕ) (failure : Failure) → claimed ≡ held → AreBytesRead (claimed name) bytes
-    → PutCause (IsDecoded bytes) (DecodeCause bytes) claimed base all failure → SourcesEnd name base all held claimed (Err failure)
-sources_unput name base all held claimed bytes failure same front cause =
-    once_claimed name base all held claimed claimed (Err failure) same (inl (inr (put_cause claimed name bytes front base all failure cause), refl))
+pub sources_untaken : (name : List ℕ) (IsClaimed : List ℕ → Type 0) (base : Path) (all : List Found) (held claimed : Held) (failure : Failure) → claimed ≡ held
+    → IsUnclaimed failure ⊎ IsUnread (claimed name) failure → SourcesEnd name IsClaimed base all held claimed (Err failure)
+sources_untaken name IsClaimed base all held claimed failure same (inl unclaimed) = sources_unclaimed name IsClaimed base all held claimed failure same unclaimed
+sources_untaken name IsClaimed base all held claimed failure same (inr unread) = sources_unread name IsClaimed base all held claimed failure same unread
 
-pub sources_saved : (name : List ℕ) (base : Path) (all : List Found) (held claimed saved : Held) (bytes kept : List ℕ) (start end : SimFlash) (result : Result (Unit {0}) Failure) → claimed ≡ held
-    → AreBytesRead (claimed name) bytes → PutsBy (IsDecoded bytes) claimed base all start end → kept ≡ bytes → OnOk result (SavesChange name claimed saved kept (image_of (device_of end)))
-    → IfErr result (ChangeUnsaved name claimed saved kept (image_of (device_of end))) → SourcesEnd name base all held saved result
-sources_saved name base all held claimed saved bytes kept start end (Ok done) same front puts is ok err =
-    once_claimed name base all held claimed saved (Ok done) same (
+pub sources_unput : (name : List ℕ) (IsClaimed : List ℕ → Type 0) (base : Path) (all : List Found) (held claimed : Held) (bytes : List ℕ) (failure : Failure) → claimed ≡ held → AreBytesRead (claimed name) bytes
+    → PutCause (IsDecoded bytes) (DecodeCause bytes) claimed base all failure → SourcesEnd name IsClaimed base all held claimed (Err failure)
+sources_unput name IsClaimed base all held claimed bytes failure same front cause =
+    once_claimed name IsClaimed base all held claimed claimed (Err failure) same (inl (inr (put_cause claimed name bytes front base all failure cause), refl))
+
+pub sources_saved : (name : List ℕ) (IsClaimed : List ℕ → Type 0) (base : Path) (all : List Found) (held claimed saved : Held) (bytes kept : List ℕ) (start end : SimFlash) (result : Result (Unit {0}) Failure) → claimed ≡ held
+    → IsClaimed bytes → AreBytesRead (claimed name) bytes → PutsBy (IsDecoded bytes) claimed base all start end → kept ≡ bytes → OnOk result (SavesChange name claimed saved kept (image_of (device_of end)))
+    → IfErr result (ChangeUnsaved name claimed saved kept (image_of (device_of end))) → SourcesEnd name IsClaimed base all held saved result
+sources_saved name IsClaimed base all held claimed saved bytes kept start end (Ok done) same held_so front puts is ok err =
+    once_claimed name IsClaimed base all held claimed saved (Ok done) same (
       start,
       end,
+      subst IsClaimed puts.1.spelled held_so,
       puts_front claimed name bytes front base all start end puts,
       subst (λ (was : List ℕ). SavesChange name claimed saved was (image_of (device_of end))) (is ∙ puts.1.spelled) ok,
     )
-sources_saved name base all held claimed saved bytes kept start end (Err failure) same front puts is ok err =
-    once_claimed name base all held claimed saved (Err failure) same (inr (
+sources_saved name IsClaimed base all held claimed saved bytes kept start end (Err failure) same held_so front puts is ok err =
+    once_claimed name IsClaimed base all held claimed saved (Err failure) same (inr (
       start,
       end,
+      subst IsClaimed puts.1.spelled held_so,
       puts_front claimed name bytes front base all start end puts,
       subst (λ (was : List ℕ). ChangeUnsaved name claimed saved was (image_of (device_of end)) failure) (is ∙ puts.1.spelled) err,
     ))
 
 -- ---- the words
 
-pub unspelled : (held : Held) (gathered : Option (List Found)) (word : List ℕ) (failure : Failure) → SpellingCause word failure → GatherCause held gathered word failure
-unspelled held gathered word failure (inl memory) = inl memory
-unspelled held gathered word failure (inr refused) = inr (inl refused)
+pub unspelled : (image : List ℕ) (gathered : Option (List Found)) (word : List ℕ) (failure : Failure) → SpellingCause word failure → GatherCause image gathered word failure
+unspelled image gathered word failure (inl memory) = inl memory
+unspelled image gathered word failure (inr refused) = inr (inl refused)
 
-pub unplaced : (held : Held) (gathered : Option (List Found)) (word : List ℕ) (base : Path) (failure : Failure) → path_spelled word ≡ Ok base
-    → (failure ≡ Failure.Memory) ⊎ ((all : List Found) × IfSome gathered (λ found. all ≡ found) × PlaceCause base all failure) → GatherCause held gathered word failure
-unplaced held gathered word base failure spelled (inl memory) = inl memory
-unplaced held gathered word base failure spelled (inr (all, known, (found, there, cause))) =
-    inr (inr (base, all, record { spelled = spelled; known = known }, (found, there, unput_unplaced held base found failure cause)))
+pub unplaced : (image : List ℕ) (gathered : Option (List Found)) (word : List ℕ) (base : Path) (failure : Failure) → path_spelled word ≡ Ok base
+    → (failure ≡ Failure.Memory) ⊎ ((all : List Found) × IfSome gathered (λ found. all ≡ found) × PlaceCause image base all failure) → GatherCause image gathered word failure
+unplaced image gathered word base failure spelled (inl memory) = inl memory
+unplaced image gathered word base failure spelled (inr (all, known, cause)) = inr (inr (base, all, record { spelled = spelled; known = known }, cause))
+
+-- the first sources are not the image's own, and nor is the next one
+pub others_next : (image : List ℕ) (sources : List Source) (i : ℕ) (source : Source) → i < length sources → source ≡ get_or sources i source
+    → AreOthers image (map source_found (take i sources)) → takes_away image (source_found source).name ≡ false → AreOthers image (map source_found (take (i + 1) sources))
+others_next image sources i source below is others one =
+    subst (λ (x : List Found). AreOthers image x) (sym (found_more sources i source below is))
+    (All-push (λ (found : Found). takes_away image found.name ≡ false) (map source_found (take i sources)) (source_found source) others one)
+
+pub others_all : (image : List ℕ) (sources : List Source) (i : ℕ) → length sources ≤ i → AreOthers image (map source_found (take i sources)) → AreOthers image (map source_found sources)
+others_all image sources i over others = subst (λ (x : List Source). AreOthers image (map source_found x)) (take_all i sources over) others

@@ -2,9 +2,9 @@
 use Rattle.std.specs.Prelude.{ℕ, Result, Ok, Err}
 use Rattle.fs_types.specs.declared.fault.Fault.{Fault}
 use Rattle.flash_image.specs.declared.image_fault.ImageFault.{ImageFault}
-use Rattle.shell.specs.declared.scripts.ScriptFault.{ScriptFault}
+use Rattle.script_runs.specs.declared.scripts.ScriptFault.{ScriptFault}
 use Rattle.shell.specs.declared.failure.Failure.{Failure}
-use Rattle.shell.specs.declared.scripts.Refusal.{Refusal}
+use Rattle.script_runs.specs.declared.scripts.Refusal.{Refusal}
 
 -- a refused system; want of memory is told alike wherever it comes
 abbrev pub of_system : Fault → Failure
@@ -40,3 +40,13 @@ failure_status _ = 1
 abbrev pub job_status : Result (Unit {0}) Failure → ℕ
 job_status (Ok done) = 0
 job_status (Err failure) = failure_status failure
+
+-- the status of a script: 1 where the input, the output or memory failed, and 3 where the system was refused
+abbrev pub fault_status : ScriptFault → ℕ
+fault_status (ScriptFault.Mount Fault.NoMemory) = 1
+fault_status (ScriptFault.Mount _) = 3
+fault_status _ = 1
+
+abbrev pub status_of : Result (Unit {0}) ScriptFault → ℕ
+status_of (Ok done) = 0
+status_of (Err fault) = fault_status fault

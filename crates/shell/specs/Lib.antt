@@ -1,11 +1,6 @@
 pub mod Asking
 pub mod Failures
-pub mod Files
-pub mod Memory
-pub mod Plans
+pub mod Places
 pub mod Puts
-pub mod Scripts
 pub mod Served
-pub mod Sources
 pub mod Tools
-pub mod Turns

@@ -16,13 +16,14 @@ use Rattle.script.specs.declared.line.Line.{Line}
 use Rattle.undofs.specs.Runs.{World}
 use Rattle.undofs.specs.Sessions.{Session}
 use Rattle.shell.specs.Failures.{of_system, of_refusal}
-use Rattle.shell.specs.Files.{Held, AreBytesRead}
-use Rattle.shell.specs.Scripts.{IsUnmounted}
-use Rattle.shell.specs.Sources.{Found, put_place, source_fault, Unplaced}
+use Rattle.host_files.specs.Files.{Held, AreBytesRead}
+use Rattle.script_runs.specs.Scripts.{IsUnmounted}
+use Rattle.host_files.specs.Sources.{Found}
+use Rattle.shell.specs.Places.{put_place, source_fault, IsMisplaced}
 use Rattle.shell.specs.declared.failure.Failure.{Failure}
-use Rattle.shell.specs.declared.scripts.Refusal.{Refusal}
-use Rattle.shell.specs.declared.source.SourceFault.{SourceFault}
-use Rattle.shell.specs.declared.source.SourceKind.{SourceKind}
+use Rattle.script_runs.specs.declared.scripts.Refusal.{Refusal}
+use Rattle.shell.specs.declared.place.SourceFault.{SourceFault}
+use Rattle.host_files.specs.declared.source.SourceKind.{SourceKind}
 use Rattle.shell.specs.declared.thing.Thing.{Thing}
 
 -- the events that put a thing: a directory is made, and has to be there then; a file is made or emptied, and its bytes are
@@ -124,9 +125,9 @@ IsUnput held base found Failure.Memory = Unit {0}
 IsUnput held base found (Failure.Source fault) = (source_fault base found ≡ Some fault) ⊎ ((fault ≡ SourceFault.Unreadable) × (held found.name ≡ None))
 IsUnput held base found _ = ⊥
 
--- one of the sources has no place
-abbrev pub PlaceCause : Path → List Found → Failure → Type 0
-PlaceCause base all failure = (found : Found) × Contains all found × Unplaced base found failure
+-- one of the sources has no place, or the image's own name
+abbrev pub PlaceCause : List ℕ → Path → List Found → Failure → Type 0
+PlaceCause image base all failure = (found : Found) × Contains all found × IsMisplaced image base found failure
 
 -- one of them is not put
 abbrev pub SourceCause : Held → Path → List Found → Failure → Type 0
@@ -156,5 +157,5 @@ pub record IsAsked (gathered : Option (List Found)) (word : List ℕ) (base : Pa
   pub known : IfSome gathered (λ found. all ≡ found)
 
 -- why nothing is asked for that is to be put: memory was wanted, the word spells no path, or a source is not to be put
-abbrev pub GatherCause : Held → Option (List Found) → List ℕ → Failure → Type 0
-GatherCause held gathered word failure = (failure ≡ Failure.Memory) ⊎ ((path_spelled word ≡ Err failure) ⊎ ((base : Path) × (all : List Found) × IsAsked gathered word base all × SourceCause held base all failure))
+abbrev pub GatherCause : List ℕ → Option (List Found) → List ℕ → Failure → Type 0
+GatherCause image gathered word failure = (failure ≡ Failure.Memory) ⊎ ((path_spelled word ≡ Err failure) ⊎ ((base : Path) × (all : List Found) × IsAsked gathered word base all × PlaceCause image base all failure))

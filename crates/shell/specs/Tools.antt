@@ -24,29 +24,25 @@ use Rattle.system.specs.Mounts.{IsMountOf}
 use Rattle.system.specs.declared.systems.System.{System}
 use Rattle.inquiries.specs.declared.inquiry.Inquiry.{Inquiry}
 use Rattle.shell.specs.Asking.{file_spelled, tree_spelled, differences_spelled, IsMisspelled, IsToldBy, UntoldBy}
-use Rattle.shell.specs.Failures.{of_script, of_system, job_status}
-use Rattle.shell.specs.Files.{Held, KeepsOthers}
-use Rattle.shell.specs.Memory.{memory_sizes, status_of, IsNewFlash, IsFormatOf, EndsInMemory}
+use Rattle.shell.specs.Failures.{of_script, of_system, job_status, status_of}
+use Rattle.host_files.specs.Files.{Held, KeepsOthers, takes_away}
+use Rattle.script_runs.specs.Flashes.{IsNewFlash, IsFormatOf, IsMade}
+use Rattle.script_runs.specs.Memory.{memory_sizes, EndsInMemory}
 use Rattle.shell.specs.Puts.{PutsBy, PutCause, IsAsked, GatherCause}
-use Rattle.shell.specs.Scripts.{IsUnmounted, ScriptEnds}
-use Rattle.shell.specs.Sources.{Found, Gathered}
-use Rattle.shell.specs.declared.image_files.TheConstants.{MOST_BYTES}
+use Rattle.script_runs.specs.Scripts.{IsUnmounted, ScriptEnds}
+use Rattle.host_files.specs.Sources.{Found, Gathered}
+use Rattle.shell.specs.Places.{AreOthers}
+use Rattle.host_files.specs.declared.image_files.TheConstants.{MOST_BYTES}
 use Rattle.shell.specs.declared.failure.Failure.{Failure}
-use Rattle.shell.specs.declared.scripts.Refusal.{Refusal}
-use Rattle.shell.specs.declared.scripts.ScriptFault.{ScriptFault}
-use Rattle.shell.specs.declared.scripts.Stop.{Stop}
+use Rattle.script_runs.specs.declared.scripts.Refusal.{Refusal}
+use Rattle.script_runs.specs.declared.scripts.ScriptFault.{ScriptFault}
+use Rattle.script_runs.specs.declared.scripts.Stop.{Stop}
 
 -- why the bytes of a file are not had: it is not read, and then they are not known; or for want of memory
 abbrev pub IsUnread : Option (List ℕ) → Failure → Type 0
 IsUnread held Failure.CannotRead = held ≡ None
 IsUnread held Failure.Memory = Unit {0}
 IsUnread held _ = ⊥
-
--- the flash that bytes spell, with its power on and no fault planned
-pub record IsDecoded (bytes : List ℕ) (flash : SimFlash) : Type 0 where
-  pub spelled : bytes ≡ image_of (device_of flash)
-  pub ready : IsFresh (device_of flash)
-  pub plan : plan_of flash ≡ plan_of_entries []
 
 -- why bytes give no flash: for want of memory, or by their fault
 abbrev pub DecodeCause : List ℕ → Failure → Type 0
@@ -93,12 +89,6 @@ SavesChange name held saved was image = ((image ≡ was) × (saved ≡ held)) �
 abbrev pub ChangeUnsaved : List ℕ → Held → Held → List ℕ → List ℕ → Failure → Type 0
 ChangeUnsaved name held saved was image failure = ((failure ≡ Failure.Memory) ⊎ (image ≢ was)) × Unsaved (held name) (saved name) image failure
 
--- sizes and a limit that a format takes
-pub record AreLawful (sizes : Geometry) (limit : ℕ) : Type 0 where
-  pub geometry : IsGeometry sizes
-  pub least : MIN_VERSIONS ≤ limit
-  pub most : limit ≤ MAX_VERSIONS
-
 -- why no image is made: its name is not claimed, or for want of memory; or the sizes or the limit are refused, or a format is
 abbrev pub FormatFailure : Geometry → ℕ → Failure → Type 0
 FormatFailure sizes limit Failure.Unavailable = Unit {0}
@@ -106,10 +96,6 @@ FormatFailure sizes limit Failure.Memory = Unit {0}
 FormatFailure sizes limit (Failure.System fault) = ((fault ≡ Fault.BadGeometry) × (IsGeometry sizes → ⊥))
     ⊎ ((start : SimFlash) × (end : SimFlash) × IsNewFlash sizes start × FormatCause (device_of start) limit fault (device_of end))
 FormatFailure sizes limit _ = ⊥
-
--- a new flash of lawful sizes that was formatted for a lawful limit
-abbrev pub IsMade : Geometry → ℕ → SimFlash → Type 0
-IsMade sizes limit flash = (start : SimFlash) × AreLawful sizes limit × IsNewFlash sizes start × IsFormatOf limit start flash
 
 -- a file is the image of a new flash of these sizes that was formatted; else no image is made and it is as it was, or one is
 -- made and not written, or not for good
@@ -141,14 +127,14 @@ Plays stop held = PlaysBy stop (IsSpelledFlash held) (LoadCause held)
 abbrev pub BreaksOff : Bool → Option (List ℕ) → Option (List ℕ) → Option (List ℕ) → Failure → Option (List ℕ) → Option (List ℕ) → Type 0
 BreaksOff stop held input left failure old new = (IsUnclaimed failure × (left ≡ input) × (new ≡ old)) ⊎ Plays stop held input left (Err failure) old new
 
--- a script is run on the image of a name: at its end the file is the image of the flash that is left, and no file changes where
--- it was that before, as after a script that programmed and erased nothing. Else no file changes, or the image that is left is not
--- written, or not for good
-abbrev pub RunEnds : Bool → List ℕ → Held → Held → Option (List ℕ) → Option (List ℕ) → Result (Unit {0}) Failure → Option (List ℕ) → Option (List ℕ) → Type 0
-RunEnds stop name held saved input left (Ok done) old new = (start : SimFlash) × (end : SimFlash) × IsSpelledFlash (held name) start × ScriptEnds stop start end input left (Ok None) old new
-    × SavesChange name held saved (image_of (device_of start)) (image_of (device_of end))
-RunEnds stop name held saved input left (Err failure) old new = (BreaksOff stop (held name) input left failure old new × (saved ≡ held))
-    ⊎ ((start : SimFlash) × (end : SimFlash) × IsSpelledFlash (held name) start × ScriptEnds stop start end input left (Ok None) old new
+-- a script is run on the image of a name, of which the bytes are those of the claimed file: at its end the file is the image of
+-- the flash that is left, and no file changes where it was that before, as after a script that programmed and erased nothing. Else
+-- no file changes, or the image that is left is not written, or not for good
+abbrev pub RunEnds : Bool → List ℕ → (List ℕ → Type 0) → Held → Held → Option (List ℕ) → Option (List ℕ) → Result (Unit {0}) Failure → Option (List ℕ) → Option (List ℕ) → Type 0
+RunEnds stop name IsClaimed held saved input left (Ok done) old new = (start : SimFlash) × (end : SimFlash) × IsClaimed (image_of (device_of start)) × IsSpelledFlash (held name) start
+    × ScriptEnds stop start end input left (Ok None) old new × SavesChange name held saved (image_of (device_of start)) (image_of (device_of end))
+RunEnds stop name IsClaimed held saved input left (Err failure) old new = (BreaksOff stop (held name) input left failure old new × (saved ≡ held))
+    ⊎ ((start : SimFlash) × (end : SimFlash) × IsClaimed (image_of (device_of start)) × IsSpelledFlash (held name) start × ScriptEnds stop start end input left (Ok None) old new
     × ChangeUnsaved name held saved (image_of (device_of start)) (image_of (device_of end)) failure)
 
 -- the replies to a script on an image are written
@@ -164,19 +150,21 @@ CheckEnds held (Err failure) old new = (LoadCause held failure × (new ≡ old))
     ⊎ (((start : SimFlash) × (end : SimFlash) × (fault : Fault) × IsSpelledFlash held start × IsUnmounted start end fault × (failure ≡ of_system fault) × (new ≡ old))
     ⊎ ((n : ℕ) × (failure ≡ Failure.Output) × Appends old new (take n (codes "ok\n"))))
 
--- sources are put into an image, which is written then. Else no file changes, or the image that is left is not written, or not for
--- good
-abbrev pub SourcesEnd : List ℕ → Path → List Found → Held → Held → Result (Unit {0}) Failure → Type 0
-SourcesEnd name base all held saved (Ok done) = (start : SimFlash) × (end : SimFlash) × PutsBy (IsSpelledFlash (held name)) held base all start end
-    × SavesChange name held saved (image_of (device_of start)) (image_of (device_of end))
-SourcesEnd name base all held saved (Err failure) = ((IsUnclaimed failure ⊎ PutCause (IsSpelledFlash (held name)) (LoadCause (held name)) held base all failure) × (saved ≡ held))
-    ⊎ ((start : SimFlash) × (end : SimFlash) × PutsBy (IsSpelledFlash (held name)) held base all start end
+-- sources are put into an image, of which the bytes are those of the claimed file, and which is written then. Else no file changes,
+-- or the image that is left is not written, or not for good
+abbrev pub SourcesEnd : List ℕ → (List ℕ → Type 0) → Path → List Found → Held → Held → Result (Unit {0}) Failure → Type 0
+SourcesEnd name IsClaimed base all held saved (Ok done) = (start : SimFlash) × (end : SimFlash) × IsClaimed (image_of (device_of start))
+    × PutsBy (IsSpelledFlash (held name)) held base all start end × SavesChange name held saved (image_of (device_of start)) (image_of (device_of end))
+SourcesEnd name IsClaimed base all held saved (Err failure) = ((IsUnclaimed failure ⊎ PutCause (IsSpelledFlash (held name)) (LoadCause (held name)) held base all failure) × (saved ≡ held))
+    ⊎ ((start : SimFlash) × (end : SimFlash) × IsClaimed (image_of (device_of start)) × PutsBy (IsSpelledFlash (held name)) held base all start end
     × ChangeUnsaved name held saved (image_of (device_of start)) (image_of (device_of end)) failure)
 
--- all that stands at a name of the host is put into an image, below the path that a word spells
-abbrev pub PutEnds : List ℕ → List ℕ → Held → Held → Option (List Found) → Result (Unit {0}) Failure → Type 0
-PutEnds name word held saved gathered result = ((base : Path) × (all : List Found) × IsAsked gathered word base all × SourcesEnd name base all held saved result)
-    ⊎ ((failure : Failure) × (result ≡ Err failure) × GatherCause held gathered word failure × (saved ≡ held))
+-- all that stands at a name of the host is put into an image, below the path that a word spells; none of it is the image or its
+-- new file, by their names
+abbrev pub PutEnds : List ℕ → List ℕ → (List ℕ → Type 0) → Held → Held → Option (List Found) → Result (Unit {0}) Failure → Type 0
+PutEnds name word IsClaimed held saved gathered result =
+    ((base : Path) × (all : List Found) × IsAsked gathered word base all × AreOthers name all × SourcesEnd name IsClaimed base all held saved result)
+    ⊎ ((failure : Failure) × (result ≡ Err failure) × GatherCause name gathered word failure × (saved ≡ held))
 
 -- these bytes are told of an image, or why nothing is
 abbrev pub IsTold : Option (List ℕ) → Inquiry → List ℕ → Type 0
@@ -201,11 +189,17 @@ TellEnds spelled held (Ok done) old new = (bytes : List ℕ) × IsAnswer spelled
 TellEnds spelled held (Err failure) old new = (IsUnanswered spelled held failure × (new ≡ old))
     ⊎ ((bytes : List ℕ) × (n : ℕ) × IsAnswer spelled held bytes × (failure ≡ Failure.Output) × Appends old new (take n bytes))
 
--- what is told of an image is a file of the host then. Else no file changes; or it is told, and not written, or not for good
-abbrev pub GetEnds : Result Inquiry Failure → List ℕ → List ℕ → Held → Held → Result (Unit {0}) Failure → Type 0
-GetEnds spelled name file held saved (Ok done) = (bytes : List ℕ) × IsAnswer spelled (held name) bytes × IfSome (saved file) (λ all. all ≡ bytes)
-GetEnds spelled name file held saved (Err failure) = ((IsUnanswered spelled (held name) failure ⊎ IsUnclaimed failure) × (saved ≡ held))
+-- what is told of an image is not had: the words spell nothing, or nothing is told, and no file changes; or it is told, and not
+-- written to a file, or not for good
+abbrev pub NotGot : Result Inquiry Failure → List ℕ → List ℕ → Held → Held → Failure → Type 0
+NotGot spelled name file held saved failure = (IsUnanswered spelled (held name) failure × (saved ≡ held))
     ⊎ ((bytes : List ℕ) × IsAnswer spelled (held name) bytes × Unsaved (held file) (saved file) bytes failure)
+
+-- what is told of an image is a file of the host then. Else the file is not claimed, and no file changes, as where to replace it
+-- takes the image away; or it is not had
+abbrev pub GetEnds : Result Inquiry Failure → List ℕ → List ℕ → Held → Held → Result (Unit {0}) Failure → Type 0
+GetEnds spelled name file held saved (Ok done) = (takes_away file name ≡ false) × ((bytes : List ℕ) × IsAnswer spelled (held name) bytes × IfSome (saved file) (λ all. all ≡ bytes))
+GetEnds spelled name file held saved (Err failure) = (IsUnclaimed failure × (saved ≡ held)) ⊎ ((takes_away file name ≡ false) × NotGot spelled name file held saved failure)
 
 -- a script is run on a flash in memory
 abbrev pub MemoryEnds : Option (List ℕ) → Option (List ℕ) → Result (Unit {0}) Failure → Option (List ℕ) → Option (List ℕ) → Type 0
@@ -239,22 +233,26 @@ pub record OnlyLooksAtImage (held saved : Held) (input left : Option (List ℕ))
   pub files : saved ≡ held
   pub unread : left ≡ input
 
+-- the bytes that the file of each name may have where it is claimed
+abbrev pub Claimed : Type 1
+Claimed = List ℕ → List ℕ → Type 0
+
 -- how a task ends that is done on a file of this name
-abbrev pub EndsOn : Task → Job → List ℕ → Held → Held → Gathered → Option (List ℕ) → Option (List ℕ) → Result (Unit {0}) Failure → Option (List ℕ) → Option (List ℕ) → Type 0
-EndsOn Task.Format job name held saved gathered input left result old new = FormatEnds (sizes_of job) job.history (held name) (saved name) result × KeepsOthers name held saved × (left ≡ input) × (new ≡ old)
-EndsOn Task.Run job name held saved gathered input left result old new = RunEnds job.stop name held saved input left result old new × KeepsOthers name held saved
-EndsOn Task.Put job name held saved gathered input left result old new = PutEnds name (word_given job.path) held saved (gathered (word_given job.file)) result × KeepsOthers name held saved
+abbrev pub EndsOn : Task → Job → List ℕ → Claimed → Held → Held → Gathered → Option (List ℕ) → Option (List ℕ) → Result (Unit {0}) Failure → Option (List ℕ) → Option (List ℕ) → Type 0
+EndsOn Task.Format job name IsClaimed held saved gathered input left result old new = FormatEnds (sizes_of job) job.history (held name) (saved name) result × KeepsOthers name held saved × (left ≡ input) × (new ≡ old)
+EndsOn Task.Run job name IsClaimed held saved gathered input left result old new = RunEnds job.stop name (IsClaimed name) held saved input left result old new × KeepsOthers name held saved
+EndsOn Task.Put job name IsClaimed held saved gathered input left result old new = PutEnds name (word_given job.path) (IsClaimed name) held saved (gathered (word_given job.file) name) result × KeepsOthers name held saved
     × (left ≡ input) × (new ≡ old)
-EndsOn Task.Get job name held saved gathered input left result old new = GetEnds (file_spelled (word_given job.path) job.view) name (word_given job.file) held saved result
+EndsOn Task.Get job name IsClaimed held saved gathered input left result old new = GetEnds (file_spelled (word_given job.path) job.view) name (word_given job.file) held saved result
     × KeepsOthers (word_given job.file) held saved × (left ≡ input) × (new ≡ old)
-EndsOn Task.Tree job name held saved gathered input left result old new = TellEnds (tree_spelled job.view) (held name) result old new × OnlyLooksAtImage held saved input left
-EndsOn Task.Diff job name held saved gathered input left result old new = TellEnds (differences_spelled job.view job.other) (held name) result old new × OnlyLooksAtImage held saved input left
-EndsOn Task.Versions job name held saved gathered input left result old new = TellEnds (Ok Inquiry.Versions) (held name) result old new × OnlyLooksAtImage held saved input left
-EndsOn Task.Check job name held saved gathered input left result old new = CheckEnds (held name) result old new × OnlyLooksAtImage held saved input left
-EndsOn Task.Log job name held saved gathered input left result old new = LookEnds (codes "log\n") (held name) result old new × OnlyLooksAtImage held saved input left
-EndsOn Task.Df job name held saved gathered input left result old new = LookEnds (codes "df\n") (held name) result old new × OnlyLooksAtImage held saved input left
-EndsOn Task.Memory job name held saved gathered input left result old new = MemoryEnds input left result old new × (saved ≡ held)
-EndsOn Task.Explain job name held saved gathered input left result old new = ExplainEnds job.refusal result old new × OnlyLooksAtImage held saved input left
+EndsOn Task.Tree job name IsClaimed held saved gathered input left result old new = TellEnds (tree_spelled job.view) (held name) result old new × OnlyLooksAtImage held saved input left
+EndsOn Task.Diff job name IsClaimed held saved gathered input left result old new = TellEnds (differences_spelled job.view job.other) (held name) result old new × OnlyLooksAtImage held saved input left
+EndsOn Task.Versions job name IsClaimed held saved gathered input left result old new = TellEnds (Ok Inquiry.Versions) (held name) result old new × OnlyLooksAtImage held saved input left
+EndsOn Task.Check job name IsClaimed held saved gathered input left result old new = CheckEnds (held name) result old new × OnlyLooksAtImage held saved input left
+EndsOn Task.Log job name IsClaimed held saved gathered input left result old new = LookEnds (codes "log\n") (held name) result old new × OnlyLooksAtImage held saved input left
+EndsOn Task.Df job name IsClaimed held saved gathered input left result old new = LookEnds (codes "df\n") (held name) result old new × OnlyLooksAtImage held saved input left
+EndsOn Task.Memory job name IsClaimed held saved gathered input left result old new = MemoryEnds input left result old new × (saved ≡ held)
+EndsOn Task.Explain job name IsClaimed held saved gathered input left result old new = ExplainEnds job.refusal result old new × OnlyLooksAtImage held saved input left
 
 -- how a task ends that is done on no file
 abbrev pub EndsAlone : Task → Job → Held → Held → Option (List ℕ) → Option (List ℕ) → Result (Unit {0}) Failure → Option (List ℕ) → Option (List ℕ) → Type 0
@@ -262,12 +260,12 @@ EndsAlone Task.Explain job held saved input left result old new = ExplainEnds jo
 EndsAlone _ job held saved input left result old new = MemoryEnds input left result old new × (saved ≡ held)
 
 -- by the file that a job names, if any
-abbrev pub EndsFor : Option (Bor (List ℕ)) → Job → Held → Held → Gathered → Option (List ℕ) → Option (List ℕ) → Result (Unit {0}) Failure → Option (List ℕ) → Option (List ℕ) → Type 0
-EndsFor (Some name) job held saved gathered input left result old new = EndsOn job.command job name.now held saved gathered input left result old new
-EndsFor None job held saved gathered input left result old new = EndsAlone job.command job held saved input left result old new
+abbrev pub EndsFor : Option (Bor (List ℕ)) → Job → Claimed → Held → Held → Gathered → Option (List ℕ) → Option (List ℕ) → Result (Unit {0}) Failure → Option (List ℕ) → Option (List ℕ) → Type 0
+EndsFor (Some name) job IsClaimed held saved gathered input left result old new = EndsOn job.command job name.now IsClaimed held saved gathered input left result old new
+EndsFor None job IsClaimed held saved gathered input left result old new = EndsAlone job.command job held saved input left result old new
 
 -- how a job ends
-abbrev pub JobEnds : Job → Held → Held → Gathered → Option (List ℕ) → Option (List ℕ) → Result (Unit {0}) Failure → Option (List ℕ) → Option (List ℕ) → Type 0
+abbrev pub JobEnds : Job → Claimed → Held → Held → Gathered → Option (List ℕ) → Option (List ℕ) → Result (Unit {0}) Failure → Option (List ℕ) → Option (List ℕ) → Type 0
 JobEnds job = EndsFor job.image job
 
 -- the status of refused words, by the kind of the error: 1 where memory was wanted
@@ -281,9 +279,9 @@ AreRefused words status = (status ≡ 1) ⊎ ((status ≡ 2) × ((fault_of uffs 
 
 -- how the program ends: the job that the words ask for is done, with its status; or they are refused, no file changes, and
 -- nothing is read or written
-abbrev pub ToolEnds : List (List ℕ) → Held → Held → Gathered → Option (List ℕ) → Option (List ℕ) → ℕ → Option (List ℕ) → Option (List ℕ) → Type 0
-ToolEnds words held saved gathered input left status old new =
-    ((job : Job) × (result : Result (Unit {0}) Failure) × AsksFor words job × JobEnds job held saved gathered input left result old new × (status ≡ job_status result))
+abbrev pub ToolEnds : List (List ℕ) → Claimed → Held → Held → Gathered → Option (List ℕ) → Option (List ℕ) → ℕ → Option (List ℕ) → Option (List ℕ) → Type 0
+ToolEnds words IsClaimed held saved gathered input left status old new =
+    ((job : Job) × (result : Result (Unit {0}) Failure) × AsksFor words job × JobEnds job IsClaimed held saved gathered input left result old new × (status ≡ job_status result))
     ⊎ (AreRefused words status × (saved ≡ held) × (left ≡ input) × (new ≡ old))
 
 -- `memory` alone

@@ -1,22 +1,24 @@
 //! What is asked of an image.
-ghost use Rattle.std.specs.Prelude.{◌≡◌, ◌⊎◌, Ok, IfOk, OnOk, IfErr, IfSome};
+ghost use Rattle.std.specs.Prelude.{◌≡◌, ◌⊎◌, false, Ok, IfOk, OnOk, IfErr, IfSome};
 ghost use Rattle.shell.specs.Asking.{file_spelled, tree_spelled, differences_spelled, of_ask, IsMisspelled};
-ghost use Rattle.shell.specs.Files.{KeepsOthers};
+ghost use Rattle.host_files.specs.Files.{KeepsOthers, takes_away};
 ghost use Rattle.shell.specs.Tools.{IsTold, UntoldCause, IsUnclaimed, Unsaved, TellEnds, GetEnds};
 
 use crate::failure::Failure;
-use crate::image_files::ImageFiles;
-use crate::images::{claim, load, write_image};
+use crate::image_bytes::{claim, write_image};
+use crate::images::load;
 use crate::path_word::path_of_word;
-use crate::scripts::Refusal;
 use crate::view_word::view_of_word;
 use fs_types::Bytes;
+use host_files::{FileFault, ImageFiles, takes_away};
 use inquiries::{AskFault, Inquiry, ask};
 use script::write_out;
+use script_runs::Refusal;
 use std::alloc::Global;
 use std::io::Write;
 
-/// Puts the file at a path of an image into a file of the host, which is claimed then.
+/// Puts the file at a path of an image into a file of the host, which is claimed then. Refused at once
+/// where that takes the image away.
 pub(crate) fn get_file<F: ImageFiles>(
     files: &mut F,
     alloc: Global,
@@ -28,6 +30,10 @@ pub(crate) fn get_file<F: ImageFiles>(
     ensures ends { GetEnds (file_spelled path.now view.entry) name.now file.now (F.held files.old) (F.held files.new) result }
     ensures others { KeepsOthers file.now (F.held files.old) (F.held files.new) }
 {
+    match spare_image(files, alloc, name, file) {
+        Ok(()) => {}
+        Err(failure) => return Err(failure),
+    }
     let inquiry = match file_inquiry(alloc, path, view) {
         Ok(inquiry) => inquiry,
         Err(failure) => return Err(failure),
@@ -37,6 +43,28 @@ pub(crate) fn get_file<F: ImageFiles>(
         Err(failure) => return Err(failure),
     };
     save_bytes(files, alloc, file, bytes.as_slice())
+}
+
+/// Refused where to replace a file takes the image away.
+fn spare_image<F: ImageFiles>(
+    files: &F,
+    alloc: Global,
+    image: &str,
+    file: &str,
+) -> Result<(), Failure>
+    ensures ok { OnOk result (takes_away file.now image.now ≡ false) }
+    ensures err { IfErr result IsUnclaimed }
+{
+    match takes_away(alloc, file, image) {
+        Ok(false) => {}
+        Ok(true) => return Err(Failure::Unavailable),
+        Err(_) => return Err(Failure::Memory),
+    }
+    match files.takes_away(alloc, file, image) {
+        Ok(false) => Ok(()),
+        Err(FileFault::Memory) => Err(Failure::Memory),
+        _ => Err(Failure::Unavailable),
+    }
 }
 
 /// Writes a line for each directory and each file of an image.

@@ -5,9 +5,9 @@ ghost use Rattle.fs_types.specs.declared.fault.Fault.{Fault};
 ghost use Rattle.shell.specs.Tools.{ExplainEnds, explanation};
 
 use crate::failure::Failure;
-use crate::scripts::Refusal;
 use fs_types::Fault;
 use script::{print_number, write_out};
+use script_runs::Refusal;
 use std::alloc::{AllocError, Global};
 use std::io::Write;
 

@@ -1,8 +1,8 @@
 //! Why a job of the program did not run to its end, with its status.
-use crate::scripts::{Refusal, ScriptFault, Stop};
-use crate::source::SourceFault;
+use crate::place::SourceFault;
 use flash_image::ImageFault;
 use fs_types::Fault;
+use script_runs::{Refusal, ScriptFault, Stop};
 use std::io;
 use std::io::Write;
 use thiserror::Error;
@@ -13,7 +13,8 @@ pub enum Failure {
     /// The file of the image could not be read.
     #[error("the image cannot be read")]
     CannotRead,
-    /// The file of the image is no plain file, or another program has it. Nothing was done.
+    /// The file that is to be written is no plain file, another program has it, or to write it takes the
+    /// image away. Nothing was done.
     #[error("the image is not to be had")]
     Unavailable,
     /// The file of the image could not be written. It is as it was.

@@ -3,15 +3,17 @@ ghost use Rattle.std.specs.Prelude.{◌≡◌, ℕ, IfOk, OnOk, IfErr, IfSome, t
 ghost use Rattle.std.specs.Io.KnownBytes.{Appends};
 ghost use Rattle.flash_model.specs.Simulation.{device_of};
 ghost use Rattle.flash_image.specs.Images.{image_of};
-ghost use Rattle.shell.specs.Files.{KeepsOthers, AreBytesRead};
-ghost use Rattle.shell.specs.Tools.{IsDecoded, DecodeCause, IsUnclaimed, IsUnread, IsSpelledFlash, LoadCause, IsImageFile, Unsaved, SavesChange, ChangeUnsaved, FormatEnds, PlaysBy, RunEnds, CheckEnds, LookEnds};
+ghost use Rattle.host_files.specs.Files.{KeepsOthers, AreBytesRead, ReadsClaimed};
+ghost use Rattle.script_runs.specs.Flashes.{IsDecoded};
+ghost use Rattle.shell.specs.Tools.{DecodeCause, IsUnclaimed, IsUnread, IsSpelledFlash, LoadCause, IsImageFile, Unsaved, SavesChange, ChangeUnsaved, FormatEnds, PlaysBy, RunEnds, CheckEnds, LookEnds};
 
 use crate::failure::Failure;
-use crate::image_files::{FileFault, ImageFiles};
-use crate::scripts::run_script_until;
+use crate::image_bytes::{claim, read_image, take_image, write_image};
 use flash_image::{decode, encode};
 use flash_model::{Geometry, SimFlash};
+use host_files::ImageFiles;
 use script::write_out;
+use script_runs::run_script_until;
 use std::alloc::Global;
 use std::io::{Read, Write};
 use undofs::{format, mount};
@@ -67,13 +69,9 @@ pub fn run_image<F: ImageFiles, R: Read, W: Write>(
     out: &mut W,
 ) -> Result<(), Failure>
     ensures others { KeepsOthers name.now (F.held files.old) (F.held files.new) }
-    ensures ends { RunEnds stop name.now (F.held files.old) (F.held files.new) (R.remaining reader.old) (R.remaining reader.new) result (W.contents out.old) (W.contents out.new) }
+    ensures ends { RunEnds stop name.now (ReadsClaimed F.claims F.reads name.now) (F.held files.old) (F.held files.new) (R.remaining reader.old) (R.remaining reader.new) result (W.contents out.old) (W.contents out.new) }
 {
-    match claim(files, alloc, name) {
-        Ok(()) => {}
-        Err(failure) => return Err(failure),
-    }
-    let bytes = match read_image(files, alloc, name) {
+    let bytes = match take_image(files, alloc, name) {
         Ok(bytes) => bytes,
         Err(failure) => return Err(failure),
     };
@@ -145,19 +143,6 @@ fn play<R: Read, W: Write>(
     }
 }
 
-/// Claims a name for reading and writing together.
-pub(crate) fn claim<F: ImageFiles>(files: &mut F, alloc: Global, name: &str) -> Result<(), Failure>
-    ensures ok { OnOk result (F.claims files.new name.now) }
-    ensures why { IfErr result IsUnclaimed }
-    ensures same { F.held files.new ≡ F.held files.old }
-{
-    match files.claim(alloc, name) {
-        Ok(()) => Ok(()),
-        Err(FileFault::Memory) => Err(Failure::Memory),
-        Err(_) => Err(Failure::Unavailable),
-    }
-}
-
 /// The flash of an image.
 pub(crate) fn load<F: ImageFiles>(files: &F, alloc: Global, name: &str) -> Result<SimFlash, Failure>
     ensures ok { IfOk result (IsSpelledFlash (F.held files.now name.now)) }
@@ -166,22 +151,6 @@ pub(crate) fn load<F: ImageFiles>(files: &F, alloc: Global, name: &str) -> Resul
     match read_image(files, alloc, name) {
         Ok(bytes) => flash_of(alloc, &bytes),
         Err(failure) => Err(failure),
-    }
-}
-
-/// The bytes of an image.
-pub(crate) fn read_image<F: ImageFiles>(
-    files: &F,
-    alloc: Global,
-    name: &str,
-) -> Result<Vec<u8>, Failure>
-    ensures ok { IfOk result (λ bytes. AreBytesRead (F.held files.now name.now) bytes.items) }
-    ensures err { IfErr result (IsUnread (F.held files.now name.now)) }
-{
-    match files.read(alloc, name) {
-        Ok(bytes) => Ok(bytes),
-        Err(FileFault::Memory) => Err(Failure::Memory),
-        Err(_) => Err(Failure::CannotRead),
     }
 }
 
@@ -214,7 +183,8 @@ fn save<F: ImageFiles>(
     }
 }
 
-/// Puts the image of a flash in the place of a claimed one of these bytes, unless it is the same.
+/// Puts the image of a flash in the place of a claimed one of these bytes, which were read since then,
+/// unless it is the same.
 pub(crate) fn save_changed<F: ImageFiles>(
     files: &mut F,
     alloc: Global,
@@ -222,7 +192,8 @@ pub(crate) fn save_changed<F: ImageFiles>(
     bytes: &[u8],
     flash: &SimFlash,
 ) -> Result<(), Failure>
-    requires { F.claims files.old name.now }
+    requires claimed { F.claims files.old name.now }
+    requires read { F.reads files.old name.now bytes.now }
     ensures ok { OnOk result (SavesChange name.now (F.held files.old) (F.held files.new) bytes.now (image_of (device_of flash.now))) }
     ensures err { IfErr result (ChangeUnsaved name.now (F.held files.old) (F.held files.new) bytes.now (image_of (device_of flash.now))) }
     ensures others { KeepsOthers name.now (F.held files.old) (F.held files.new) }
@@ -236,26 +207,6 @@ pub(crate) fn save_changed<F: ImageFiles>(
         return Ok(());
     }
     write_image(files, alloc, name, &image)
-}
-
-/// Puts a file of these bytes in the place of what has a claimed name.
-pub(crate) fn write_image<F: ImageFiles>(
-    files: &mut F,
-    alloc: Global,
-    name: &str,
-    image: &[u8],
-) -> Result<(), Failure>
-    requires { F.claims files.old name.now }
-    ensures ok { OnOk result (IfSome (F.held files.new name.now) (λ all. all ≡ image.now)) }
-    ensures err { IfErr result (Unsaved (F.held files.old name.now) (F.held files.new name.now) image.now) }
-    ensures others { KeepsOthers name.now (F.held files.old) (F.held files.new) }
-{
-    match files.replace(alloc, name, image) {
-        Ok(()) => Ok(()),
-        Err(FileFault::Memory) => Err(Failure::Memory),
-        Err(FileFault::Unsynced) => Err(Failure::Unsynced),
-        Err(FileFault::Failed) => Err(Failure::CannotWrite),
-    }
 }
 
 fn write_ok<W: Write>(out: &mut W) -> Result<(), Failure>

@@ -4,9 +4,9 @@ ghost use Rattle.script.specs.Lines.{line_of};
 ghost use Rattle.shell.specs.Puts.{path_spelled, path_of_line, path_of_call, SpellingCause};
 
 use crate::failure::Failure;
-use crate::scripts::Refusal;
 use fs_types::{Call, Path};
 use script::{Line, read_line};
+use script_runs::Refusal;
 use std::alloc::{AllocError, Global};
 
 /// The path that a word spells, as the line `mkdir` of a script takes it. Refused as that line is.

@@ -1,6 +1,7 @@
 //! The program as a process of the host.
-use crate::host_files::HostFiles;
 use crate::program::tool;
+use crate::streams::fill_closed_streams;
+use host_files::HostFiles;
 use std::env::Env;
 use std::fs::File;
 use std::io::{BufReader, Error, ErrorKind, Write};
@@ -9,16 +10,22 @@ use std::{env, io};
 
 /// Carries out the words of the process, with the files of the host, its input and its output, and
 /// answers the status, as [`tool`] does. 2 where a word is not UTF-8, and 1 for memory, each with its
-/// line.
+/// line. A standard stream that is closed fails where it is used, and no file takes its place.
 pub fn run_process<R, E>(rt: &R, err: &mut E) -> u8
 where
     R: Files<File = File> + Env + Input + Print + AllocGlobal,
     E: Write,
 {
-    match carry_out_words(rt, err) {
+    let filled = match fill_closed_streams(rt, rt.alloc()) {
+        Ok(filled) => filled,
+        Err(error) => return refuse_streams(&error, err),
+    };
+    let status = match carry_out_words(rt, err) {
         Ok(status) => status,
         Err(error) => refuse(&error, err),
-    }
+    };
+    drop(filled);
+    status
 }
 
 /// Refused where a word is not UTF-8, and for memory.
@@ -39,6 +46,15 @@ where
         &mut out,
         err,
     ))
+}
+
+/// Says why the standard streams are not to be had, and answers the status.
+fn refuse_streams<E: Write>(error: &Error, err: &mut E) -> u8 {
+    let _ = match error.kind() {
+        ErrorKind::OutOfMemory => writeln!(err, "uffs: ENOMEM 25"),
+        _ => writeln!(err, "uffs: input"),
+    };
+    1
 }
 
 /// Says why nothing was carried out, and answers the status.

@@ -1,20 +1,20 @@
 //! What the program `uffs` does with its words.
 ghost use Rattle.std.specs.Prelude.{◌≡◌, IsTrue, map, string_bytes};
 ghost use Rattle.clap.specs.Words.{kind_of};
+ghost use Rattle.host_files.specs.Files.{ReadsClaimed};
 ghost use Rattle.shell.specs.Tools.{EndsOn, JobEnds, MemoryEnds, ToolEnds, MemoryBy, sizes_of, word_given, refused_status, is_memory};
 
 use crate::asking::{get_file, tell_differences, tell_tree, tell_versions};
 use crate::explanations::explain;
 use crate::failure::Failure;
-use crate::image_files::ImageFiles;
 use crate::images::{check_image, format_image, look_at_image, run_image};
-use crate::memory::run_in_memory;
 use crate::put::{Order, put_into_image};
-use crate::source::Sources;
 use clap::Error;
 use clap::error::ErrorKind;
 use flash_model::Geometry;
+use host_files::{ImageFiles, Sources};
 use jobs::{Job, Task, job};
+use script_runs::run_in_memory;
 use std::alloc::Global;
 use std::io::{Read, Write};
 
@@ -33,7 +33,7 @@ pub fn tool<F: ImageFiles + Sources, R: Read, W: Write, E: Write>(
     out: &mut W,
     err: &mut E,
 ) -> u8
-    ensures ends { ToolEnds (map string_bytes words.now) (F.held files.old) (F.held files.new) (F.gathered files.old) (R.remaining reader.old) (R.remaining reader.new) result (W.contents out.old) (W.contents out.new) }
+    ensures ends { ToolEnds (map string_bytes words.now) (ReadsClaimed F.claims F.reads) (F.held files.old) (F.held files.new) (F.gathered files.old) (R.remaining reader.old) (R.remaining reader.new) result (W.contents out.old) (W.contents out.new) }
     // The word `memory` is understood.
     ensures memory { IsTrue (is_memory (map string_bytes words.now)) → MemoryBy (R.remaining reader.old) (R.remaining reader.new) result (W.contents out.old) (W.contents out.new) }
 {
@@ -83,7 +83,7 @@ fn carry_out<F: ImageFiles + Sources, R: Read, W: Write, E: Write>(
     out: &mut W,
     err: &mut E,
 ) -> Result<(), Failure>
-    ensures { JobEnds job.entry (F.held files.old) (F.held files.new) (F.gathered files.old) (R.remaining reader.old) (R.remaining reader.new) result (W.contents out.old) (W.contents out.new) }
+    ensures { JobEnds job.entry (ReadsClaimed F.claims F.reads) (F.held files.old) (F.held files.new) (F.gathered files.old) (R.remaining reader.old) (R.remaining reader.new) result (W.contents out.old) (W.contents out.new) }
 {
     match job.image {
         Some(name) => do_task(files, alloc, job, name, reader, out, err),
@@ -104,7 +104,7 @@ fn do_task<F: ImageFiles + Sources, R: Read, W: Write, E: Write>(
     out: &mut W,
     err: &mut E,
 ) -> Result<(), Failure>
-    ensures { EndsOn job.entry.command job.entry name.now (F.held files.old) (F.held files.new) (F.gathered files.old) (R.remaining reader.old) (R.remaining reader.new) result (W.contents out.old) (W.contents out.new) }
+    ensures { EndsOn job.entry.command job.entry name.now (ReadsClaimed F.claims F.reads) (F.held files.old) (F.held files.new) (F.gathered files.old) (R.remaining reader.old) (R.remaining reader.new) result (W.contents out.old) (W.contents out.new) }
 {
     match job.command {
         Task::Format => format_image(files, alloc, name, sizes_of(job), job.history),

@@ -1,23 +1,26 @@
 //! Files of the host are put into an image.
-ghost use Rattle.std.specs.Prelude.{◌≡◌, ◌⊎◌, List, IfSome, IfOk, IfErr, map};
+ghost use Rattle.std.specs.Prelude.{◌≡◌, ◌⊎◌, false, List, IfSome, IfOk, OnOk, IfErr, map};
 ghost use Rattle.flash_model.specs.Simulation.{device_of};
 ghost use Rattle.flash_model.specs.declared.sim_flash.SimFlash.{SimFlash};
 ghost use Rattle.system.specs.Systems.{IsSystem};
-ghost use Rattle.shell.specs.Files.{KeepsOthers};
+ghost use Rattle.host_files.specs.Files.{KeepsOthers, ReadsClaimed, takes_away};
 ghost use Rattle.shell.specs.Puts.{stop_of, stop_of_reply, refused_by, is_mkdir, makes_directory, PutsBy, PutCause, PlaceCause};
 ghost use Rattle.shell.specs.Served.{place, ServesPut, PutsOne, PutsEach, PutsAll};
-ghost use Rattle.shell.specs.Sources.{Found, source_found};
-ghost use Rattle.shell.specs.Tools.{IsDecoded, DecodeCause, SourcesEnd, PutEnds};
+ghost use Rattle.host_files.specs.Sources.{Found, source_found};
+ghost use Rattle.shell.specs.Places.{AreOthers, IsMisplaced};
+ghost use Rattle.script_runs.specs.Flashes.{IsDecoded};
+ghost use Rattle.shell.specs.Tools.{DecodeCause, SourcesEnd, PutEnds};
 
 use crate::failure::Failure;
-use crate::image_files::ImageFiles;
-use crate::images::{claim, flash_of, read_image, save_changed};
+use crate::image_bytes::take_image;
+use crate::images::{flash_of, save_changed};
 use crate::path_word::path_of_word;
-use crate::scripts::Refusal;
-use crate::source::{Source, Sources, place_of, tell_unput};
+use crate::place::{SourceFault, place_of, tell_unput};
 use crate::thing::{events_of, thing_of};
 use flash_model::SimFlash;
 use fs_types::{Answer, Call, Event, Fault, Path, Reply, Stat};
+use host_files::{ImageFiles, Source, Sources, takes_away};
+use script_runs::Refusal;
 use std::alloc::Global;
 use std::io::Write;
 use undofs::{System, mount, serve};
@@ -52,14 +55,14 @@ pub(crate) fn put_into_image<F: ImageFiles + Sources, E: Write>(
     order: Order<'_>,
     err: &mut E,
 ) -> Result<(), Failure>
-    ensures ends { PutEnds name.now order.entry.path.now (F.held files.old) (F.held files.new) (F.gathered files.old order.entry.file.now) result }
+    ensures ends { PutEnds name.now order.entry.path.now (ReadsClaimed F.claims F.reads name.now) (F.held files.old) (F.held files.new) (F.gathered files.old order.entry.file.now name.now) result }
     ensures others { KeepsOthers name.now (F.held files.old) (F.held files.new) }
 {
     let base = match path_of_word(alloc, order.path) {
         Ok(base) => base,
         Err(failure) => return Err(failure),
     };
-    let sources = match gather(files, alloc, &base, order.file, err) {
+    let sources = match gather(files, alloc, name, &base, order.file, err) {
         Ok(sources) => sources,
         Err(failure) => return Err(failure),
     };
@@ -70,35 +73,40 @@ pub(crate) fn put_into_image<F: ImageFiles + Sources, E: Write>(
 fn gather<F: Sources, E: Write>(
     files: &F,
     alloc: Global,
+    image: &str,
     base: &Path,
     file: &str,
     err: &mut E,
 ) -> Result<Vec<Source>, Failure>
-    ensures ok { IfOk result (λ sources. IfSome (F.gathered files.now file.now) (λ all. map source_found sources.items ≡ all)) }
-    ensures err { IfErr result (λ failure. (failure ≡ Failure.Memory) ⊎ ((all : List Found) × IfSome (F.gathered files.now file.now) (λ found. all ≡ found) × PlaceCause base.now all failure)) }
+    ensures ok { IfOk result (λ sources. IfSome (F.gathered files.now file.now image.now) (λ all. map source_found sources.items ≡ all)) }
+    ensures others { IfOk result (λ sources. AreOthers image.now (map source_found sources.items)) }
+    ensures err { IfErr result (λ failure. (failure ≡ Failure.Memory) ⊎ ((all : List Found) × IfSome (F.gathered files.now file.now image.now) (λ found. all ≡ found) × PlaceCause image.now base.now all failure)) }
 {
-    let sources = match files.gather(alloc, file) {
+    let sources = match files.gather(alloc, file, image) {
         Ok(sources) => sources,
         Err(_) => return Err(Failure::Memory),
     };
-    match check_places(alloc, base, &sources, err) {
+    match check_places(alloc, image, base, &sources, err) {
         Ok(()) => Ok(sources),
         Err(failure) => Err(failure),
     }
 }
 
-/// Whether each source has a place below a path. Which one has none is told.
+/// Whether each source has a place below a path and is not the image's own. Which one has none, or is,
+/// is told.
 fn check_places<E: Write>(
     alloc: Global,
+    image: &str,
     base: &Path,
     sources: &[Source],
     err: &mut E,
 ) -> Result<(), Failure>
-    ensures { IfErr result (PlaceCause base.now (map source_found sources.now)) }
+    ensures others { OnOk result (AreOthers image.now (map source_found sources.now)) }
+    ensures err { IfErr result (PlaceCause image.now base.now (map source_found sources.now)) }
 {
     for source in sources {
-        match place_of(alloc, base, source) {
-            Ok(_) => {}
+        match check_place(alloc, image, base, source) {
+            Ok(()) => {}
             Err(failure) => {
                 tell_unput(failure, &source.name, err);
                 return Err(failure);
@@ -106,6 +114,22 @@ fn check_places<E: Write>(
         }
     }
     Ok(())
+}
+
+/// Whether a source has a place below a path, and is not the image's own by its name.
+fn check_place(alloc: Global, image: &str, base: &Path, source: &Source) -> Result<(), Failure>
+    ensures ok { OnOk result (takes_away image.now (source_found source.now).name ≡ false) }
+    ensures err { IfErr result (IsMisplaced image.now base.now (source_found source.now)) }
+{
+    match takes_away(alloc, image, &source.name) {
+        Ok(false) => {}
+        Ok(true) => return Err(Failure::Source(SourceFault::Image)),
+        Err(_) => return Err(Failure::Memory),
+    }
+    match place_of(alloc, base, source) {
+        Ok(_) => Ok(()),
+        Err(failure) => Err(failure),
+    }
 }
 
 /// Puts sources into an image, which is claimed first.
@@ -118,14 +142,10 @@ fn put_sources<F: ImageFiles, E: Write>(
     progress: bool,
     err: &mut E,
 ) -> Result<(), Failure>
-    ensures ends { SourcesEnd name.now base.now (map source_found sources.now) (F.held files.old) (F.held files.new) result }
+    ensures ends { SourcesEnd name.now (ReadsClaimed F.claims F.reads name.now) base.now (map source_found sources.now) (F.held files.old) (F.held files.new) result }
     ensures others { KeepsOthers name.now (F.held files.old) (F.held files.new) }
 {
-    match claim(files, alloc, name) {
-        Ok(()) => {}
-        Err(failure) => return Err(failure),
-    }
-    let bytes = match read_image(files, alloc, name) {
+    let bytes = match take_image(files, alloc, name) {
         Ok(bytes) => bytes,
         Err(failure) => return Err(failure),
     };

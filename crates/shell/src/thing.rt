@@ -1,13 +1,13 @@
 //! What is put at a path of an image.
 ghost use Rattle.std.specs.Prelude.{◌≡◌, IfOk, IfErr};
 ghost use Rattle.shell.specs.Puts.{thing_events, IsThing, IsUnput};
-ghost use Rattle.shell.specs.Sources.{source_found};
+ghost use Rattle.host_files.specs.Sources.{source_found};
 
 use crate::failure::Failure;
-use crate::image_files::{FileFault, ImageFiles};
-use crate::source::{Source, SourceFault, SourceKind, place_of};
+use crate::place::{SourceFault, place_of};
 use bitflags::Flags;
 use fs_types::{Bytes, Call, Event, OpenFlags, Path, View};
+use host_files::{FileFault, ImageFiles, Source, SourceKind};
 use std::alloc::{AllocError, Global};
 
 /// The flags of `open` that ask to write a file, and to make or empty it: `WRITE`, `CREAT` and `TRUNC`.
@@ -38,7 +38,7 @@ pub(crate) fn thing_of<F: ImageFiles>(
     };
     match source.kind {
         SourceKind::Folder => Ok(Thing::Directory(path)),
-        _ => match files.read(alloc, &source.name) {
+        _ => match files.read_source(alloc, &source.name) {
             Ok(bytes) => Ok(Thing::File(path, Bytes::from_vec(bytes))),
             Err(FileFault::Memory) => Err(Failure::Memory),
             Err(_) => Err(Failure::Source(SourceFault::Unreadable)),

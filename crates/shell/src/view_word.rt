@@ -4,9 +4,9 @@ ghost use Rattle.script.specs.Lines.{line_of};
 ghost use Rattle.shell.specs.Asking.{view_spelled, view_of_line, view_of_call, IsMisspelled};
 
 use crate::failure::Failure;
-use crate::scripts::Refusal;
 use fs_types::{Call, View};
 use script::{Line, read_line};
+use script_runs::Refusal;
 use std::alloc::{AllocError, Global};
 
 /// The view that a word spells, as the line `stat` of a script takes it, and the present version where

@@ -2,7 +2,7 @@
 use Rattle.std.proofs.Common.{◌≡◌, ◌≢◌, ℕ, Bool, true, false, List, Some, None, IfSome, if◌then◌else◌, take, codes, refl, sym, ◌∙◌}
 use Rattle.std.specs.Str.{bytes_eq}
 use Rattle.std.proofs.lemmas.Slice.Eq.{bytes_eq-Decides}
-use Rattle.shell.specs.declared.image_files.TheConstants.{MOST_BYTES}
+use Rattle.host_files.specs.declared.image_files.TheConstants.{MOST_BYTES}
 
 pub front_of : (b : Bool) (items bytes : List ℕ) → bytes ≡ take MOST_BYTES items → IfSome (if b then Some items else None) (λ all. bytes ≡ take MOST_BYTES all)
 front_of true items bytes same = same

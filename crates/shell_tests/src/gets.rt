@@ -1,6 +1,6 @@
 //! Files of an image that become files of the host.
-use crate::host_files::{folder_of, name_in};
 use crate::puts::{assert_formatted, assert_given};
+use crate::replaced_files::{folder_of, name_in};
 use std::fs;
 use std::fs::{File, Permissions};
 use std::os::unix::fs::{PermissionsExt, symlink};
@@ -85,6 +85,45 @@ fn a_link_is_followed_and_a_folder_refused(rt: HostRuntime) -> Result<(), Fail> 
     assert!(rt; fs::symlink_metadata(&rt, link.as_str())?.is_symlink());
     let told = format!(in alloc; "uffs: cannot write {folder}\n")?;
     assert_not_got(&rt, image, "/f", folder, (1, told.as_str()))?;
+    fs::remove_dir_all(&rt, folder)?;
+    Ok(())
+}
+
+/// Asserts that a file of an image does not become a file of the host that is the image, or whose new
+/// file stands where the image does; the image stays as it was.
+fn assert_spared<R: Abort + Files<File = File> + AllocGlobal>(
+    rt: &R,
+    image: &str,
+    file: &str,
+) -> Result<(), Fail> {
+    let before = fs::read(rt, image)?;
+    let told = format!(in rt.alloc(); "uffs: cannot write {file}\n")?;
+    assert_not_got(rt, image, "/f", file, (1, told.as_str()))?;
+    assert_eq!(rt; fs::read(rt, image)?.as_slice(), before.as_slice());
+    Ok(())
+}
+
+#[test]
+fn an_image_is_not_replaced_by_its_own_file(rt: HostRuntime) -> Result<(), Fail> {
+    let alloc = rt.alloc();
+    let folder = folder_of(&rt, "get-own")?;
+    let image = name_in(alloc, folder.as_str(), "image")?;
+    let other = name_in(alloc, folder.as_str(), "./image")?;
+    let link = name_in(alloc, folder.as_str(), "link")?;
+    let second = name_in(alloc, folder.as_str(), "second")?;
+    let below = name_in(alloc, folder.as_str(), "file.new")?;
+    let front = name_in(alloc, folder.as_str(), "file")?;
+    let (folder, image) = (folder.as_str(), image.as_str());
+    assert_begun(&rt, image)?;
+    symlink(&rt, "image", link.as_str())?;
+    fs::hard_link(&rt, image, second.as_str())?;
+    for file in [image, other.as_str(), link.as_str(), second.as_str()] {
+        assert_spared(&rt, image, file)?;
+    }
+    assert_spared(&rt, link.as_str(), image)?;
+    fs::rename(&rt, image, below.as_str())?;
+    assert_spared(&rt, below.as_str(), front.as_str())?;
+    assert!(rt; !fs::exists(&rt, front.as_str())?);
     fs::remove_dir_all(&rt, folder)?;
     Ok(())
 }

@@ -6,13 +6,13 @@ mod counted_flash;
 #[cfg(test)]
 mod gets;
 #[cfg(test)]
-mod host_files;
-#[cfg(test)]
 mod images;
 #[cfg(test)]
 mod programs;
 #[cfg(test)]
 mod puts;
+#[cfg(test)]
+mod replaced_files;
 #[cfg(test)]
 mod retries;
 #[cfg(test)]

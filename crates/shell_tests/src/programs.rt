@@ -5,13 +5,14 @@ ghost use Rattle.std.specs.Str.{bytes_eq};
 
 use crate::images::{erased_image, fresh_image};
 use crate::scripts::{Broken, Full};
-use shell::{FileFault, ImageFiles, MOST_BYTES, Source, SourceKind, Sources, tool};
+use host_files::{FileFault, ImageFiles, MOST_BYTES, Source, SourceKind, Sources};
+use shell::tool;
 use std::alloc::{AllocError, Global};
 use std::io::{Read, Write};
 use std::process::Abort;
 use std::test::Fail;
 
-/// A file in memory, whose name is `x`: there is no other.
+/// A file in memory, whose name is `x`, and one that is only read, `y`: there is no other.
 #[derive(Drop)]
 struct OneFile {
     bytes: Vec<u8>,
@@ -28,6 +29,9 @@ impl OneFile {
         }
     }
 }
+
+/// The bytes of the file that is only read.
+const Y: &[u8] = b"abc";
 
 /// Whether a name is that of the one file.
 fn is_x(name: &str) -> bool
@@ -60,6 +64,20 @@ impl ImageFiles for OneFile {
         }
     }
 
+    fn read_source(&self, alloc: Global, name: &str) -> Result<Vec<u8>, FileFault> {
+        if name != "y" {
+            return self.read(alloc, name);
+        }
+        match Vec::from_slice(alloc, Y) {
+            Ok(bytes) => Ok(bytes),
+            Err(_) => Err(FileFault::Memory),
+        }
+    }
+
+    fn takes_away(&self, _alloc: Global, _name: &str, other: &str) -> Result<bool, FileFault> {
+        Ok(other == "link to x")
+    }
+
     fn replace(&mut self, alloc: Global, name: &str, bytes: &[u8]) -> Result<(), FileFault> {
         if !is_x(name) {
             return Err(FileFault::Failed);
@@ -78,9 +96,11 @@ impl ImageFiles for OneFile {
 }
 
 impl Sources for OneFile {
-    fn gather(&self, alloc: Global, name: &str) -> Result<Vec<Source>, AllocError> {
+    fn gather(&self, alloc: Global, name: &str, _image: &str) -> Result<Vec<Source>, AllocError> {
         let kind = match name {
-            "x" => SourceKind::File(self.bytes.len() as u64),
+            "x" | "x.new" => SourceKind::File(self.bytes.len() as u64),
+            "y" => SourceKind::File(3),
+            "own" => SourceKind::Image,
             "link" => SourceKind::Link,
             "folder" => SourceKind::Folder,
             "long" => SourceKind::File(16_777_217),
@@ -398,14 +418,14 @@ fn a_put_is_one_version(rt: HostRuntime) -> Result<(), Fail> {
     let lines = "stat /d\nread /f 0 8\nlog\nundo\nls /\nundo\nls /\n";
     let versions = "log next 4 dropped 0 versions 1 2 *3 checkpoints\n";
     let replies = format!(in rt.alloc();
-        "dir 0\ndata 55464653494d4731\n{versions}ok\nentries 1 d/\nok\nentries 0\n"
+        "dir 0\ndata 616263\n{versions}ok\nentries 1 d/\nok\nentries 0\n"
     )?;
     let calls: [Wanted<'_>; 5] = [
         (&["format", "x"], "", (0, "", "")),
         (&["put", "x", "folder", "/d"], "", (0, "", "")),
         (&["put", "x", "folder", "/d"], "", (0, "", "")),
         (
-            &["put", "x", "x", "/f", "--progress"],
+            &["put", "x", "y", "/f", "--progress"],
             "",
             (0, "", "uffs: 1 of 1\n"),
         ),
@@ -421,13 +441,15 @@ fn what_is_not_put_is_told_by_its_name(rt: HostRuntime) -> Result<(), Fail> {
     files.bytes = fresh_image(alloc)?;
     let big = "uffs: cannot put long: it has over 16777216 bytes\n";
     let special = "uffs: cannot put fifo: it is neither a folder nor a plain file\n";
-    let calls: [Wanted<'_>; 7] = [
+    let own = "uffs: cannot put own: it is the image, or in the place of its new file\n";
+    let calls: [Wanted<'_>; 8] = [
         (
             &["put", "x", "link", "/f"],
             "",
             (1, "", "uffs: cannot put link: it is a link\n"),
         ),
         (&["put", "x", "fifo", "/f"], "", (1, "", special)),
+        (&["put", "x", "own", "/f"], "", (1, "", own)),
         (
             &["put", "x", "crowd", "/f"],
             "",
@@ -461,10 +483,10 @@ fn a_refused_put_leaves_the_image(rt: HostRuntime) -> Result<(), Fail> {
     let mut files = OneFile::new(alloc);
     files.bytes = fresh_image(alloc)?;
     let calls: [Wanted<'_>; 5] = [
-        (&["put", "x", "x", "f"], "", (4, "", "uffs: EINVAL 7\n")),
-        (&["put", "x", "x", "/a b"], "", (4, "", "uffs: SYNTAX\n")),
-        (&["put", "x", "x", "/d/f"], "", (4, "", "uffs: ENOENT 1\n")),
-        (&["put", "x", "x", "/"], "", (4, "", "uffs: EISDIR 3\n")),
+        (&["put", "x", "y", "f"], "", (4, "", "uffs: EINVAL 7\n")),
+        (&["put", "x", "y", "/a b"], "", (4, "", "uffs: SYNTAX\n")),
+        (&["put", "x", "y", "/d/f"], "", (4, "", "uffs: ENOENT 1\n")),
+        (&["put", "x", "y", "/"], "", (4, "", "uffs: EISDIR 3\n")),
         (
             &["put", "x", "folder", "/d/f"],
             "",
@@ -499,7 +521,7 @@ fn what_an_image_holds_is_told(rt: HostRuntime) -> Result<(), Fail> {
     files.bytes = fresh_image(alloc)?;
     let lines = "mkdir /d\nopen /d/f 6\npwrite 0 0 616263\nclose 0\nsync\n";
     let replies = "ok\nfd 0\nwrote 3\nok\nok\n";
-    let calls: [Wanted<'_>; 7] = [
+    let calls: [Wanted<'_>; 6] = [
         (&["run", "x"], lines, (0, replies, "")),
         (&["tree", "x"], "", (0, "/d/\n/d/f 3\n", "")),
         (&["tree", "x", "@2"], "", (0, "/d/\n", "")),
@@ -514,10 +536,39 @@ fn what_an_image_holds_is_told(rt: HostRuntime) -> Result<(), Fail> {
             (1, "", "uffs: cannot write y\n"),
         ),
         (&["get", "x", "/d", "y"], "", (4, "", "uffs: EISDIR 3\n")),
-        (&["get", "x", "/d/f", "x"], "", (0, "", "")),
+    ];
+    assert_calls(&rt, &mut files, alloc, &calls)
+}
+
+#[test]
+fn an_image_is_not_taken_away_by_what_is_asked_of_it(rt: HostRuntime) -> Result<(), Fail> {
+    let alloc = rt.alloc();
+    let mut files = OneFile::new(alloc);
+    files.bytes = fresh_image(alloc)?;
+    let own = "it is the image, or in the place of its new file\n";
+    let image = format!(in alloc; "uffs: cannot put x: {own}")?;
+    let beside = format!(in alloc; "uffs: cannot put x.new: {own}")?;
+    let calls: [Wanted<'_>; 5] = [
+        (
+            &["get", "x", "no path", "x"],
+            "",
+            (1, "", "uffs: cannot write x\n"),
+        ),
+        (
+            &["get", "x.new", "/f", "x"],
+            "",
+            (1, "", "uffs: cannot write x\n"),
+        ),
+        (
+            &["get", "link to x", "/f", "x"],
+            "",
+            (1, "", "uffs: cannot write x\n"),
+        ),
+        (&["put", "x", "x", "/f"], "", (1, "", image.as_str())),
+        (&["put", "x", "x.new", "/f"], "", (1, "", beside.as_str())),
     ];
     assert_calls(&rt, &mut files, alloc, &calls)?;
-    assert_eq!(rt; files.bytes.as_slice(), b"abc".as_slice());
+    assert!(rt; is_fresh(alloc, &files)?);
     Ok(())
 }
 

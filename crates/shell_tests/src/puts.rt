@@ -1,7 +1,7 @@
 //! Folders of the host that are put into an image.
-use crate::host_files::{folder_of, name_in};
 use crate::programs::assert_calls;
-use shell::HostFiles;
+use crate::replaced_files::{folder_of, name_in};
+use host_files::{HostFiles, Source, SourceKind, Sources};
 use std::fs;
 use std::fs::{File, Permissions};
 use std::os::unix::fs::{PermissionsExt, symlink};
@@ -156,6 +156,84 @@ fn a_folder_with_what_is_not_put_is_refused_whole(rt: HostRuntime) -> Result<(),
 }
 
 #[test]
+fn a_folder_with_the_image_is_refused(rt: HostRuntime) -> Result<(), Fail> {
+    let alloc = rt.alloc();
+    let (folder, image, source) = begun(&rt, "own")?;
+    let (folder, image, source) = (folder.as_str(), image.as_str(), source.as_str());
+    assert_formatted(&rt, image)?;
+    let own = "it is the image, or in the place of its new file";
+    assert_unput(&rt, image, image, image, own)?;
+    assert_unput(&rt, image, folder, image, own)?;
+    let second = name_in(alloc, source, "second")?;
+    fs::hard_link(&rt, image, second.as_str())?;
+    assert_unput(&rt, image, source, second.as_str(), own)?;
+    fs::remove_file(&rt, second.as_str())?;
+    let inner = name_in(alloc, source, "image")?;
+    let inner = inner.as_str();
+    let link = name_in(alloc, folder, "link")?;
+    symlink(&rt, "new/image", link.as_str())?;
+    fs::rename(&rt, image, inner)?;
+    assert_unput(&rt, link.as_str(), source, inner, own)?;
+    fs::rename(&rt, inner, image)?;
+    let beside = name_in(alloc, folder, "image.new")?;
+    fs::write(&rt, beside.as_str(), "left over")?;
+    assert_unput(&rt, image, beside.as_str(), beside.as_str(), own)?;
+    fs::remove_dir_all(&rt, folder)?;
+    Ok(())
+}
+
+/// What is gathered at a name, for an image that is missing.
+fn gathered(rt: &HostRuntime, name: &str) -> Result<Vec<Source>, Fail> {
+    let image = name_in(rt.alloc(), name, "no image")?;
+    Ok(HostFiles::new(rt).gather(rt.alloc(), name, image.as_str())?)
+}
+
+#[test]
+fn a_folder_of_as_many_entries_as_may_be_is_told_in_order(rt: HostRuntime) -> Result<(), Fail> {
+    let (folder, _, source) = begun(&rt, "full")?;
+    let source = source.as_str();
+    write_files(&rt, source, 1024)?;
+    let sources = gathered(&rt, source)?;
+    assert_eq!(rt; sources.len(), 1025);
+    for (at, found) in sources.iter().enumerate() {
+        let (way, kind) = match at {
+            0 => (format!(in rt.alloc(); "/")?, SourceKind::Folder),
+            _ => {
+                let bytes = if at <= 10 {
+                    1
+                } else if at <= 100 {
+                    2
+                } else if at <= 1000 {
+                    3
+                } else {
+                    4
+                };
+                let way = format!(in rt.alloc(); "/file{:04}", at - 1)?;
+                (way, SourceKind::File(bytes))
+            }
+        };
+        assert_eq!(rt; (found.way.as_str(), found.kind), (way.as_str(), kind));
+    }
+    fs::remove_dir_all(&rt, folder.as_str())?;
+    Ok(())
+}
+
+#[test]
+fn progress_is_told_for_each_hundred(rt: HostRuntime) -> Result<(), Fail> {
+    let (folder, image, source) = begun(&rt, "progress")?;
+    let image = image.as_str();
+    assert_formatted(&rt, image)?;
+    for number in 0..110 {
+        let name = format!(in rt.alloc(); "{}/file{number:04}", source.as_str())?;
+        fs::write(&rt, name.as_str(), "")?;
+    }
+    let told = "uffs: 100 of 111\nuffs: 111 of 111\n";
+    assert_put(&rt, image, source.as_str(), told)?;
+    fs::remove_dir_all(&rt, folder.as_str())?;
+    Ok(())
+}
+
+#[test]
 fn a_folder_that_is_too_deep_or_too_full_is_refused(rt: HostRuntime) -> Result<(), Fail> {
     let alloc = rt.alloc();
     let (folder, image, source) = begun(&rt, "deep")?;
@@ -177,7 +255,7 @@ fn a_folder_that_is_too_deep_or_too_full_is_refused(rt: HostRuntime) -> Result<(
 }
 
 #[test]
-fn a_file_that_may_not_be_read_is_told(rt: HostRuntime) -> Result<(), Fail> {
+fn what_may_not_be_read_is_told(rt: HostRuntime) -> Result<(), Fail> {
     let alloc = rt.alloc();
     let (folder, image, source) = begun(&rt, "secret")?;
     let (image, source) = (image.as_str(), source.as_str());
@@ -190,6 +268,14 @@ fn a_file_that_may_not_be_read_is_told(rt: HostRuntime) -> Result<(), Fail> {
     if fs::read(&rt, secret).is_err() {
         assert_unread(&rt, image, source, secret)?;
     }
+    fs::remove_file(&rt, secret)?;
+    fs::create_dir(&rt, secret)?;
+    fs::set_permissions(&rt, secret, Permissions::from_mode(0))?;
+    // Who may list all folders lists this one too.
+    if fs::read_dir(&&rt, secret).is_err() {
+        assert_unread(&rt, image, source, secret)?;
+    }
+    fs::remove_dir(&rt, secret)?;
     let missing = name_in(alloc, source, "missing")?;
     assert_unread(&rt, image, missing.as_str(), missing.as_str())?;
     fs::remove_dir_all(&rt, folder.as_str())?;

@@ -18,7 +18,6 @@ fn change_all(alloc: Global, fs: &mut Fs<'_, SimFlash>) -> Result<(), Fault> {
     let moved = Path::parse(alloc, b"/g")?;
     let directory = Path::parse(alloc, b"/d")?;
     let descriptor = fs.open(alloc, &file, OpenFlags::WRITE | OpenFlags::CREAT)?;
-    let descriptor = u64::from(descriptor);
     fs.pwrite(alloc, descriptor, 0, b"abc")?;
     fs.ftruncate(alloc, descriptor, 1)?;
     fs.close(descriptor)?;

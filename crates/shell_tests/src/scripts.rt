@@ -3,7 +3,7 @@ use crate::counted_flash::CountedFlash;
 use flash_model::{Flash, Geometry, PageView, Planned, SimFlash};
 use fs_types::Fault;
 use nor_part::{MemoryNor, NorFlash};
-use shell::{ScriptFault, run_script, run_script_on};
+use script_runs::{ScriptFault, run_script, run_script_on};
 use std::alloc::Global;
 use std::io;
 use std::io::{ErrorKind, Read, Write};

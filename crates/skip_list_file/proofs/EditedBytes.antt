@@ -1,5 +1,5 @@
 -- The bytes of an edited body, one by one.
-use Rattle.std.proofs.Common.{◌≡◌, ℕ, zero, suc, ◌+◌, ◌-◌, ◌<◌, ◌≤◌, ◌⊎◌, inl, inr, max, ◌&&◌, if◌then◌else◌, List, [], ◌++◌, length, get_or, take, drop, replicate, refl, sym, ap, ◌∙◌, arith, length-append, length-drop}
+use Rattle.std.proofs.Common.{◌≡◌, ℕ, zero, suc, ◌+◌, ◌-◌, ◌<◌, ◌≤◌, ◌⊎◌, inl, inr, ◌&&◌, if◌then◌else◌, List, [], ◌++◌, length, get_or, take, drop, replicate, refl, sym, ap, ◌∙◌, arith, length-append, length-drop}
 use Rattle.std.proofs.lemmas.List.{length-take, length-take-le, length-replicate, get_or_append_left, get_or-append_right, get_or-take, get_or-drop, get_or_past, ext_get_or}
 use Rattle.std.proofs.lemmas.Bool.{cases_lt}
 use Rattle.std.specs.Prelude.{nat_le, nat_lt}
@@ -75,14 +75,6 @@ overwritten_none old =
 
 pub edited_length : (old : List ℕ) (offset : ℕ) (bytes : List ℕ) (n : ℕ) → length (edited old offset bytes n) ≡ n
 edited_length old offset bytes n = resized_length (overwritten old offset bytes) n
-
--- bytes written where none lie after them
-pub edited_written : (old : List ℕ) (offset : ℕ) (bytes : List ℕ) (n : ℕ) → n ≡ max (length old) (offset + length bytes) → edited old offset bytes n ≡ overwritten old offset bytes
-edited_written old offset bytes n e = resized_own (overwritten old offset bytes) n (omega (arith, overwritten_length old offset bytes))
-
--- no bytes, and zeros past the end
-pub edited_grown : (old : List ℕ) (offset n : ℕ) → offset ≡ length old → edited old offset [] n ≡ resized old n
-edited_grown old offset n e = ap (λ (o : ℕ). resized (overwritten old o []) n) e ∙ ap (λ (bytes : List ℕ). resized bytes n) (overwritten_none old)
 
 -- what lies before the edit stays
 pub edited_front : (old : List ℕ) (offset : ℕ) (bytes : List ℕ) (n m : ℕ) → m ≤ offset → m ≤ length old → m ≤ n → take m (edited old offset bytes n) ≡ take m old

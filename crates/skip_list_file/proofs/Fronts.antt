@@ -111,6 +111,3 @@ front_of capacity f head size m n some is more le steps =
       shown = body_taken capacity f j (back f head n) m has ∙ front ∙ sym (ap (take m) (body_taken capacity f i head size h) ∙ take-take m size (data_to f i head) le);
       reached = λ _ b r. reached_back capacity f n i head (omega arith) h.chain r;
     }
-
-pub front_none : (capacity : ℕ) (f : Blocks) (head size : ℕ) → IsBodyFront capacity f head size 0 0
-front_none capacity f head size = record { whole = refl; shown = refl; reached = λ some. absurd (omega arith) }

@@ -1,11 +1,10 @@
 -- Bodies while nodes are written: what is held stays, and a body grows by a node.
-use Rattle.std.proofs.Common.{◌≡◌, ℕ, zero, suc, ◌+◌, ◌-◌, ◌*◌, ◌^◌, ◌/◌, ◌%◌, ◌<◌, ◌≤◌, min, ◌⊎◌, inl, inr, Bool, true, false, Option, Some, None, Result, Ok, Err, List, [], ◌∷◌, ◌++◌, length, slice_index, take, drop, if◌then◌else◌, ◌==◌, refl, sym, ap, subst, ◌∙◌, arith, suc-mul}
-use Rattle.std.specs.Prelude.{IfOk}
-use Rattle.std.proofs.lemmas.List.{take_all, take_min, take-take, length-take-le, length-drop}
+use Rattle.std.proofs.Common.{◌≡◌, ℕ, zero, suc, ◌+◌, ◌-◌, ◌*◌, ◌^◌, ◌/◌, ◌%◌, ◌<◌, ◌≤◌, min, ◌⊎◌, inl, inr, Bool, true, false, Option, Some, None, List, [], ◌∷◌, ◌++◌, length, slice_index, take, drop, if◌then◌else◌, ◌==◌, refl, sym, ap, subst, ◌∙◌, arith, suc-mul}
+use Rattle.std.proofs.lemmas.List.{take_all, take_min, length-take-le, length-drop}
 use Rattle.std.proofs.lemmas.Nat.{mul-le, le-div, div-add-mod', mod_below}
 use Rattle.std.proofs.Math.Seq.{take-add}
 use Rattle.fs_types.specs.Names.{Path}
-use Rattle.plain_trees.specs.Contents.{Entry, resized, read_from}
+use Rattle.plain_trees.specs.Contents.{Entry, read_from}
 use Rattle.node_format.specs.Headers.{field, body_header, body_magic, IsNode}
 use Rattle.node_format.specs.BodyNodes.{IsBodySpelling, HasSlot}
 use Rattle.node_format.specs.declared.place.Place.TheVariants.{Dir, File}
@@ -20,10 +19,9 @@ use Rattle.skip_list_file.specs.declared.body.Body.{Body}
 use Rattle.skip_list_file.specs.declared.change.Change.{Change}
 use Rattle.skip_list_file.specs.declared.start.Start.{Start}
 use Rattle.skip_list_file.specs.Reading.{AreBlocks, HoldsBody}
-use Rattle.skip_list_file.specs.Writing.{edited, slot_before, AreLinked, IsBodyFront, IsGrown, IsWritten, HoldsIndex, HoldsPart, BodyOnlyReaches, BeginsChange, IsStored}
-use Rattle.skip_list_file.proofs.Fronts.{has_head, body_length}
+use Rattle.skip_list_file.specs.Writing.{slot_before, AreLinked, IsBodyFront, IsGrown, IsWritten, HoldsIndex, HoldsPart, BodyOnlyReaches, BeginsChange, IsStored}
+use Rattle.skip_list_file.proofs.Fronts.{has_head}
 use Rattle.skip_list_file.proofs.Parts.{data_length}
-use Rattle.skip_list_file.proofs.EditedBytes.{resized_cut, edited_length}
 use Rattle.skip_list_file.proofs.Appended.{IsNext, IsAppended, append_node, index_at, divides_least}
 use Rattle.skip_list_file.proofs.NodeBytes.{data_fits}
 
@@ -262,9 +260,6 @@ all_ends capacity i size least is =
 pub part_length : (bytes : List ℕ) (start count size : ℕ) → length bytes ≡ size → start + count ≤ size → length (take count (drop start bytes)) ≡ count
 part_length bytes start count size is fits = length-take-le count (drop start bytes) (omega (arith, length-drop start bytes))
 
-pub part_long : (old : List ℕ) (offset : ℕ) (bytes : List ℕ) (size start count : ℕ) (chunk : List ℕ) → chunk ≡ take count (drop start (edited old offset bytes size)) → start + count ≤ size → length chunk ≡ count
-part_long old offset bytes size start count chunk is fits = ap length is ∙ part_length (edited old offset bytes size) start count size (edited_length old offset bytes size) fits
-
 -- one turn: a node of the next bytes more, or of what is left of them
 pub turn : (capacity : ℕ) (f0 f f' : Blocks) (kept0 kept kept' : ℕ → Bool) (from : Body) (bytes : List ℕ) (head i next size : ℕ) → 0 < capacity → i * capacity < size → length bytes ≡ size
     → Keeps kept f kept' f' → IsBegun capacity f0 kept0 from bytes f kept head (min (i * capacity) size) → IsGrown capacity f f' kept kept' head i next (take (min capacity (size - i * capacity)) (drop (i * capacity) bytes))
@@ -306,21 +301,3 @@ written_reaches capacity f0 f kept0 kept from to bytes begun counted root b name
         → ((first : ℕ) × PlaceNames (File from.head from.length) first × Reached f0 (first ∷ []) b) ⊎ ((kept0 b ≡ false) × HoldsPart capacity (body capacity f to.head to.length) (f b))
     on (inl (below, reached)) = inl (from.head, (below, refl), reached)
     on (inr (free, holds)) = inr (free, subst (λ (xs : List ℕ). HoldsPart capacity xs (f b)) (sym shown) holds)
-
--- ---- a body cut
-
--- a front, found by reads alone, is the body cut to its length
-pub cut_begun : (capacity : ℕ) (f f' : Blocks) (kept kept' : ℕ → Bool) (from : Body) (front size : ℕ) → f' ≡ f → kept' ≡ kept → size ≤ from.length → IsHeld f kept (File from.head from.length) → IsBody capacity f from.head from.length
-    → IsBodyFront capacity f from.head from.length front size → IsBegun capacity f kept from (resized (body capacity f from.head from.length) size) f' kept' front size
-cut_begun capacity f f' kept kept' from front size same_nodes same_kept le held whole is =
-    let old = body capacity f from.head from.length in
-    let cut : resized old size ≡ take size old = resized_cut old size (omega (arith, body_length capacity f from.head from.length whole)) in
-    let begun = begun_front capacity f kept from (resized old size) front size le held is (ap (take size) cut ∙ take-take size size old (omega arith)) in
-    subst (λ (g : Blocks). IsBegun capacity f kept from (resized old size) g kept' front size) (sym same_nodes)
-    (subst (λ (k : ℕ → Bool). IsBegun capacity f kept from (resized old size) f k front size) (sym same_kept) begun)
-
--- ---- what calls answered
-
-pub if_ok_three : {T E : Type 0} (P Q R S : T → Type 0) (r : Result T E) → IfOk r P → IfOk r Q → IfOk r R → ((x : T) → P x → Q x → R x → S x) → IfOk r S
-if_ok_three P Q R S (Ok x) p q w f = f x p q w
-if_ok_three P Q R S (Err e) p q w f = tt

@@ -1,5 +1,5 @@
 -- The old nodes of which an edit keeps bytes.
-use Rattle.std.proofs.Common.{◌≡◌, ℕ, zero, suc, ◌+◌, ◌-◌, ◌*◌, ◌/◌, ◌<◌, ◌≤◌, ◌⊎◌, inl, inr, List, [], ◌∷◌, ◌++◌, length, get_or, take, drop, replicate, slice_index, refl, sym, ap, subst, ◌∙◌, arith, length-append, length-drop}
+use Rattle.std.proofs.Common.{◌≡◌, ℕ, ◌+◌, ◌-◌, ◌*◌, ◌/◌, ◌<◌, ◌≤◌, ◌⊎◌, inl, inr, List, [], ◌∷◌, ◌++◌, length, get_or, take, drop, replicate, slice_index, refl, sym, ap, subst, ◌∙◌, arith, length-append, length-drop}
 use Rattle.std.specs.Prelude.{min, max}
 use Rattle.std.proofs.lemmas.Bool.Decides.{nat_tests}
 use Rattle.std.proofs.lemmas.Bool.{cases_lt}
@@ -16,10 +16,6 @@ use Rattle.skip_list_file.proofs.Places.{HasPointer}
 use Rattle.skip_list_file.proofs.Parts.{IsRange, range_found, body_read, data_split, data_length, whole_body}
 
 -- ---- the blocks of the last nodes
-
-pub first_listed : (f : Blocks) (head : ℕ) → AreBlocks f head (head ∷ [])
-first_listed f head zero lt = refl
-first_listed f head (suc k) lt = absurd (omega arith)
 
 pub more_listed : (f : Blocks) (head block step : ℕ) (blocks : List ℕ) → length blocks ≡ step → block ≡ back f head step → AreBlocks f head blocks → AreBlocks f head (blocks ++ block ∷ [])
 more_listed f head block step blocks size is listed k lt = on (cases_lt k (length blocks))
@@ -171,18 +167,3 @@ put_over old bytes part start offset from to i from_is to_is lt is within = on (
         let there : to - start + (k - (to - from)) ≡ start + i - start = omega arith in
         get_or-append_right (take (from - start) old) (part ++ drop (to - start) old) (from - start) i 0 front past ∙ get_or-append_right part (drop (to - start) old) (to - from) k 0 size (omega arith)
         ∙ get_or-drop (to - start) old (k - (to - from)) 0 ∙ ap (slice_index old) there ∙ sym (outside (start + i) (inr (omega arith)))
-
--- none where they do not meet
-pub put_none : (old bytes : List ℕ) (start offset from to i : ℕ) → from ≡ max start offset → to ≡ min (start + length old) (offset + length bytes) → to ≤ from → i < length old → slice_index old i ≡ byte_after old start offset bytes (start + i)
-put_none old bytes start offset from to i from_is to_is le within = on (cases_lt (start + i) offset)
-  where
-    e : start + i - start ≡ i
-    e = omega arith
-
-    outside : (place : ℕ) → (place < offset) ⊎ (offset + length bytes ≤ place) → byte_after old start offset bytes place ≡ slice_index old (place - start)
-    outside place (inl before) = grind (arith, nat_tests)
-    outside place (inr past) = grind (arith, nat_tests)
-
-    on : (start + i < offset) ⊎ (offset ≤ start + i) → slice_index old i ≡ byte_after old start offset bytes (start + i)
-    on (inl before) = ap (slice_index old) (sym e) ∙ sym (outside (start + i) (inl before))
-    on (inr from) = ap (slice_index old) (sym e) ∙ sym (outside (start + i) (inr (omega arith)))

@@ -19,9 +19,6 @@ use Rattle.node_format.specs.declared.headers.TheConstants.{SLOTS}
 
 -- ---- what is left after a power, and after twice the power
 
-abbrev IsEven : ℕ → ℕ → Type 0
-IsEven n p = n / p % 2 ≡ 0
-
 mod_double : (n p : ℕ) → 0 < p → n % (p + p) ≡ n % p + n / p % 2 * p
 mod_double n p some =
     let q : ℕ = n / p in

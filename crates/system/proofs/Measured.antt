@@ -25,7 +25,7 @@ use Rattle.node_store.specs.ReadingLaws.{OnlyReads_nodes}
 use Rattle.block_trees.specs.Bodies.{Blocks}
 use Rattle.block_trees.specs.Reached.{Reached, IsFirst, IsNamed}
 use Rattle.reclaim.specs.Verified.{AreRoots}
-use Rattle.working_state.specs.Moments.{Moment, machine_at, seen_at, IsMountedAt, IsStep}
+use Rattle.working_state.specs.Moments.{Moment, machine_at, seen_at, shown_at, IsMountedAt, IsStep}
 use Rattle.working_state.specs.Mounted.{IsMounted, StateStep}
 use Rattle.working_state.specs.Roots.{HasRoot, IsReached, IsSpace}
 use Rattle.working_state.specs.Steps.{is_cut_answer, MayRefuse, CallStep}
@@ -155,7 +155,7 @@ module _ (a b : Moment) (m : IsMountedAt a) where
         remembered_mounted a b (remembering b.state result) Call.Df result refl (worked_mounted a b m (looked_worked a b is.looked)) (measured_step result is)
 
     abbrev StepFrom : Bool → Bool → Type 0
-    StepFrom off off' = CallStep (seen_at a) (machine_at a) off Call.Df result (seen_at b) (machine_at b) off'
+    StepFrom off off' = CallStep (shown_at a off) Call.Df result (shown_at b off')
 
     told_answer : (r : Result Reply Fault) → IfOk r (λ reply. (space : Space) × IsSpace b.device b.state space × (reply_of space (machine_at a) Call.Df ≡ reply))
         → IfOk r (λ reply. (space : Space) × IsSpace b.device (remembering b.state result) space × (answer space (machine_at a) Call.Df ≡ Ok reply))

@@ -1,12 +1,11 @@
 -- What a mount has found: the working state that it makes, and why it makes none.
-use Rattle.std.proofs.Common.{◌≡◌, ◌≢◌, inl, inr, ℕ, ◌-◌, ◌/◌, ◌<◌, true, false, ◌||◌, Option, Some, None, Result, Ok, ◌∷◌, ◌++◌, refl, sym, ap, subst, ◌∙◌, arith}
+use Rattle.std.proofs.Common.{◌≡◌, ◌≢◌, inl, inr, ℕ, ◌/◌, true, false, Option, Some, None, Result, Ok, refl, sym, ap, subst, ◌∙◌, arith}
 use Rattle.std.proofs.lemmas.Bool.{true≢false}
-use Rattle.std.specs.Prelude.{◌↔◌}
 use Rattle.std.specs.FinSet as set
 use Rattle.std.specs.Option.{option_map}
 use Rattle.std.specs.Ordering.{nat_cmp}
 use Rattle.fs_types.specs.declared.fault.Fault.{Fault}
-use Rattle.fs_types.specs.declared.fault.Fault.TheVariants.{Damaged, BadGeometry, ReadFailed, PowerCut, NoMemory}
+use Rattle.fs_types.specs.declared.fault.Fault.TheVariants.{Damaged, ReadFailed, PowerCut, NoMemory}
 use Rattle.flash_model.specs.declared.geometry.Geometry.{Geometry}
 use Rattle.flash_model.specs.Device.{Device, Page}
 use Rattle.flash_model.specs.Geometry.{IsGeometry}
@@ -19,7 +18,7 @@ use Rattle.commit_pair.specs.declared.anchors.Anchors.{Anchors}
 use Rattle.commit_pair.specs.declared.best.Found.{Found}
 use Rattle.commit_pair.specs.Parts.{RecordBytes, parts_on, newest_at, newest_on, payload_of}
 use Rattle.commit_pair.specs.Laws.{HasNone}
-use Rattle.commit_pair.specs.Newest.{IsUncleared, committed_on, NewestCause}
+use Rattle.commit_pair.specs.Newest.{IsUncleared, committed_on}
 use Rattle.commit_pair.specs.Reading.{IsEnd}
 use Rattle.commit_pair.specs.Remembering.{MayCommit, KnowsNewest}
 use Rattle.commit_pair.proofs.NewestLaws.{found_is_newest}
@@ -88,15 +87,6 @@ mounts d e f r m is reads uncleared may loaded none = record {
 }
 
 -- ---- why a mount is refused
-
-pub newest_why : (old new : Device) (fault : Fault) → NewestCause old new fault → MountCause old new fault
-newest_why old new Damaged (inl tie) = inl tie
-newest_why old new Damaged (inr unread) = inr (inl unread)
-newest_why old new BadGeometry why = inr why
-newest_why old new ReadFailed why = why
-newest_why old new PowerCut why = why
-newest_why old new NoMemory why = tt
-newest_why old new _ why = absurd why
 
 pub load_why : (old mid new : Device) (r : Record) (fault : Fault) → IsGeometry old.geometry → committed_on old ≡ Some (Ok r) → OnlyReads old mid → RootsCause (knows_plain_only r) mid (roots_of (history_of r)) new fault → MountCause old new fault
 load_why old mid new r Damaged lawful is reads why =

@@ -4,12 +4,12 @@ use Rattle.std.proofs.lemmas.Bool.{true≢false, both_ways, and_parts}
 use Rattle.std.proofs.lemmas.List.Elements.{Contains-append_cases, Contains-append_left}
 use Rattle.std.specs.Prelude.{◌/◌, is_some, if◌then◌else◌, Contains}
 use Rattle.std.specs.FinSet as set
-use Rattle.std.specs.Option.{option_and_then}
+use Rattle.std.specs.Option.{option_map_or}
 use Rattle.std.specs.Ordering.{nat_cmp}
 use Rattle.history_machine.specs.Descriptors.{Descriptor, descriptor_at}
 use Rattle.history_machine.specs.History.{Past}
 use Rattle.allocator.specs.Ring.{data_blocks, free_count, is_busy}
-use Rattle.history_machine.specs.Machine.{Machine, Space, makes_version, need, change_need, is_accepted, tree_after, changes_tree}
+use Rattle.history_machine.specs.Machine.{Machine, Space, makes_version, need, change_need, is_accepted, pwrite_tree, tree_after, changes_tree}
 use Rattle.plain_trees.specs.Trees.{Tree}
 use Rattle.fs_types.specs.declared.call.Call.{Call}
 use Rattle.fs_types.specs.declared.call.Group.{Group}
@@ -27,7 +27,7 @@ use Rattle.reclaim.proofs.Marking.{reached_same, reached_back}
 use Rattle.bad_blocks.specs.Mode.{is_read_only}
 use Rattle.working_state.specs.Mounted.{KeepsPages}
 use Rattle.working_state.specs.Roots.{IsReached, IsSpace}
-use Rattle.working_state.specs.Seen.{Seen, capacity_of, seen_on, machine_on}
+use Rattle.working_state.specs.Seen.{Seen, capacity_of, seen_on, machine_on, showing, shown_on}
 use Rattle.working_state.specs.Steps.{last_serial, is_sync, is_light, begins_work, is_cut, is_cut_answer, is_writing, tells_space, Refuses, LeadsTo}
 use Rattle.working_state.specs.Steps as once_only
 use Rattle.working_state.specs.Worked.{ReadCause}
@@ -77,7 +77,7 @@ after_on a b c x y = record {
 }
 
 as_answers : (twice : Type 0) (old : Seen) (m : Machine) (off : Bool) (call : Call) (result : Result Reply Fault) (new : Seen) (n : Machine) (off' : Bool)
-    → once_only.AnswersOnce old m off call result new n off' → SystemAnswers twice old m off call result new n off'
+    → once_only.AnswersOnce (showing old m off) call result (showing new n off') → SystemAnswers twice (showing old m off) call result (showing new n off')
 as_answers twice old m off call (Ok reply) new n off' h = h
 as_answers twice old m true call (Err fault) new n off' h = h
 as_answers twice old m false call (Err fault) new n off' (why, is, flag) = (inl why, is, flag)
@@ -142,7 +142,7 @@ heavy_call m Call.End some = absurd (true≢false (sym some))
 heavy_call m Call.Abandon some = absurd (true≢false (sym some))
 heavy_call m (Call.Pwrite descriptor offset []) some = absurd (by (descriptor_at m.descriptors descriptor) some)
   where
-    by : (o : Option Descriptor) → is_some (option_and_then (λ (d : Descriptor). let none : Option Tree = None in none) o) ≡ true → ⊥
+    by : (o : Option Descriptor) → is_some (option_map_or (pwrite_tree m offset []) o None) ≡ true → ⊥
     by None wrong = true≢false (sym wrong)
     by (Some d) wrong = true≢false (sym wrong)
 heavy_call m _ some = refl
@@ -162,14 +162,14 @@ record IsFull (d : Device) (m : System) (call : Call) (b : Device) (k : System) 
 pub full_on : (d b : Device) (m k : System) (call : Call) → TriesOnce d m call (Err FlashFull) b k → k.state.is_off ≡ false
 full_on d b m k call first = by m.state.is_off first.step.answers
   where
-    by : (off : Bool) → once_only.AnswersOnce (seen_on d m.state) (machine_on d m.state) off call (Err FlashFull) (seen_on b k.state) (machine_on b k.state) k.state.is_off → k.state.is_off ≡ false
+    by : (off : Bool) → once_only.AnswersOnce (showing (seen_on d m.state) (machine_on d m.state) off) call (Err FlashFull) (shown_on b k.state) → k.state.is_off ≡ false
     by true h = absurd (let wrong = h.0 in cc)
     by false h = h.2
 
 is_full : (d b : Device) (m k : System) (call : Call) → TriesOnce d m call (Err FlashFull) b k → IsFull d m call b k
 is_full d b m k call first = by m.state.is_off refl first.step.answers
   where
-    by : (off : Bool) → m.state.is_off ≡ off → once_only.AnswersOnce (seen_on d m.state) (machine_on d m.state) off call (Err FlashFull) (seen_on b k.state) (machine_on b k.state) k.state.is_off → IsFull d m call b k
+    by : (off : Bool) → m.state.is_off ≡ off → once_only.AnswersOnce (showing (seen_on d m.state) (machine_on d m.state) off) call (Err FlashFull) (shown_on b k.state) → IsFull d m call b k
     by true is h = absurd (let wrong = h.0 in cc)
     by false is (inl says, _, _) = absurd (true≢false (own_says (machine_on d m.state) call FlashFull says))
     by false is (inr why, as_was, flag) =
@@ -349,12 +349,12 @@ module _ (d b c : Device) (m k q : System) (call : Call) (s : IsSystem d m) (fir
     read_cause x _ more why = absurd why
 
     by_power : (result : Result Reply Fault) (fault : Fault) → result ≡ Err fault → Refuses (seen_on d m.state) (machine_on d m.state) call fault (seen_on c q.state) ⊎ (twice × IsOfSecond fault) → machine_on c q.state ≡ machine_on d m.state → q.state.is_off ≡ is_cut fault
-        → SystemAnswers twice (seen_on d m.state) (machine_on d m.state) m.state.is_off call result (seen_on c q.state) (machine_on c q.state) q.state.is_off
+        → SystemAnswers twice (shown_on d m.state) call result (shown_on c q.state)
     by_power result fault is why same flag =
-        subst (λ (r : Result Reply Fault). SystemAnswers twice (seen_on d m.state) (machine_on d m.state) m.state.is_off call r (seen_on c q.state) (machine_on c q.state) q.state.is_off) (sym is)
-        (subst (λ (off : Bool). SystemAnswers twice (seen_on d m.state) (machine_on d m.state) off call (Err fault) (seen_on c q.state) (machine_on c q.state) q.state.is_off) (sym facts.on) (why, same, flag))
+        subst (λ (r : Result Reply Fault). SystemAnswers twice (shown_on d m.state) call r (shown_on c q.state)) (sym is)
+        (subst (λ (off : Bool). SystemAnswers twice (showing (seen_on d m.state) (machine_on d m.state) off) call (Err fault) (shown_on c q.state)) (sym facts.on) (why, same, flag))
 
-    lacks_answers : (result : Result Reply Fault) (lacks : MakesNoRoom b k result c q) → SystemAnswers twice (seen_on d m.state) (machine_on d m.state) m.state.is_off call result (seen_on c q.state) (machine_on c q.state) q.state.is_off
+    lacks_answers : (result : Result Reply Fault) (lacks : MakesNoRoom b k result c q) → SystemAnswers twice (shown_on d m.state) call result (shown_on c q.state)
     lacks_answers result lacks = elim lacks.why [
       | inl commit ↦
           by_power result lacks.fault lacks.answers (commit_cause lacks.fault commit.why) (lacks_between lacks.fault commit).machine (lacks_off lacks.fault commit)
@@ -410,14 +410,14 @@ module _ (d b c : Device) (m k q : System) (call : Call) (s : IsSystem d m) (fir
     again_cause NoMemory (inr why) = inl (inr why)
     again_cause _ (inr why) = absurd why
 
-    again_answers : SystemAnswers twice (seen_on d m.state) (machine_on d m.state) m.state.is_off call result (seen_on e n.state) (machine_on e n.state) n.state.is_off
+    again_answers : SystemAnswers twice (shown_on d m.state) call result (shown_on e n.state)
     again_answers =
-        subst (λ (off : Bool). SystemAnswers twice (seen_on d m.state) (machine_on d m.state) off call result (seen_on e n.state) (machine_on e n.state) n.state.is_off) (sym facts.on)
-        (by result (subst (λ (off : Bool). once_only.AnswersOnce (seen_on c q.state) (machine_on d m.state) off call result (seen_on e n.state) (machine_on e n.state) n.state.is_off) (made_off (Ok true) room)
-        (subst (λ (x : Machine). once_only.AnswersOnce (seen_on c q.state) x q.state.is_off call result (seen_on e n.state) (machine_on e n.state) n.state.is_off) at.machine second.step.answers)))
+        subst (λ (off : Bool). SystemAnswers twice (showing (seen_on d m.state) (machine_on d m.state) off) call result (shown_on e n.state)) (sym facts.on)
+        (by result (subst (λ (off : Bool). once_only.AnswersOnce (showing (seen_on c q.state) (machine_on d m.state) off) call result (shown_on e n.state)) (made_off (Ok true) room)
+        (subst (λ (x : Machine). once_only.AnswersOnce (showing (seen_on c q.state) x q.state.is_off) call result (shown_on e n.state)) at.machine second.step.answers)))
       where
-        by : (r : Result Reply Fault) → once_only.AnswersOnce (seen_on c q.state) (machine_on d m.state) false call r (seen_on e n.state) (machine_on e n.state) n.state.is_off
-            → SystemAnswers twice (seen_on d m.state) (machine_on d m.state) false call r (seen_on e n.state) (machine_on e n.state) n.state.is_off
+        by : (r : Result Reply Fault) → once_only.AnswersOnce (showing (seen_on c q.state) (machine_on d m.state) false) call r (shown_on e n.state)
+            → SystemAnswers twice (showing (seen_on d m.state) (machine_on d m.state) false) call r (shown_on e n.state)
         by (Ok reply) (on, is, flag) = (
           on,
           record {
@@ -736,7 +736,7 @@ few_free d e m n call result both =
         let second = again.second.step.later.listed in
         omega (arith, room, second)
 
-    first_few : (off : Bool) → once_only.AnswersOnce (seen_on d m.state) (machine_on d m.state) off call (Err FlashFull) (seen_on b k.state) (machine_on b k.state) k.state.is_off
+    first_few : (off : Bool) → once_only.AnswersOnce (showing (seen_on d m.state) (machine_on d m.state) off) call (Err FlashFull) (shown_on b k.state)
         → (seen_on d m.state).free + (seen_on d m.state).listed < (seen_on b k.state).listed + need (capacity_of d) (machine_on d m.state) call
     first_few true h = absurd (let wrong = h.0 in cc)
     first_few false (inl says, _, _) = absurd (true≢false (own_says (machine_on d m.state) call FlashFull says))
@@ -744,13 +744,13 @@ few_free d e m n call result both =
 
 -- a call that needs no node does not find the flash full
 pub never_full : (d e : Device) (m n : System) (call : Call) (result : Result Reply Fault) → TriesOnce d m call result e n → ((capacity : ℕ) (x : Machine) → change_need capacity x call ≡ 0) → result ≢ Err FlashFull
-never_full d e m n call result once none is = by m.state.is_off (subst (λ (r : Result Reply Fault). once_only.AnswersOnce (seen_on d m.state) (machine_on d m.state) m.state.is_off call r (seen_on e n.state) (machine_on e n.state) n.state.is_off) is once.step.answers)
+never_full d e m n call result once none is = by m.state.is_off (subst (λ (r : Result Reply Fault). once_only.AnswersOnce (shown_on d m.state) call r (shown_on e n.state)) is once.step.answers)
   where
     no_need : (x : Bool) → (if x then change_need (capacity_of d) (machine_on d m.state) call else 0) ≡ 0
     no_need true = none (capacity_of d) (machine_on d m.state)
     no_need false = refl
 
-    by : (off : Bool) → once_only.AnswersOnce (seen_on d m.state) (machine_on d m.state) off call (Err FlashFull) (seen_on e n.state) (machine_on e n.state) n.state.is_off → ⊥
+    by : (off : Bool) → once_only.AnswersOnce (showing (seen_on d m.state) (machine_on d m.state) off) call (Err FlashFull) (shown_on e n.state) → ⊥
     by true h = let wrong = h.0 in cc
     by false (inl says, _, _) = true≢false (own_says (machine_on d m.state) call FlashFull says)
     by false (inr why, _, _) = let needs = why.0 in let zero_need = no_need (changes_tree (machine_on d m.state) call) in omega (arith, needs, zero_need)

@@ -17,7 +17,7 @@ use Rattle.fs_types.specs.declared.limits.TheConstants.{ANCHORS}
 use Rattle.flash_model.specs.declared.geometry.Geometry.{Geometry}
 use Rattle.flash_model.specs.Device.{Device}
 use Rattle.history_machine.specs.Machine.{need}
-use Rattle.working_state.specs.Seen.{capacity_of, seen_on, machine_on}
+use Rattle.working_state.specs.Seen.{capacity_of, seen_on, machine_on, showing, shown_on}
 use Rattle.working_state.specs.Steps.{is_sync}
 use Rattle.working_state.specs.Steps as once_only
 use Rattle.working_state.specs.declared.state.State.{State}
@@ -172,7 +172,7 @@ module _ (d e : Device) (m n : System) (call : Call) (s : IsSystem d m) (once : 
       let few = by m.state.is_off once.step.answers in
       omega arith
     where
-      by : (off : Bool) → once_only.AnswersOnce (seen_on d m.state) (machine_on d m.state) off call (Err FlashFull) (seen_on e n.state) (machine_on e n.state) n.state.is_off
+      by : (off : Bool) → once_only.AnswersOnce (showing (seen_on d m.state) (machine_on d m.state) off) call (Err FlashFull) (shown_on e n.state)
           → free_count m.state.storage.ring m.state.storage.bad + set.len m.state.storage.bad < set.len n.state.storage.bad + need (capacity_of d) (machine_on d m.state) call
       by true h = absurd (let wrong = h.0 in cc)
       by false (inl says, _, _) = absurd (true≢false (own_says (machine_on d m.state) call FlashFull says))

@@ -26,7 +26,7 @@ use Rattle.record_format.specs.declared.record.Record.{Record}
 use Rattle.commit_pair.specs.Newest.{remembered}
 use Rattle.commit_pair.proofs.NewestLaws.{only_anchors_matter}
 use Rattle.commit_pair.proofs.Beginning.{still_may_commit}
-use Rattle.working_state.specs.Seen.{seen_on, tree_on, machine_on}
+use Rattle.working_state.specs.Seen.{seen_on, tree_on, machine_on, showing}
 use Rattle.working_state.specs.Steps.{is_sync, AnswersOnce}
 use Rattle.working_state.specs.Mounted.{IsStanding, IsMounted, StateStep, KeepsPages}
 use Rattle.working_state.specs.Roots.{IsReached}
@@ -64,7 +64,7 @@ module _ (d e : Device) (m : System) (t : State) (call : Call) (result : Result 
   was_on on = by m.state.is_off t.is_off result refl step.step.answers on
     where
       by : (a b : Bool) (r : Result Reply Fault) → m.state.is_off ≡ a
-          → AnswersOnce (seen_on d m.state) (machine_on d m.state) a call r (seen_on e t) (machine_on e t) b → b ≡ false → m.state.is_off ≡ false
+          → AnswersOnce (showing (seen_on d m.state) (machine_on d m.state) a) call r (showing (seen_on e t) (machine_on e t) b) → b ≡ false → m.state.is_off ≡ false
       by false b r is answers off = is
       by true b (Ok reply) is answers off = absurd (true≢false answers.0)
       by true b (Err fault) is answers off = absurd (true≢false (sym answers.3 ∙ off))
@@ -90,7 +90,7 @@ module _ (d e : Device) (m : System) (t : State) (call : Call) (result : Result 
   still_must : IsMounted e t → m.state.is_off ≡ false → (b : ℕ) → MustStay e (with_state m t) b → MustStay d m b ⊎ (set.contains t.storage.ring.note b ≡ true)
   still_must mounted on b (inl reached) = elim (step.reached b reached) [
     | inl before ↦ inl (inl before)
-    | inr fresh ↦ inr (evolved.noted b (reached_used reached) fresh)
+    | inr fresh ↦ inr (evolved.noted b (reached_used reached) fresh.0)
   ]
     where
       reached_used : IsReached e t b → set.contains t.storage.ring.used b ≡ true

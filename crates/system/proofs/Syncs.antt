@@ -30,7 +30,7 @@ use Rattle.commit_pair.specs.Parts.{parts_on, best_on, sequence_of, greatest_on}
 use Rattle.commit_pair.specs.Anchored.{OnlyAnchors}
 use Rattle.commit_pair.specs.Committing.{Commits}
 use Rattle.working_state.specs.Roots.{IsReached}
-use Rattle.working_state.specs.Seen.{Seen, seen_on, machine_on, tree_on}
+use Rattle.working_state.specs.Seen.{Seen, seen_on, machine_on, tree_on, showing, shown_on}
 use Rattle.working_state.specs.Steps.{is_sync, is_cut, is_cut_answer, begins_work, is_writing, replied, empty, tells_space, LeadsTo, AnswersOnce, MayRefuse}
 use Rattle.working_state.proofs.BadCounts.{len-within, stays_read_only}
 use Rattle.working_state.specs.declared.state.State.{State}
@@ -204,11 +204,11 @@ module _ {T : Type 0} (d e : Device) (m n : System) (result : Result T Fault) (s
       by (inr newly) = inr (sync, newly)
 
   answers : (call : Call) → IsSyncing (machine_on d m.state) call → IfErr result (SaveCause d m e n)
-      → AnswersOnce (seen_on d m.state) (machine_on d m.state) m.state.is_off call (replied empty result) (seen_on e n.state) (machine_on e n.state) n.state.is_off
+      → AnswersOnce (shown_on d m.state) call (replied empty result) (shown_on e n.state)
   answers call is why = by result m.state.is_off on flag saves.writable why
     where
       by : (r : Result T Fault) (off : Bool) → off ≡ false → n.state.is_off ≡ is_cut_answer r → OnOk r (is_read_only n.state.storage.bad ≡ false) → IfErr r (SaveCause d m e n)
-          → AnswersOnce (seen_on d m.state) (machine_on d m.state) off call (replied empty r) (seen_on e n.state) (machine_on e n.state) n.state.is_off
+          → AnswersOnce (showing (seen_on d m.state) (machine_on d m.state) off) call (replied empty r) (shown_on e n.state)
       by (Ok x) off was is_flag writable why = (
         was,
         record {
@@ -353,7 +353,7 @@ off_step d m call sync off = record {
   after = kept_record d m PowerCut _ call;
 }
   where
-    by : (b : Bool) → b ≡ true → AnswersOnce (seen_on d m.state) (machine_on d m.state) b call (Err PowerCut) (seen_on d m.state) (machine_on d m.state) b
+    by : (b : Bool) → b ≡ true → AnswersOnce (showing (seen_on d m.state) (machine_on d m.state) b) call (Err PowerCut) (showing (seen_on d m.state) (machine_on d m.state) b)
     by true is = (refl, refl, refl, refl)
     by false is = absurd (true≢false (sym is))
 
@@ -373,7 +373,7 @@ grouped_step d m call sync on refused = record {
   after = kept_record d m InGroup _ call;
 }
   where
-    by : (b : Bool) → b ≡ false → AnswersOnce (seen_on d m.state) (machine_on d m.state) b call (Err InGroup) (seen_on d m.state) (machine_on d m.state) b
+    by : (b : Bool) → b ≡ false → AnswersOnce (showing (seen_on d m.state) (machine_on d m.state) b) call (Err InGroup) (showing (seen_on d m.state) (machine_on d m.state) b)
     by false is = (inl refused, refl, refl)
     by true is = absurd (true≢false is)
 
@@ -388,23 +388,3 @@ refused_in_group d m some = ap (λ b. if b then Some InGroup else None) (map_gro
 pub fsync_grouped : (m : Machine) (descriptor : ℕ) (o : Option Descriptor) → o ≡ descriptor_at m.descriptors descriptor → is_some o ≡ true → outside_refusal m None ≡ Some InGroup → refusal m (Call.Fsync descriptor) ≡ Some InGroup
 fsync_grouped m descriptor None is some grouped = absurd (true≢false (sym some))
 fsync_grouped m descriptor (Some x) is some grouped = ap (λ (p : Option Descriptor). option_map_or (λ (y : Descriptor). outside_refusal m None) p (Some BadDescriptor)) (sym is) ∙ grouped
-
--- no file is open under the descriptor
-pub closed_step : (d : Device) (m : System) (call : Call) → is_sync call ≡ true → m.state.is_off ≡ false → refusal (machine_on d m.state) call ≡ Some BadDescriptor → TriesOnce d m call (Err BadDescriptor) d m
-closed_step d m call sync on refused = record {
-  step = record { later = seen_itself (seen_on d m.state); answers = by m.state.is_off on };
-  leaves = λ none. absurd (true≢false (sym sync ∙ none));
-  saves = λ is. refused_saves d m BadDescriptor (ap (λ (b : Bool). b || false) on ∙ sym on) (λ e. absurd cc);
-  told = λ tells. tt;
-  refused = refl;
-  regrouped = refl;
-  stopped = λ is. (refl, refl);
-  last = λ _ _ accepted. absurd (true≢false (sym accepted ∙ ap is_none refused));
-  pass = refl;
-  pages = λ p reached. refl;
-  after = kept_record d m BadDescriptor _ call;
-}
-  where
-    by : (b : Bool) → b ≡ false → AnswersOnce (seen_on d m.state) (machine_on d m.state) b call (Err BadDescriptor) (seen_on d m.state) (machine_on d m.state) b
-    by false is = (inl refused, refl, refl)
-    by true is = absurd (true≢false is)

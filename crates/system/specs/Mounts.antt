@@ -21,8 +21,8 @@ use Rattle.mounting.specs.Costs.{record_pages}
 abbrev pub scan_pages : Device → ℕ
 scan_pages d = ANCHORS * d.geometry.pages + record_pages d
 
--- the device was asked for the pages of the anchors and of the newest record, and for those of one verification of what
--- that record holds
+-- the device was asked for the pages of the anchors and of the newest record, and for those of one verification of
+-- what that record holds
 pub record AsksToMount (old new : Device) : Type 0 where
   pub newest : Record
   pub holds : committed_on old ≡ Some (Ok newest)
@@ -30,12 +30,13 @@ pub record AsksToMount (old new : Device) : Type 0 where
   pub are : AreReached (node_of old) (roots_of (history_of newest)) blocks
   pub most : new.operations ≤ old.operations + scan_pages old + most_reads (node_of old) blocks * old.geometry.pages
 
--- a mount that was refused asked for the pages of the anchors and of the newest record at most, or for what one may that is
--- answered
+-- a mount that was refused asked for the pages of the anchors and of the newest record at most, or for what one may
+-- that is answered
 abbrev pub AsksUntilRefused : Device → Device → Type 0
 AsksUntilRefused old new = (new.operations ≤ old.operations + scan_pages old) ⊎ AsksToMount old new
 
--- a system is mounted with what the newest record holds, and that record's place is known, so that a commit may follow
+-- a system is mounted with what the newest record holds, and that record's place is known, so that a commit may
+-- follow
 pub record IsMountOf (old new : Device) (system : System) : Type 0 where
   pub newest : Record
   pub holds : committed_on old ≡ Some (Ok newest)
@@ -47,13 +48,15 @@ pub record IsMountOf (old new : Device) (system : System) : Type 0 where
 abbrev pub LacksTrees : Device → Type 0
 LacksTrees d = (newest : Record) × (committed_on d ≡ Some (Ok newest)) × (HasTrees d newest → ⊥)
 
--- why a mount is refused: the sizes are out of range, which is seen before any read, or the newest record tells others; no
--- record is valid; two have the greatest sequence, or what the newest holds is damaged; a read failed; the device is off;
--- memory was wanted
+-- why a mount is refused: the sizes are out of range, which is seen before any read, or the newest record tells
+-- others; no record is valid; two have the greatest sequence, or what the newest holds is damaged; a read failed;
+-- the device is off; memory was wanted
 abbrev pub MountCause : Device → Device → Fault → Type 0
-MountCause old new BadGeometry = ((IsGeometry old.geometry → ⊥) × (new ≡ old)) ⊎ (committed_on old ≡ Some (Err BadGeometry))
+MountCause old new BadGeometry =
+    ((IsGeometry old.geometry → ⊥) × (new ≡ old)) ⊎ (committed_on old ≡ Some (Err BadGeometry))
 MountCause old new NoRecord = HasNone old.geometry (parts_on old.geometry old.pages) × (committed_on old ≡ None)
-MountCause old new Damaged = HasTie old.geometry (parts_on old.geometry old.pages) ⊎ ((committed_on old ≡ Some (Err Damaged)) ⊎ LacksTrees old)
+MountCause old new Damaged =
+    HasTie old.geometry (parts_on old.geometry old.pages) ⊎ ((committed_on old ≡ Some (Err Damaged)) ⊎ LacksTrees old)
 MountCause old new ReadFailed = old.failed_reads < new.failed_reads
 MountCause old new PowerCut = new.powered ≡ false
 MountCause old new NoMemory = Unit {0}

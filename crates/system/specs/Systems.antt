@@ -28,27 +28,35 @@ pub record IsKnown (d : Device) (bad : set.FinSet nat_cmp) (anchors : Anchors) :
   pub end : (found : Found) → remembered anchors ≡ Some found → set.contains bad (found.page / d.geometry.pages) ≡ false
       → IsEnd d.geometry d.pages (found.page / d.geometry.pages) d.geometry.pages anchors.end
 
--- a version or a checkpoint reaches this block, of the working history or of the newest record, or the group that is open
+-- a version or a checkpoint reaches this block, of the working history or of the newest record, or the group that
+-- is open
 abbrev pub MustStay : Device → System → ℕ → Type 0
-MustStay d m block = IsReached d m.state block ⊎ ((r : Record) × (saved_on d ≡ Some r) × Reached (node_of d) (roots_of (history_of r)) block)
+MustStay d m block =
+    IsReached d m.state block
+    ⊎ ((r : Record) × (saved_on d ≡ Some r) × Reached (node_of d) (roots_of (history_of r)) block)
 
--- a marking goes on beside the calls. What its roots reach is used and has its nodes; and what must stay now they reach, or it
--- was taken since the marking began. Its roots have trees, and it knows which of the marked blocks are those of bodies
+-- a marking goes on beside the calls. What its roots reach is used and has its nodes; and what must stay now they
+-- reach, or it was taken since the marking began. Its roots have trees, and it knows which of the marked blocks are
+-- those of bodies
 pub record IsRunning (d : Device) (m : System) (p : Pass) : Type 0 where
   pub blocks : p.blocks ≡ d.geometry.blocks
   pub known : Knows Fronts (block_bytes d.geometry) (node_of d) p
   pub held : (b : ℕ) → Reached (node_of d) p.roots b → set.contains m.state.storage.ring.used b ≡ true
   pub nodes : (b : ℕ) → Reached (node_of d) p.roots b → node_of d b ≢ None
-  pub taken : (b : ℕ) → MustStay d m b → (Reached (node_of d) p.roots b → ⊥) → set.contains m.state.storage.ring.note b ≡ true
+  pub taken : (b : ℕ) → MustStay d m b → (Reached (node_of d) p.roots b → ⊥)
+      → set.contains m.state.storage.ring.note b ≡ true
 
--- the working state is mounted. Until a call answered that the power is off, there is a newest record, its place and its roots
--- are known, all its versions and checkpoints stand, and a marking that was begun goes on. Each bad block that is not used is
--- a block of the flash, as used ones are
+-- the working state is mounted. Until a call answered that the power is off, there is a newest record, its place
+-- and its roots are known, all its versions and checkpoints stand, and a marking that was begun goes on. Each bad
+-- block that is not used is a block of the flash, as used ones are
 pub record IsSystem (d : Device) (m : System) : Type 0 where
   pub mounted : IsMounted d m.state
   pub saved : m.state.is_off ≡ false → is_some (saved_on d) ≡ true
-  pub stands : m.state.is_off ≡ false → (r : Record) → saved_on d ≡ Some r → (root : ℕ) → Contains (roots_of (history_of r)) root → IsStanding d m.state.storage.ring root
-  pub roots : m.state.is_off ≡ false → (r : Record) → saved_on d ≡ Some r → m.record_roots.items ≡ roots_of (history_of r)
+  pub stands : m.state.is_off ≡ false → (r : Record) → saved_on d ≡ Some r → (root : ℕ)
+      → Contains (roots_of (history_of r)) root → IsStanding d m.state.storage.ring root
+  pub roots : m.state.is_off ≡ false → (r : Record) → saved_on d ≡ Some r
+      → m.record_roots.items ≡ roots_of (history_of r)
   pub passing : m.state.is_off ≡ false → IfSome m.pass (IsRunning d m)
   pub known : m.state.is_off ≡ false → IsKnown d m.state.storage.bad m.anchors
-  pub listed : (b : ℕ) → set.contains m.state.storage.bad b ≡ true → set.contains m.state.storage.ring.used b ≡ false → b < d.geometry.blocks
+  pub listed : (b : ℕ) → set.contains m.state.storage.bad b ≡ true → set.contains m.state.storage.ring.used b ≡ false
+      → b < d.geometry.blocks

@@ -84,7 +84,7 @@ pub fn mount_with<F: Flash>(alloc: Global, flash: &mut F, nodes: usize) -> Resul
 pub fn mount<F: Flash>(alloc: Global, flash: &mut F) -> Result<System, Fault>
     ensures ok { IfOk result (IsMountOf (F.device flash.old) (F.device flash.new)) }
     ensures system { IfOk result (IsSystem (F.device flash.new)) }
-    ensures room { IfOk result (λ system. system.state.storage.cache.room ≡ MOUNTED_NODES) }
+    ensures room { IfOk result (λ system. system.state.storage.cache.room ≡ 8) }
     ensures only_reads { OnlyReads (F.device flash.old) (F.device flash.new) }
     ensures asks { IfOk result (λ _. AsksToMount (F.device flash.old) (F.device flash.new)) }
     ensures asks_at_most { OnErr result (AsksUntilRefused (F.device flash.old) (F.device flash.new)) }

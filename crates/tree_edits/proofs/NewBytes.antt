@@ -1,19 +1,18 @@
 -- The root of a tree with a file of other bytes: its body is written first, and then the path to it.
-use Rattle.std.proofs.Common.{◌≡◌, ◌⊎◌, ℕ, suc, ◌+◌, ◌≤◌, Bool, true, false, Option, Some, None, Result, Ok, List, [], ◌∷◌, length, refl, sym, ap, subst, ◌∙◌, inl, inr, arith, length-take}
+use Rattle.std.proofs.Common.{◌≡◌, ◌⊎◌, ℕ, suc, ◌*◌, ◌≤◌, Bool, true, false, Option, Some, None, Result, Ok, List, [], ◌∷◌, length, refl, sym, ap, subst, ◌∙◌, inl, inr, arith, length-take}
 use Rattle.std.proofs.lemmas.Bool.{cases_Bool}
 use Rattle.std.specs.Prelude.{zero, Err, IfOk}
 use Rattle.std.specs.Option.{option_and_then}
 use Rattle.fs_types.specs.Names.{Path, is_path}
-use Rattle.plain_trees.specs.Contents.{Contents, Entry, overwritten, resized}
+use Rattle.plain_trees.specs.Contents.{Contents, Entry, read_from}
 use Rattle.plain_trees.specs.Trees.{put, bytes_of, bytes_of_file}
-use Rattle.plain_trees.proofs.Files.{length-resized, length-overwritten}
 use Rattle.fs_types.specs.declared.fault.Fault.{Fault}
 use Rattle.fs_types.specs.declared.fault.Fault.TheVariants.{FlashFull, ReadOnly, ReadFailed, PowerCut, NoMemory}
 use Rattle.node_format.specs.declared.place.Place.{Place}
 use Rattle.node_format.specs.declared.place.Place.TheVariants.{Dir, File}
 use Rattle.block_trees.specs.Bodies.{Blocks, body, data_to, head_index, IsBody}
 use Rattle.block_trees.specs.Reached.{Reached, IsHeld, Keeps, PlaceNames}
-use Rattle.block_trees.specs.Rewritten.{IsRewritten}
+use Rattle.block_trees.specs.Rewritten.{IsFreshNode, IsRewritten}
 use Rattle.block_trees.specs.Trees.{child, leads, HasTree, IsWholePlace, IsRoot, root_tree}
 use Rattle.block_trees.proofs.EditedMaps.{put_file_law}
 use Rattle.block_trees.proofs.EditedTrees.{edit_law}
@@ -33,7 +32,7 @@ use Rattle.skip_list_file.specs.Writing as bodies
 use Rattle.skip_list_file.specs.Writing.{IsWritten, IsWritingFault}
 use Rattle.skip_list_file.specs.declared.body.Body.{Body}
 use Rattle.tree_edits.specs.Edits.{TakesFile}
-use Rattle.tree_edits.specs.Roots.{IsNewRoot}
+use Rattle.tree_edits.specs.Roots.{IsNewRoot, IsWrittenNode}
 use Rattle.tree_edits.proofs.Lookups.{path_within, no_directory}
 
 pub body_fault : (fault : Fault) → IsWritingFault fault → IsChangeFault fault
@@ -87,15 +86,15 @@ reached_leads f (n ∷ path) from root b place led names reached = on (child f (
             reached_via f (from ∷ []) root (child_names f from n (File head size) root is named) reached
         at_file (m ∷ p) e = absurd cc
 
--- the blocks that a new body reaches, of those before it: the root reached them, or they were not kept
+-- the blocks that a new body reaches, of those before it: the root reached them, or they were written in ones that were not kept
 abbrev pub IsFrom : Blocks → (ℕ → Bool) → ℕ → Blocks → Body → Type 0
-IsFrom old kept from mid x = (root block : ℕ) → PlaceNames (File x.head x.length) root → Reached mid (root ∷ []) block → Reached old (from ∷ []) block ⊎ (kept block ≡ false)
+IsFrom old kept from mid x = (root block : ℕ) → PlaceNames (File x.head x.length) root → Reached mid (root ∷ []) block → Reached old (from ∷ []) block ⊎ ((kept block ≡ false) × IsWrittenNode (mid block))
 
 -- a body made of that of a file of the tree
 pub from_file : (capacity : ℕ) (old mid : Blocks) (kept : ℕ → Bool) (from : ℕ) (path : Path) (x y : Body) → LeadsToDirectories old from → look_up old from path ≡ Ok (found.File x.head x.length) → bodies.BodyOnlyReaches capacity old mid kept x y → IsFrom old kept from mid y
 from_file capacity old mid kept from path x y whole led only root block names reached = elim (only root block names reached) [
   | inl before ↦ inl (reached_leads old path from before.0 block (File x.head x.length) (found_leads_file old from path x.head x.length whole led) before.1 before.2)
-  | inr fresh ↦ inr fresh.0
+  | inr fresh ↦ inr (fresh.0, inr (fresh.1.0, read_from (body capacity mid y.head y.length) (fresh.1.0 * capacity) capacity, fresh.1.1))
 ]
 
 -- ---- the new root
@@ -124,14 +123,18 @@ file_root capacity old mid new kept held_mid kept' from to path found_there x by
       | inr is ↦ is
     ]
 
-    on : (block : ℕ) → Reached mid (from ∷ []) block ⊎ (held_mid block ≡ false) ⊎ ((root : ℕ) × (place : Place) × (let at : Option Place = Some (File x.head x.length) in at ≡ Some place) × PlaceNames place root × Reached new (root ∷ []) block)
-        → Reached old (from ∷ []) block ⊎ (kept block ≡ false)
+    on : (block : ℕ) → Reached mid (from ∷ []) block ⊎ IsFreshNode held_mid new block ⊎ ((root : ℕ) × (place : Place) × (let at : Option Place = Some (File x.head x.length) in at ≡ Some place) × PlaceNames place root × Reached new (root ∷ []) block)
+        → Reached old (from ∷ []) block ⊎ ((kept block ≡ false) × IsWrittenNode (new block))
     on block (inl before) = inl ((frame_law old mid kept held_mid first).reached from block held before)
-    on block (inr (inl free)) = inr (was_fresh block free)
+    on block (inr (inl fresh)) = inr (was_fresh block fresh.0, inl fresh.1)
     on block (inr (inr (root, place, is, names, below))) =
         let named : PlaceNames (File x.head x.length) root = subst (λ (p : Place). PlaceNames p root) (sym (place_is (File x.head x.length) place is)) names in
         let own : IsHeld mid held_mid (Dir root) = λ other same. written.held other (subst (λ (r : ℕ). PlaceNames (File x.head x.length) r) same named) in
-        is_from root block named ((frame_law mid new held_mid kept' second).reached root block own below)
+        let reached = (frame_law mid new held_mid kept' second).reached root block own below in
+        elim (is_from root block named reached) [
+          | inl before ↦ inl before
+          | inr written_there ↦ inr (written_there.0, subst IsWrittenNode (sym (second.same block (own root refl block reached))) written_there.1)
+        ]
 
 pub file_result : (capacity : ℕ) (old mid new : Blocks) (kept held_mid kept' : ℕ → Bool) (from : ℕ) (path : Path) (found_there : Found) (x : Body) (bytes : List ℕ) (result : Result ℕ Fault) → Keeps kept old held_mid mid → Keeps held_mid mid kept' new
     → IsHeld old kept (Dir from) → IsRoot capacity old from → is_path path ≡ true → look_up old from path ≡ Ok found_there → TakesFile found_there
@@ -175,11 +178,3 @@ file_held f kept root path head size whole held led = held_leads f kept path (Di
 pub file_bytes : (capacity : ℕ) (f : Blocks) (root : ℕ) (path : Path) (head size : ℕ) → IsRoot capacity f root → look_up f root path ≡ Ok (found.File head size) → body capacity f head size ≡ bytes_of_file (root_tree capacity f root) path
 file_bytes capacity f root path head size rooted led =
     sym (ap bytes_of (ap (λ (t : Contents). t path) (map_law capacity f root rooted).same ∙ (found_is capacity f root path (found.File head size) (rooted_leads capacity f root rooted) led).1))
-
--- an overwritten body is no longer than the most bytes of a file
-pub overwritten_short : (capacity : ℕ) (f : Blocks) (head size offset n : ℕ) (bytes : List ℕ) → IsBody capacity f head size → n ≡ length (overwritten (body capacity f head size) offset bytes) → size ≤ 16777216 → offset + length bytes ≤ 16777216 → n ≤ 16777216
-overwritten_short capacity f head size offset n bytes whole is short fits =
-    omega (arith, body_length capacity f head size whole, length-overwritten (body capacity f head size) bytes offset)
-
-pub resized_short : (old : List ℕ) (size n : ℕ) → n ≡ length (resized old size) → size ≤ 16777216 → n ≤ 16777216
-resized_short old size n is fits = omega (arith, length-resized old size)

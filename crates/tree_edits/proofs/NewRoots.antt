@@ -24,15 +24,15 @@ use Rattle.directory.specs.Lookups.{look_up}
 use Rattle.directory.specs.Making.{IsNewDirectory}
 use Rattle.directory.proofs.LookupLaws.{found_is, found_leads, found_leads_file, rooted_leads}
 use Rattle.tree_edits.specs.Edits.{IsMovable, IsRemovable}
-use Rattle.tree_edits.specs.Roots.{IsNewRoot}
+use Rattle.tree_edits.specs.Roots.{IsNewRoot, IsWrittenNode}
 use Rattle.tree_edits.proofs.Lookups.{path_within}
 
 -- a root that reaches nothing but what was reached, and what is new
-pub without_entry_reaches : (old new : Blocks) (kept : ℕ → Bool) (from to block : ℕ) → OnlyReaches old new kept from to None → Reached new (to ∷ []) block → Reached old (from ∷ []) block ⊎ (kept block ≡ false)
+pub without_entry_reaches : (old new : Blocks) (kept : ℕ → Bool) (from to block : ℕ) → OnlyReaches old new kept from to None → Reached new (to ∷ []) block → Reached old (from ∷ []) block ⊎ ((kept block ≡ false) × IsWrittenNode (new block))
 without_entry_reaches old new kept from to block reaches r = elim (reaches block r) [
   | inl before ↦ inl before
   | inr later ↦ elim later [
-    | inl fresh ↦ inr fresh
+    | inl fresh ↦ inr (fresh.0, inl fresh.1)
     | inr below ↦ absurd (let wrong = below.2 in cc)
   ]
 ]
@@ -96,7 +96,12 @@ moved_root capacity old new kept kept' from to old_path new_path place keeps hel
     let short = path_within new_path (and_parts (is_path old_path) (is_path new_path) movable.lawful).1 in
     let all = move_law old new kept kept' from to old_path new_path place keeps held movable.stands moved in
     let law = rename_law capacity old new kept kept' from to old_path new_path place keeps held rooted movable.stands short movable.shallow moved in
-    record { rooted = law.0; held = all.held; shows = law.1; reached = all.reached }
+    record {
+      rooted = law.0;
+      held = all.held;
+      shows = law.1;
+      reached = λ block r. elim (all.reached block r) [ inl before ↦ inl before | inr fresh ↦ inr (fresh.0, inl fresh.1) ];
+    }
 
 pub moved_result : (capacity : ℕ) (old new : Blocks) (kept kept' : ℕ → Bool) (from : ℕ) (old_path new_path : Path) {old_trail new_trail : List ℕ} (place : Place) (result : Result ℕ Fault) → Keeps kept old kept' new → IsHeld old kept (Dir from) → IsRoot capacity old from
     → IsMovable old from old_path old_trail new_path new_trail place → IfOk result (λ to. IsMoved old new kept kept' from to old_path new_path place)

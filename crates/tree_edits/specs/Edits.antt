@@ -31,8 +31,8 @@ IsRemovable f (found.Missing is_full) = ⊥
 IsRemovable f (found.File head size) = Unit {0}
 IsRemovable f (found.Dir block) = entries_in f block ≡ Some []
 
--- what an old path leads to can be moved to a new one: the trails are those of the paths, no path gets too long, and the
--- new name has room, which a move within one directory does not ask
+-- what an old path leads to can be moved to a new one: the trails are those of the paths, no path gets too
+-- long, and the new name has room, which a move within one directory does not ask
 pub record IsMovable (f : Blocks) (root : ℕ) (old : Path) (old_trail : List ℕ) (new : Path) (new_trail : List ℕ) (place : Place) : Type 0 where
   pub lawful : is_path old && is_path new ≡ true
   pub lawful_place : is_place place ≡ true
@@ -42,24 +42,42 @@ pub record IsMovable (f : Blocks) (root : ℕ) (old : Path) (old_trail : List �
   pub shallow : IsShallow f place (MAX_NAMES - length new)
   pub room : same_path (parent_of old) (parent_of new) ≡ false → has_room (look_up f root new) ≡ true
 
--- what look ups told of an edit of the tree of a root
+-- this was found at a path
+abbrev pub Finds : Blocks → ℕ → Path → Found → Type 0
+Finds f root path x = look_up f root path ≡ Ok x
+
+-- what look-ups told of an edit of the tree of a root
 abbrev pub IsEditable : ℕ → Blocks → (ℕ → Bool) → ℕ → Edit → Type 0
-IsEditable capacity f kept root (Edit.MakeDirectory path trail) = (is_path path.now ≡ true) × IsTrail f root path.now trail.now × (look_up f root path.now ≡ Ok (found.Missing false))
-IsEditable capacity f kept root (Edit.PutEmptyFile path trail) = (is_path path.now ≡ true) × IsTrail f root path.now trail.now × (x : Found) × (look_up f root path.now ≡ Ok x) × TakesFile x
+IsEditable capacity f kept root (Edit.MakeDirectory path trail) =
+    (is_path path.now ≡ true) × IsTrail f root path.now trail.now × Finds f root path.now (found.Missing false)
+IsEditable capacity f kept root (Edit.PutEmptyFile path trail) =
+    (is_path path.now ≡ true) × IsTrail f root path.now trail.now
+    × (x : Found) × Finds f root path.now x × TakesFile x
 IsEditable capacity f kept root (Edit.Overwrite path trail body offset bytes) =
-    (is_path path.now ≡ true) × IsTrail f root path.now trail.now × (look_up f root path.now ≡ Ok (found.File body.head body.length)) × (body.length ≤ MAX_FILE_BYTES) × (0 < length bytes.now) × (offset + length bytes.now ≤ 16777216)
+    (is_path path.now ≡ true) × IsTrail f root path.now trail.now
+    × Finds f root path.now (found.File body.head body.length) × (body.length ≤ MAX_FILE_BYTES)
+    × (0 < length bytes.now) × (offset + length bytes.now ≤ MAX_FILE_BYTES)
 IsEditable capacity f kept root (Edit.SetLength path trail body size) =
-    (is_path path.now ≡ true) × IsTrail f root path.now trail.now × (look_up f root path.now ≡ Ok (found.File body.head body.length)) × (size ≤ MAX_FILE_BYTES)
-IsEditable capacity f kept root (Edit.Remove path trail) = (is_path path.now ≡ true) × IsTrail f root path.now trail.now × (0 < length path.now) × (x : Found) × (look_up f root path.now ≡ Ok x) × IsRemovable f x
-IsEditable capacity f kept root (Edit.Move old old_trail new new_trail place) = Apart old.now new.now × IsMovable f root old.now old_trail.now new.now new_trail.now place
+    (is_path path.now ≡ true) × IsTrail f root path.now trail.now
+    × Finds f root path.now (found.File body.head body.length) × (size ≤ MAX_FILE_BYTES)
+IsEditable capacity f kept root (Edit.Remove path trail) =
+    (is_path path.now ≡ true) × IsTrail f root path.now trail.now × (0 < length path.now)
+    × (x : Found) × Finds f root path.now x × IsRemovable f x
+IsEditable capacity f kept root (Edit.Move old old_trail new new_trail place) =
+    Apart old.now new.now × IsMovable f root old.now old_trail.now new.now new_trail.now place
 IsEditable capacity f kept root (Edit.Restore other) = IsHeld f kept (Dir other) × IsRoot capacity f other
+
+-- a tree with other bytes in the file at a path
+abbrev pub with_file : Tree → Path → (List ℕ → List ℕ) → Tree
+with_file t path change = put t path (Entry.File (change (bytes_of_file t path)))
 
 -- the tree that an edit makes of a tree, where each root has this tree
 abbrev pub effect : (ℕ → Tree) → Edit → Tree → Tree
 effect trees (Edit.MakeDirectory path trail) t = put t path.now Entry.Dir
 effect trees (Edit.PutEmptyFile path trail) t = put t path.now (Entry.File [])
-effect trees (Edit.Overwrite path trail body offset bytes) t = put t path.now (Entry.File (overwritten (bytes_of_file t path.now) offset bytes.now))
-effect trees (Edit.SetLength path trail body size) t = put t path.now (Entry.File (resized (bytes_of_file t path.now) size))
+effect trees (Edit.Overwrite path trail body offset bytes) t =
+    with_file t path.now (λ old. overwritten old offset bytes.now)
+effect trees (Edit.SetLength path trail body size) t = with_file t path.now (λ old. resized old size)
 effect trees (Edit.Remove path trail) t = remove t path.now
 effect trees (Edit.Move old old_trail new new_trail place) t = move t old.now new.now
 effect trees (Edit.Restore other) t = trees other
@@ -69,20 +87,23 @@ abbrev pub source : ℕ → Edit → ℕ
 source root (Edit.Restore other) = other
 source root _ = root
 
--- how many nodes an edit may write, where a body node has room for so many data bytes: of each directory of its trails as
--- many as it has, or as it has with one entry more where a name is put that is missing; a directory that is made; and those
--- of a file's body
+-- how many nodes an edit may write, where a body node has room for so many data bytes: of each directory of its
+-- trails as many as it has, or as it has with one entry more where a name is put that is missing; a directory
+-- that is made; and those of a file's body
 abbrev pub edit_need : ℕ → Blocks → Edit → ℕ
 edit_need capacity f (Edit.MakeDirectory path trail) = path_nodes f trail.now path.now true 0 + 1
 edit_need capacity f (Edit.PutEmptyFile path trail) = path_nodes f trail.now path.now true 0
-edit_need capacity f (Edit.Overwrite path trail body offset bytes) = pwrite_need capacity body.length offset (length bytes.now) + path_nodes f trail.now path.now true 0
-edit_need capacity f (Edit.SetLength path trail body size) = ftruncate_need capacity body.length size + path_nodes f trail.now path.now true 0
+edit_need capacity f (Edit.Overwrite path trail body offset bytes) =
+    pwrite_need capacity body.length offset (length bytes.now) + path_nodes f trail.now path.now true 0
+edit_need capacity f (Edit.SetLength path trail body size) =
+    ftruncate_need capacity body.length size + path_nodes f trail.now path.now true 0
 edit_need capacity f (Edit.Remove path trail) = path_nodes f trail.now path.now false 0
-edit_need capacity f (Edit.Move old old_trail new new_trail place) = move_nodes f old_trail.now old.now new_trail.now new.now
+edit_need capacity f (Edit.Move old old_trail new new_trail place) =
+    move_nodes f old_trail.now old.now new_trail.now new.now
 edit_need capacity f (Edit.Restore other) = 0
 
--- how many nodes are read at most to overwrite a body of this length up to an end, where the index of its head has so
--- many binary digits
+-- how many nodes are read at most to overwrite a body of this length up to an end, where the index of its head
+-- has so many binary digits
 abbrev pub overwrite_reads : ℕ → ℕ → ℕ → ℕ → ℕ
 overwrite_reads capacity size end digits = 2 * nodes_between capacity end size + (1 + 5 * digits)
 
@@ -90,15 +111,26 @@ overwrite_reads capacity size end digits = 2 * nodes_between capacity end size +
 abbrev pub resize_reads : ℕ → ℕ
 resize_reads digits = 1 + 5 * digits
 
+-- how many nodes the directories have that are written anew for a path
+abbrev pub way_reads : Blocks → List ℕ → Path → ℕ
+way_reads f trail path = path_nodes f trail path false 0
+
+-- at most so many nodes were read of a body of this length, by the digits of the index of its head, and of
+-- directories
+abbrev pub ReadsBody : ℕ → ℕ → (ℕ → ℕ) → ℕ → ℕ → ℕ → Type 0
+ReadsBody capacity size body_reads way before after =
+    (digits : ℕ) → HasDigits (head_index capacity size) digits → after ≤ before + (body_reads digits + way)
+
 -- an edit read few nodes: each of a directory that is written anew once, and of a file what its body's write asks
 abbrev pub ReadsFew : ℕ → Blocks → Edit → ℕ → ℕ → Type 0
-ReadsFew capacity f (Edit.MakeDirectory path trail) before after = after ≤ before + path_nodes f trail.now path.now false 0
-ReadsFew capacity f (Edit.PutEmptyFile path trail) before after = after ≤ before + path_nodes f trail.now path.now false 0
+ReadsFew capacity f (Edit.MakeDirectory path trail) before after = after ≤ before + way_reads f trail.now path.now
+ReadsFew capacity f (Edit.PutEmptyFile path trail) before after = after ≤ before + way_reads f trail.now path.now
 ReadsFew capacity f (Edit.Overwrite path trail body offset bytes) before after =
-    (digits : ℕ) → HasDigits (head_index capacity body.length) digits
-    → after ≤ before + (overwrite_reads capacity body.length (offset + length bytes.now) digits + path_nodes f trail.now path.now false 0)
+    ReadsBody capacity body.length (overwrite_reads capacity body.length (offset + length bytes.now))
+    (way_reads f trail.now path.now) before after
 ReadsFew capacity f (Edit.SetLength path trail body size) before after =
-    (digits : ℕ) → HasDigits (head_index capacity body.length) digits → after ≤ before + (resize_reads digits + path_nodes f trail.now path.now false 0)
-ReadsFew capacity f (Edit.Remove path trail) before after = after ≤ before + path_nodes f trail.now path.now false 0
-ReadsFew capacity f (Edit.Move old old_trail new new_trail place) before after = after ≤ before + move_nodes f old_trail.now old.now new_trail.now new.now
+    ReadsBody capacity body.length resize_reads (way_reads f trail.now path.now) before after
+ReadsFew capacity f (Edit.Remove path trail) before after = after ≤ before + way_reads f trail.now path.now
+ReadsFew capacity f (Edit.Move old old_trail new new_trail place) before after =
+    after ≤ before + move_nodes f old_trail.now old.now new_trail.now new.now
 ReadsFew capacity f (Edit.Restore other) before after = after ≡ before

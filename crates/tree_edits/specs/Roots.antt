@@ -1,21 +1,28 @@
 -- New roots.
-use Rattle.std.specs.Prelude.{◌≡◌, ◌⊎◌, ℕ, ◌-◌, Bool, false, [], ◌∷◌, Result, IfOk, IfErr}
+use Rattle.std.specs.Prelude.{◌≡◌, ◌⊎◌, ℕ, ◌-◌, Bool, true, false, Option, List, [], ◌∷◌, Result, IfOk, IfErr}
 use Rattle.fs_types.specs.declared.fault.Fault.{Fault}
 use Rattle.plain_trees.specs.Trees.{Tree}
 use Rattle.node_format.specs.Headers.{body_header}
 use Rattle.node_format.specs.declared.place.Place.TheVariants.{Dir}
 use Rattle.block_trees.specs.Bodies.{Blocks}
+use Rattle.block_trees.specs.Chains.{is_chained}
 use Rattle.block_trees.specs.Reached.{Reached, IsHeld}
 use Rattle.block_trees.specs.Trees.{IsRoot, root_tree}
 use Rattle.directory.specs.Trails.{IsChangeFault}
+use Rattle.skip_list_file.specs.Writing.{HoldsIndex}
 
--- a root has this tree; all that it reaches is kept, and another root reached it before, or it is in a block that was
+-- a node as it is written: one of a chain of a directory, or one of a body, with 0 in its zero field and in each slot that its
+-- index does not have
+abbrev pub IsWrittenNode : Option (List ℕ) → Type 0
+IsWrittenNode node = (is_chained node ≡ true) ⊎ ((index : ℕ) × (bytes : List ℕ) × HoldsIndex node index bytes)
+
+-- a root has this tree; all that it reaches is kept, and another root reached it before, or it was written in a block that was
 -- not kept
 pub record IsNewRoot (capacity : ℕ) (old : Blocks) (kept : ℕ → Bool) (new : Blocks) (kept' : ℕ → Bool) (from to : ℕ) (tree : Tree) : Type 0 where
   pub rooted : IsRoot capacity new to
   pub held : IsHeld new kept' (Dir to)
   pub shows : root_tree capacity new to ≡ tree
-  pub reached : (block : ℕ) → Reached new (to ∷ []) block → Reached old (from ∷ []) block ⊎ (kept block ≡ false)
+  pub reached : (block : ℕ) → Reached new (to ∷ []) block → Reached old (from ∷ []) block ⊎ ((kept block ≡ false) × IsWrittenNode (new block))
 
 -- an edit of the tree of a root was applied, in the words of the trait `Nodes`: there is a new root with the edited tree; or it was
 -- refused with its cause

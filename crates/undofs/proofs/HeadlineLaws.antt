@@ -1,9 +1,9 @@
--- What is shown after a session on a flash that was formatted, and what is given back from there.
+-- What is shown after a session on a flash whose newest record is sound, and what is given back from there.
 use Rattle.std.proofs.Common.{◌≡◌, ℕ, zero, suc, Bool, false, Some, None, Result, Ok, Err, List, [], ◌∷◌, refl, sym, ap, subst, ◌∙◌, arith}
 use Rattle.std.specs.Prelude.{Contains, IsOk}
 use Rattle.std.specs.Option.{option_map}
 use Rattle.history_machine.specs.Descriptors.{any_open}
-use Rattle.history_machine.specs.History.{Past, IsLawful, fresh, undo_refusal}
+use Rattle.history_machine.specs.History.{Past, IsLawful, fresh, undo_refusal, redo_refusal}
 use Rattle.history_machine.specs.Laws.{UndoLaw, RedoLaw, RollbackLaw}
 use Rattle.history_machine.specs.Machine.{Machine, Space, mounted, next, after, present_tree, refusal, travel_refusal, answer, step}
 use Rattle.history_machine.proofs.Steps.{passes, outside}
@@ -14,12 +14,14 @@ use Rattle.fs_types.specs.declared.event.Answer.{Answer}
 use Rattle.fs_types.specs.declared.fault.Fault.{Fault}
 use Rattle.fs_types.specs.declared.fault.Fault.TheVariants.{Busy}
 use Rattle.flash_model.specs.Device.{Device}
-use Rattle.working_state.specs.Seen.{machine_on}
-use Rattle.mounting.specs.Records.{trees_of}
+use Rattle.working_state.specs.Seen.{machine_on, shown_on}
+use Rattle.mounting.specs.Records.{trees_of, HasTrees}
+use Rattle.record_format.specs.declared.record.Record.{Record}
 use Rattle.system.specs.Systems.{IsSystem}
 use Rattle.system.specs.declared.systems.System.{System}
 use Rattle.undofs.specs.Runs.{World, Shows, Happens, ReclaimsOn, Mounts, Run, NoneRestarts, accepted}
-use Rattle.undofs.specs.Headline.{Accepts, Answers, GivesBack, HeadlineLaw}
+use Rattle.undofs.specs.Headline.{Accepts, Answers, CarriesOut, GivesBack, HeadlineLaw, SoundHeadlineLaw, FormattedLaw}
+use Rattle.undofs.proofs.RedoBetween.{redo_between}
 use Rattle.undofs.proofs.CourseLaws.{course_law}
 use Rattle.undofs.proofs.RunLaws.{shown, refused_keeps, not_both}
 
@@ -42,7 +44,7 @@ shows_after w m (event ∷ events) [] v is calls run = absurd run
 shows_after w m (Event.Call call ∷ events) (Answer.Done reply ∷ answers) v is calls (between, here, rest) =
     shows_after between (next m call) events answers v (accepts_next w between m call is (reply, here)).1 calls rest
 shows_after w m (Event.Call call ∷ events) (Answer.Refused fault ∷ answers) v is calls (between, here, rest) =
-    let stays : machine_on between.device here.after.state ≡ m = refused_keeps _ _ _ here.before.state.is_off call fault _ _ here.after.state.is_off here.step.answers ∙ shown w m here.before is here.was in
+    let stays : machine_on between.device here.after.state ≡ m = refused_keeps _ (shown_on w.device here.before.state) call fault (shown_on between.device here.after.state) here.step.answers ∙ shown w m here.before is here.was in
     shows_after between m events answers v (here.after, here.is, stays) calls rest
 shows_after w m (Event.Call call ∷ events) (Answer.Mounted ∷ answers) v is calls (between, here, rest) = absurd here
 shows_after w m (Event.Call call ∷ events) (Answer.Unmounted ∷ answers) v is calls (between, here, rest) = absurd (not_both w is.0 is.1 here.0)
@@ -56,6 +58,12 @@ shows_after w m (Event.Restart ∷ events) (answer ∷ answers) v is calls run =
 
 pub answers_after : (w v : World) (m : Machine) (calls : List Call) → Shows w m → Answers w calls v → Shows v (after m calls)
 answers_after w v m calls is (events, answers, are, run, same) = subst (λ (x : List Call). Shows v (after m x)) same (shows_after w m events answers v is are run)
+
+-- a call was accepted, and then these: what is shown then
+pub carries_out : (w v : World) (m : Machine) (call : Call) (calls : List Call) → Shows w m → CarriesOut w call calls v → (refusal m call ≡ None) × Shows v (after (next m call) calls)
+carries_out w v m call calls is done =
+    let first = accepts_next w done.between m call is done.first in
+    (first.0, answers_after done.between v (next m call) calls first.1 done.later)
 
 -- a world shows one machine
 pub one_machine : (v : World) (m n : Machine) → Shows v m → Shows v n → n ≡ m
@@ -81,24 +89,35 @@ none_open m none =
     let alone = outside m (travel_refusal m (undo_refusal m.history)) none in
     (alone.0, (passes (any_open m.descriptors) Busy (undo_refusal m.history) alone.1).0)
 
+-- nor where redo is
+none_open_redo : (m : Machine) → refusal m Call.Redo ≡ None → (m.group ≡ None) × (any_open m.descriptors ≡ false)
+none_open_redo m none =
+    let alone = outside m (travel_refusal m (redo_refusal m.history)) none in
+    (alone.0, (passes (any_open m.descriptors) Busy (redo_refusal m.history) alone.1).0)
+
 module _ (undo : UndoLaw) (redo : RedoLaw) (rollback : RollbackLaw) (w : World) (m : Machine) (lawful : IsLawful m.history) (is : Shows w m) where
   pub gives_back : GivesBack w m
   gives_back = record {
-    undo = λ call calls changed between v n makes keeps first others last now.
-        let then = answers_after changed between (next m call) calls (accepts_next w changed m call is first).1 others in
-        let undone = accepts_next between v (after (next m call) calls) Call.Undo then last in
+    undo = λ call calls changed v n makes keeps done last now.
+        let then = carries_out w changed m call calls is done in
+        let undone = accepts_next changed v (after (next m call) calls) Call.Undo then.1 last in
         ap (λ (x : Machine). present_tree x) (one_machine v (next (after (next m call) calls) Call.Undo) n undone.1 now)
         ∙ (undo no_space m call calls lawful makes keeps (none_open (after (next m call) calls) undone.0).1 (none_open (after (next m call) calls) undone.0).0).1;
-    redo = λ undone v n first last now.
-        let once = accepts_next w undone m Call.Undo is first in
+    redo = λ undone v n done last now.
+        let once = carries_out w undone m Call.Undo [] is done in
         let twice = accepts_next undone v (next m Call.Undo) Call.Redo once.1 last in
         one_machine v (next (next m Call.Undo) Call.Redo) n twice.1 now ∙ (redo no_space m lawful (accepted_undo no_space m once.0)).1;
-    rollback = λ name calls kept between v n none first others last now.
-        let here = accepts_next w kept m (Call.Checkpoint name) is first in
-        let then = answers_after kept between (next m (Call.Checkpoint name)) calls here.1 others in
-        let back = accepts_next between v (after (next m (Call.Checkpoint name)) calls) (Call.Rollback name) then last in
+    redo_later = λ calls undone v n keeps done last now.
+        let once = carries_out w undone m Call.Undo calls is done in
+        let twice = accepts_next undone v (after (next m Call.Undo) calls) Call.Redo once.1 last in
+        let alone = none_open_redo (after (next m Call.Undo) calls) twice.0 in
+        ap (λ (x : Machine). x.history) (one_machine v (next (after (next m Call.Undo) calls) Call.Redo) n twice.1 now)
+        ∙ (redo_between m calls lawful once.0 keeps alone.1 alone.0).1;
+    rollback = λ name calls kept v n none done last now.
+        let then = carries_out w kept m (Call.Checkpoint name) calls is done in
+        let back = accepts_next kept v (after (next m (Call.Checkpoint name)) calls) (Call.Rollback name) then.1 last in
         ap (λ (x : Machine). present_tree x) (one_machine v (next (after (next m (Call.Checkpoint name)) calls) (Call.Rollback name)) n back.1 now)
-        ∙ rollback no_space m name calls lawful (accepted_checkpoint no_space m name here.0) none (accepted_rollback no_space (after (next m (Call.Checkpoint name)) calls) name back.0);
+        ∙ rollback no_space m name calls lawful (accepted_checkpoint no_space m name then.0) none (accepted_rollback no_space (after (next m (Call.Checkpoint name)) calls) name back.0);
   }
 
 -- ---- after a session
@@ -159,11 +178,26 @@ begins d history (Answer.Refused fault) w here = record {
 begins d history (Answer.Done reply) w here = absurd here
 begins d history Answer.Unmounted w here = absurd here
 
-pub headline_law : UndoLaw → RedoLaw → RollbackLaw → HeadlineLaw
-headline_law undo redo rollback limit d events answers first v formatted (history, w, saved, mounts, run) =
-    let same : history ≡ fresh limit bare = some_history history (fresh limit bare) (sym saved ∙ ap (option_map (trees_of d)) formatted.saved ∙ ap Some formatted.history) in
+pub sound_headline_law : UndoLaw → RedoLaw → RollbackLaw → SoundHeadlineLaw
+sound_headline_law undo redo rollback there d events answers first v is_saved (history, w, saved, mounts, run) =
+    let same : history ≡ there = some_history history there (sym saved ∙ is_saved) in
     let begun = begins d history first w mounts in
-    let course = course_law w v (mounted (fresh limit bare)) events answers
+    let course = course_law w v (mounted there) events answers
     (λ n is. begun.shows n is ∙ ap (λ (h : Past Tree). mounted h) same) (begun.found ∙ ap (λ (h : Past Tree). h ∷ []) same) run in
     let holds = holds_on w events answers v begun.holds run in
     (course.0, course.1, λ m is. (course.2 m is, gives_back undo redo rollback v m (subst (λ (x : Machine). IsLawful x.history) is.2 (holds is.0 is.1).mounted.machine.lawful) is))
+
+pub headline_law : UndoLaw → RedoLaw → RollbackLaw → HeadlineLaw
+headline_law undo redo rollback limit d events answers first v formatted session =
+    sound_headline_law undo redo rollback (fresh limit bare) d events answers first v (ap (option_map (trees_of d)) formatted.saved ∙ ap Some formatted.history) session
+
+same_record : (r s : Record) → Some r ≡ Some s → r ≡ s
+same_record r s is = cc
+
+pub formatted_law : FormattedLaw
+formatted_law limit d formatted = record {
+  lawful = formatted.lawful;
+  history = trees_of d formatted.newest;
+  saved = ap (option_map (trees_of d)) formatted.saved;
+  whole = λ r is. subst (HasTrees d) (same_record formatted.newest r (sym formatted.saved ∙ is)) formatted.trees;
+}

@@ -10,12 +10,16 @@ use Rattle.history_machine.specs.Machine.{Machine, Space, answer_of, reply_of, i
 use Rattle.flash_model.specs.Device.{Device}
 use Rattle.working_state.specs.Leaves.{is_still}
 use Rattle.working_state.specs.Looking.{only_looks}
-use Rattle.working_state.specs.Seen.{Seen, seen_on, machine_on}
-use Rattle.working_state.specs.Steps.{is_sync, tells_space, IsDone}
+use Rattle.working_state.specs.Mounted.{StateStep}
+use Rattle.working_state.specs.Seen.{machine_on}
+use Rattle.working_state.specs.Steps.{is_sync, tells_space}
 use Rattle.system.specs.Commits.{TriesOnce}
-use Rattle.system.specs.Steps.{TriesTwice, SystemAnswers, SystemStep}
+use Rattle.system.specs.Steps.{SystemStep}
+use Rattle.system.specs.Systems.{IsSystem}
 use Rattle.system.specs.declared.systems.System.{System}
 use Rattle.system.proofs.Retried.{never_full}
+use Rattle.system.proofs.StateSteps.{state_step}
+use Rattle.system.proofs.Twice.{step_once}
 use Rattle.undofs.specs.Systems.{TellsNothing}
 
 -- ---- the reply
@@ -27,14 +31,10 @@ abbrev reply_in : Result Reply Fault → Reply → Reply
 reply_in (Ok reply) other = reply
 reply_in _ other = other
 
-done_of : (twice : Type 0) (s : Seen) (m : Machine) (off : Bool) (call : Call) (reply : Reply) (t : Seen) (n : Machine) (off' : Bool) → SystemAnswers twice s m off call (Ok reply) t n off' → IsDone s m call reply t n
-done_of twice s m true call reply t n off' h = h.1
-done_of twice s m false call reply t n off' h = h.1
-
 -- it is the machine's
 pub reply_is : (d e : Device) (m n : System) (call : Call) (reply : Reply) → tells_space call ≡ false → SystemStep d m call (Ok reply) e n → reply ≡ reply_of no_space (machine_on d m.state) call
 reply_is d e m n call reply told step =
-    let done = done_of (TriesTwice d m call (Ok reply) e n) (seen_on d m.state) (machine_on d m.state) m.state.is_off call reply (seen_on e n.state) (machine_on e n.state) n.state.is_off step.answers in
+    let done = step.answers.1 in
     ap (λ (r : Result Reply Fault). reply_in r reply) (sym (done.answered no_space told) ∙ ap (answer_of no_space (machine_on d m.state) call) done.accepted)
 
 untold : (m : Machine) (call : Call) → TellsNothing call → tells_space call ≡ false
@@ -44,6 +44,18 @@ untold m _ nothing = refl
 pub reply_is_empty : (d e : Device) (m n : System) (call : Call) (reply : Reply) → TellsNothing call → SystemStep d m call (Ok reply) e n → reply ≡ Reply.Empty
 reply_is_empty d e m n call reply nothing step =
     reply_is d e m n call reply (untold (machine_on d m.state) call nothing) step ∙ nothing no_space (machine_on d m.state)
+
+-- what `df` answers
+pub reply_tells_space : (d e : Device) (m n : System) (reply : Reply) → SystemStep d m Call.Df (Ok reply) e n
+    → (space : Space) × (reply ≡ Reply.Df space.blocks space.bad space.free space.anchors)
+reply_tells_space d e m n reply step =
+    let told = step.told refl in
+    let done = step.answers.1 in
+    (told.0, ap (λ (r : Result Reply Fault). reply_in r reply) (sym told.2 ∙ ap (answer_of told.0 (machine_on d m.state) Call.Df) done.accepted))
+
+-- the log is asked of the state alone, and its step is that of the system
+pub log_step : (d : Device) (m : System) (result : Result Reply Fault) → IsSystem d m → StateStep d m.state Call.Log result d m.state → SystemStep d m Call.Log result d m
+log_step d m result system step = step_once d d m m _ _ (state_step d d m m.state _ _ system step refl) system (λ capacity x. refl)
 
 -- ---- the flash
 

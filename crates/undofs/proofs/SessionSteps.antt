@@ -23,7 +23,7 @@ use Rattle.commit_pair.specs.Parts.{parts_on, newest_at}
 use Rattle.commit_pair.specs.Laws.{HasTie}
 use Rattle.commit_pair.specs.Newest.{committed_on}
 use Rattle.commit_pair.proofs.NewestLaws.{found_is_newest}
-use Rattle.working_state.specs.Seen.{machine_on}
+use Rattle.working_state.specs.Seen.{machine_on, shown_on}
 use Rattle.working_state.specs.Steps.{is_sync}
 use Rattle.system.specs.Steps.{SystemStep}
 use Rattle.mounting.specs.Records.{trees_of, HasTrees}
@@ -117,7 +117,7 @@ call_leads d m call (Ok reply) e n found step system stands =
 call_leads d m call (Err fault) e n found step system stands =
     let working = stands.shown (machine_on d m.state) (m, refl, refl) in
     let saved = saved_among d m call e n found stands.saved working (Err fault) found step (λ h has. has) in
-    let same : machine_on e n.state ≡ machine_on d m.state = refused_keeps _ _ _ m.state.is_off call fault _ _ n.state.is_off step.answers in (
+    let same : machine_on e n.state ≡ machine_on d m.state = refused_keeps _ (shown_on d m.state) call fault (shown_on e n.state) step.answers in (
       found,
       record { before = m; after = n; was = refl; is = refl; step = step; mounted = system; found = refl; saved = saved },
       record { lawful = system.mounted.lawful; saved = saved; shown = shows_system e n found (subst (λ (x : Machine). Contains found x.history) (sym same) working) },

@@ -4,6 +4,10 @@ ghost use Rattle.working_state.specs.Steps.{replied, empty};
 ghost use Rattle.system.specs.Systems.{IsSystem};
 ghost use Rattle.system.specs.Props.{system-prop};
 
+use crate::descriptor::Descriptor;
+use crate::log::Log;
+use crate::refused_mount::RefusedMount;
+use crate::space::Space;
 use flash_model::{FaultKind, Flash, Planned};
 use fs_types::{
     Bytes, Call, CpName, Fault, Name, OpenFlags, Path, Reply, Request, Sequence, Stat, View,
@@ -28,12 +32,13 @@ pub struct Fs<'f, F: Flash> {
 }
 
 impl<'f, F: Flash> Fs<'f, F> {
-    ghost use Rattle.std.specs.Prelude.{ℕ, ◌<◌, ◌≢◌, ◌↔◌, ◌⊎◌, true, Err, IfOk, IfErr};
+    ghost use Rattle.std.specs.Prelude.{ℕ, ◌<◌, ◌≢◌, ◌↔◌, ◌⊎◌, true, Err, IfOk, IfErr, IsErrAnd};
     ghost use Rattle.node_cache.specs.declared.cache.TheConstants.{MAX_CACHED_NODES};
     ghost use Rattle.fs_types.specs.Requests.{call_of};
     ghost use Rattle.fs_types.specs.declared.fault.Fault.{Fault};
     ghost use Rattle.fs_types.specs.declared.call.Call.{Call};
     ghost use Rattle.fs_types.specs.declared.call.Reply.{Reply};
+    ghost use Rattle.flash_model.specs.Device.{Device};
     ghost use Rattle.flash_model.specs.Reading.{OnlyReads};
     ghost use Rattle.working_state.specs.Leaves.{is_still};
     ghost use Rattle.working_state.specs.Looking.{only_looks};
@@ -43,34 +48,92 @@ impl<'f, F: Flash> Fs<'f, F> {
     ghost use Rattle.system.specs.Reclaiming.{Reclaims};
     ghost use Rattle.system.specs.declared.mounts.TheConstants.{MOUNTED_NODES};
     ghost use Rattle.undofs.specs.Refusals.{RefusesMount};
+    ghost use Rattle.undofs.specs.Values.{descriptor_reply, log_reply, space_reply};
     ghost use Rattle.undofs.specs.Systems.{moment_of, without_nodes, StepsBetween, TellsNothing, KeepsAllPages, flash_name};
 
-    /// Mounts what the newest record of a flash holds, as [`mount`] does.
+    /// Mounts what the newest record of a flash holds, as [`mount`] does. A refusal gives the flash
+    /// back, as the reads left it: no page of it changed, and the cause is one of those of [`mount`].
+    pub fn mount_or_release(
+        alloc: Global,
+        flash: &'f mut F,
+    ) -> Result<Fs<'f, F>, RefusedMount<'f, F>>
+        ensures mounted { IfOk result (λ fs. IsMountOf (F.device flash.old) (F.device fs.flash.now) fs.system) }
+        ensures only_reads { IfOk result (λ fs. OnlyReads (F.device flash.old) (F.device fs.flash.now)) }
+        ensures asks { IfOk result (λ fs. AsksToMount (F.device flash.old) (F.device fs.flash.now)) }
+        ensures room { IfOk result (λ fs. fs.system.state.storage.cache.room ≡ MOUNTED_NODES) }
+        ensures same_flash { IfOk result (λ fs. flash_name fs ≡ flash.entry.ghost_name) }
+        ensures refused { IfErr result (λ refused. RefusesMount (F.device flash.old) (F.device refused.flash.now) refused.fault) }
+        ensures released { IfErr result (λ refused. refused.flash.ghost_name ≡ flash.entry.ghost_name) }
+    {
+        match mount(alloc, flash) {
+            Ok(system) => Ok(Fs::on(alloc, flash, system)),
+            Err(fault) => Err(RefusedMount { fault, flash }),
+        }
+    }
+
+    /// The same, with `nodes` nodes kept in memory, 1 to 64 ([`mount_with`]); [`Fault::Invalid`] for
+    /// another number, before any read.
+    pub fn mount_with_or_release(
+        alloc: Global,
+        flash: &'f mut F,
+        nodes: usize,
+    ) -> Result<Fs<'f, F>, RefusedMount<'f, F>>
+        // The mounted system.
+        ensures mounted { IfOk result (λ fs. IsMountOf (F.device flash.old) (F.device fs.flash.now) fs.system) }
+        ensures only_reads { IfOk result (λ fs. OnlyReads (F.device flash.old) (F.device fs.flash.now)) }
+        ensures asks { IfOk result (λ fs. AsksToMount (F.device flash.old) (F.device fs.flash.now)) }
+        ensures room { IfOk result (λ fs. fs.system.state.storage.cache.room ≡ nodes) }
+        ensures same_flash { IfOk result (λ fs. flash_name fs ≡ flash.entry.ghost_name) }
+
+        // Why not, and the flash that is given back.
+        ensures invalid { IsErrAnd result (λ refused. refused.fault ≡ Fault.Invalid) ↔ ((nodes < 1) ⊎ (MAX_CACHED_NODES < nodes)) }
+        ensures unread { IfErr result (λ refused. refused.fault ≡ Fault.Invalid → F.device refused.flash.now ≡ F.device flash.old) }
+        ensures refused { IfErr result (λ refused. refused.fault ≢ Fault.Invalid → RefusesMount (F.device flash.old) (F.device refused.flash.now) refused.fault) }
+        ensures released { IfErr result (λ refused. refused.flash.ghost_name ≡ flash.entry.ghost_name) }
+    {
+        match mount_with(alloc, flash, nodes) {
+            Ok(system) => Ok(Fs::on(alloc, flash, system)),
+            Err(fault) => Err(RefusedMount { fault, flash }),
+        }
+    }
+
+    /// The same as [`Fs::mount_or_release`], where the flash is not wanted after a refusal. What a
+    /// refusal leaves of it is not said here: the borrow ends with no value that shows it.
     pub fn mount(alloc: Global, flash: &'f mut F) -> Result<Fs<'f, F>, Fault>
         ensures mounted { IfOk result (λ fs. IsMountOf (F.device flash.old) (F.device fs.flash.now) fs.system) }
         ensures only_reads { IfOk result (λ fs. OnlyReads (F.device flash.old) (F.device fs.flash.now)) }
         ensures asks { IfOk result (λ fs. AsksToMount (F.device flash.old) (F.device fs.flash.now)) }
         ensures room { IfOk result (λ fs. fs.system.state.storage.cache.room ≡ MOUNTED_NODES) }
-        ensures refused { IfErr result (RefusesMount (F.device flash.old)) }
         ensures same_flash { IfOk result (λ fs. flash_name fs ≡ flash.entry.ghost_name) }
+        ensures refused { IfErr result (λ fault. (left : Device) × RefusesMount (F.device flash.old) left fault) }
     {
-        let system = mount(alloc, flash)?;
-        Ok(Fs::on(alloc, flash, system))
+        match Fs::mount_or_release(alloc, flash) {
+            Ok(fs) => Ok(fs),
+            Err(refused) => {
+                let _left = refused.flash;
+                Err(refused.fault)
+            }
+        }
     }
 
-    /// The same, with `nodes` nodes kept in memory, 1 to 64 ([`mount_with`]); [`Fault::Invalid`] for
-    /// another number, before any read.
+    /// The same as [`Fs::mount_with_or_release`], where the flash is not wanted after a refusal, as
+    /// [`Fs::mount`].
     pub fn mount_with(alloc: Global, flash: &'f mut F, nodes: usize) -> Result<Fs<'f, F>, Fault>
         ensures mounted { IfOk result (λ fs. IsMountOf (F.device flash.old) (F.device fs.flash.now) fs.system) }
         ensures only_reads { IfOk result (λ fs. OnlyReads (F.device flash.old) (F.device fs.flash.now)) }
         ensures asks { IfOk result (λ fs. AsksToMount (F.device flash.old) (F.device fs.flash.now)) }
         ensures room { IfOk result (λ fs. fs.system.state.storage.cache.room ≡ nodes) }
-        ensures invalid { (result ≡ Err Fault.Invalid) ↔ ((nodes < 1) ⊎ (MAX_CACHED_NODES < nodes)) }
-        ensures refused { IfErr result (λ fault. fault ≢ Fault.Invalid → RefusesMount (F.device flash.old) fault) }
         ensures same_flash { IfOk result (λ fs. flash_name fs ≡ flash.entry.ghost_name) }
+        ensures invalid { (result ≡ Err Fault.Invalid) ↔ ((nodes < 1) ⊎ (MAX_CACHED_NODES < nodes)) }
+        ensures refused { IfErr result (λ fault. fault ≢ Fault.Invalid → (left : Device) × RefusesMount (F.device flash.old) left fault) }
     {
-        let system = mount_with(alloc, flash, nodes)?;
-        Ok(Fs::on(alloc, flash, system))
+        match Fs::mount_with_or_release(alloc, flash, nodes) {
+            Ok(fs) => Ok(fs),
+            Err(refused) => {
+                let _left = refused.flash;
+                Err(refused.fault)
+            }
+        }
     }
 
     /// The system that is mounted on a flash. Calls that are passed no allocator use this one.
@@ -109,33 +172,48 @@ impl<'f, F: Flash> Fs<'f, F> {
 
     /// The same, where the descriptor is of an open file; else [`Fault::BadDescriptor`], before
     /// [`Fault::InGroup`] (POSIX.1-2017 `fsync`, which speaks of one file).
-    pub fn fsync(&mut self, alloc: Global, descriptor: u64) -> Result<(), Fault>
-        ensures step { StepsBetween self.old (Call.Fsync descriptor) (replied empty result) self.new }
+    pub fn fsync(&mut self, alloc: Global, descriptor: Descriptor) -> Result<(), Fault>
+        ensures step { StepsBetween self.old (Call.Fsync descriptor.number) (replied empty result) self.new }
         ensures same_flash { flash_name self.new ≡ flash_name self.old }
     {
-        self.carry_out_empty(alloc, Request::Fsync { descriptor })
+        self.carry_out_empty(
+            alloc,
+            Request::Fsync {
+                descriptor: u64::from(descriptor.number),
+            },
+        )
     }
 
     /// Opens the file at a path, and answers its descriptor, the least that is free (POSIX.1-2017 `open`,
     /// without a mode; a directory is refused for reading too).
-    pub fn open(&mut self, alloc: Global, path: &Path, flags: OpenFlags) -> Result<u8, Fault>
-        ensures step { StepsBetween self.old (Call.Open path.now flags) (replied Reply.Fd result) self.new }
+    pub fn open(
+        &mut self,
+        alloc: Global,
+        path: &Path,
+        flags: OpenFlags,
+    ) -> Result<Descriptor, Fault>
+        ensures step { StepsBetween self.old (Call.Open path.now flags) (replied descriptor_reply result) self.new }
         ensures pages { KeepsAllPages self.old self.new }
         ensures same_flash { flash_name self.new ≡ flash_name self.old }
     {
         match self.carry_out(alloc, Request::Open { path, flags })? {
-            Reply::Fd(descriptor) => Ok(descriptor),
+            Reply::Fd(number) => Ok(Descriptor { number }),
             _ => unreachable!(),
         }
     }
 
     /// Closes the open file of a descriptor, which is free then.
-    pub fn close(&mut self, descriptor: u64) -> Result<(), Fault>
-        ensures step { StepsBetween self.old (Call.Close descriptor) (replied empty result) self.new }
+    pub fn close(&mut self, descriptor: Descriptor) -> Result<(), Fault>
+        ensures step { StepsBetween self.old (Call.Close descriptor.number) (replied empty result) self.new }
         ensures still { F.device self.new.flash.now ≡ F.device self.old.flash.now }
         ensures same_flash { flash_name self.new ≡ flash_name self.old }
     {
-        self.carry_out_empty(self.alloc, Request::Close { descriptor })
+        self.carry_out_empty(
+            self.alloc,
+            Request::Close {
+                descriptor: u64::from(descriptor.number),
+            },
+        )
     }
 
     /// Writes these bytes at an offset of the open file of a descriptor, all or none, and answers how many
@@ -143,16 +221,16 @@ impl<'f, F: Flash> Fs<'f, F> {
     pub fn pwrite(
         &mut self,
         alloc: Global,
-        descriptor: u64,
+        descriptor: Descriptor,
         offset: u64,
         bytes: &[u8],
     ) -> Result<u64, Fault>
-        ensures step { StepsBetween self.old (Call.Pwrite descriptor offset bytes.now) (replied Reply.Count result) self.new }
+        ensures step { StepsBetween self.old (Call.Pwrite descriptor.number offset bytes.now) (replied Reply.Count result) self.new }
         ensures pages { KeepsAllPages self.old self.new }
         ensures same_flash { flash_name self.new ≡ flash_name self.old }
     {
         let request = Request::Pwrite {
-            descriptor,
+            descriptor: u64::from(descriptor.number),
             offset,
             bytes,
         };
@@ -164,12 +242,23 @@ impl<'f, F: Flash> Fs<'f, F> {
 
     /// The length in bytes of the open file of a descriptor becomes this (POSIX.1-2017 `ftruncate`); what is
     /// new of it is zeros. The same length makes no version, and is no refusal in read-only mode.
-    pub fn ftruncate(&mut self, alloc: Global, descriptor: u64, length: u64) -> Result<(), Fault>
-        ensures step { StepsBetween self.old (Call.Ftruncate descriptor length) (replied empty result) self.new }
+    pub fn ftruncate(
+        &mut self,
+        alloc: Global,
+        descriptor: Descriptor,
+        length: u64,
+    ) -> Result<(), Fault>
+        ensures step { StepsBetween self.old (Call.Ftruncate descriptor.number length) (replied empty result) self.new }
         ensures pages { KeepsAllPages self.old self.new }
         ensures same_flash { flash_name self.new ≡ flash_name self.old }
     {
-        self.carry_out_empty(alloc, Request::Ftruncate { descriptor, length })
+        self.carry_out_empty(
+            alloc,
+            Request::Ftruncate {
+                descriptor: u64::from(descriptor.number),
+                length,
+            },
+        )
     }
 
     /// What stands at a path of the tree that a view shows: a directory, with its number of entries, or
@@ -233,16 +322,16 @@ impl<'f, F: Flash> Fs<'f, F> {
     pub fn pread(
         &mut self,
         alloc: Global,
-        descriptor: u64,
+        descriptor: Descriptor,
         offset: u64,
         count: u64,
     ) -> Result<Bytes, Fault>
-        ensures step { StepsBetween self.old (Call.Pread descriptor offset count) (replied Reply.Bytes result) self.new }
+        ensures step { StepsBetween self.old (Call.Pread descriptor.number offset count) (replied Reply.Bytes result) self.new }
         ensures pages { (p : ℕ) → (F.device self.new.flash.now).pages p ≡ (F.device self.old.flash.now).pages p }
         ensures same_flash { flash_name self.new ≡ flash_name self.old }
     {
         let request = Request::Pread {
-            descriptor,
+            descriptor: u64::from(descriptor.number),
             offset,
             count,
         };
@@ -392,18 +481,46 @@ impl<'f, F: Flash> Fs<'f, F> {
     }
 
     /// The history: next serial, kept serials, the present one, and the checkpoints.
-    pub fn log(&self, alloc: Global) -> Result<Reply, Fault>
-        ensures { StepsBetween self.now Call.Log result self.now }
+    pub fn log(&self, alloc: Global) -> Result<Log, Fault>
+        ensures { StepsBetween self.now Call.Log (replied log_reply result) self.now }
     {
-        self.system.state.log(alloc)
+        match self.system.state.log(alloc)? {
+            Reply::Log {
+                next,
+                dropped,
+                versions,
+                cursor,
+                checkpoints,
+            } => Ok(Log {
+                next,
+                dropped,
+                versions,
+                cursor,
+                checkpoints,
+            }),
+            _ => unreachable!(),
+        }
     }
 
     /// How much of the flash is used ([`System::df`]).
-    pub fn df(&mut self, alloc: Global) -> Result<Reply, Fault>
-        ensures step { StepsBetween self.old Call.Df result self.new }
+    pub fn df(&mut self, alloc: Global) -> Result<Space, Fault>
+        ensures step { StepsBetween self.old Call.Df (replied space_reply result) self.new }
         ensures same_flash { flash_name self.new ≡ flash_name self.old }
     {
-        self.carry_out(alloc, Request::Df)
+        match self.carry_out(alloc, Request::Df)? {
+            Reply::Df {
+                blocks,
+                bad,
+                free,
+                anchors,
+            } => Ok(Space {
+                blocks,
+                bad,
+                free,
+                anchors,
+            }),
+            _ => unreachable!(),
+        }
     }
 
     /// Takes a step of reclaiming: reads `budget` blocks more of those in use, or all that remain, and
@@ -451,8 +568,8 @@ impl<'f, F: Flash> Fs<'f, F> {
         }
     }
 
-    /// Ends the system, and gives its very flash back, as the last call left it: what was
-    /// committed is on its pages.
+    /// Ends the system, and gives its very flash back, as the last call left it. What was not synced is
+    /// lost: a mount finds what the last sync committed, and nothing is committed here.
     pub fn into_flash(self) -> &'f mut F
         ensures flash { result ≡ self.entry.flash }
         ensures mounted { IsSystem (F.device result.now) self.entry.system }

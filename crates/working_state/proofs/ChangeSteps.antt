@@ -15,13 +15,12 @@ use Rattle.fs_types.specs.declared.call.Group.{Group}
 use Rattle.fs_types.specs.declared.call.Reply.{Reply}
 use Rattle.fs_types.specs.declared.fault.Fault.{Fault}
 use Rattle.flash_model.specs.Device.{Device}
-use Rattle.block_trees.specs.Reached.{Keeps}
 use Rattle.node_store.specs.declared.storage.Storage.{Storage}
 use Rattle.allocator.specs.Ring.{Ring}
 use Rattle.tree_edits.specs.Edits as edits
 use Rattle.tree_edits.specs.declared.edit.Edit.{Edit}
-use Rattle.working_state.specs.Moments.{Moment, moment, machine_at, seen_at, storage_at, IsMountedAt, IsStep, nodes_at, capacity_at, version_tree}
-use Rattle.working_state.specs.Changes.{IsUnwritten}
+use Rattle.working_state.specs.Moments.{Moment, moment, machine_at, seen_at, IsMountedAt, IsStep, nodes_at, capacity_at, version_tree}
+use Rattle.working_state.specs.Changes.{IsUnwritten, work_at}
 use Rattle.bad_blocks.specs.Mode.{is_read_only}
 use Rattle.working_state.specs.Steps.{is_light, last_serial, Refuses}
 use Rattle.working_state.specs.Mounted.{IsStanding}
@@ -31,7 +30,7 @@ use Rattle.plain_trees.proofs.Beneath.{None≢Some}
 use Rattle.plain_trees.proofs.Needs.{path_need-long}
 use Rattle.history_machine.proofs.Groups.{worked-after, version-outside}
 use Rattle.working_state.proofs.Roots.{AllRoots, ReachesBefore, after_work, at_work, with_work, all_reach}
-use Rattle.working_state.proofs.Standing.{keeps, AllStand, worked_trees, worked_machine, worked_later, worked_mounted, worked_before, looked_worked, worked_on, worked_group, same_working}
+use Rattle.working_state.proofs.Standing.{AllStand, worked_trees, worked_machine, worked_later, worked_mounted, worked_before, looked_worked, worked_on, worked_group, same_working}
 use Rattle.working_state.proofs.PathCalls.{working_tree_is, working_stands}
 use Rattle.working_state.proofs.Refusals.{accepted_begins, write_refuses, cause_later}
 use Rattle.working_state.proofs.Steps.{writes-tree, still_machine}
@@ -86,7 +85,7 @@ later_outside a b l call heavy made = l.rest.group ∙ outside_version a call he
 
 -- the nodes of a version are not written
 pub writing_refuses : (a b : Moment) (f : Device) (st : Storage) (edit : Edit) (call : Call) (fault : Fault) → IsLooked a b → is_light call ≡ false → changes_tree (machine_at a) call ≡ true
-    → 0 < change_need (capacity_at a) (machine_at a) call → edits.edit_need (capacity_at b) (nodes_at b) edit ≤ change_need (capacity_at a) (machine_at a) call → IsUnwritten b.device b.state.history b.state.group b.state.storage edit fault f st
+    → 0 < change_need (capacity_at a) (machine_at a) call → edits.edit_need (capacity_at b) (nodes_at b) edit ≤ change_need (capacity_at a) (machine_at a) call → IsUnwritten (work_at b) edit fault f st
     → Refuses (seen_at a) (machine_at a) call fault (seen_at (moment f (record b.state { storage = st })))
 writing_refuses a b f st edit call fault l heavy version more few work =
     let m = machine_at a in
@@ -111,11 +110,6 @@ later_stands a b root m is l = working_stands b root (worked_mounted a b m (look
 pub later_tree : (a b : Moment) (root : ℕ) → IsMountedAt a → working_root a.state.history a.state.group ≡ Some root → IsLooked a b → working_tree (machine_at a) ≡ version_tree b root
 later_tree a b root m is l =
     ap working_tree (sym (worked_machine a b m (looked_worked a b l))) ∙ working_tree_is b root (later_root a b root is l)
-
--- A path written anew.
-
-pub worked_keeps : (a b : Moment) → IsMountedAt a → IsWorked a b → Keeps (set.contains a.state.storage.ring.used) (nodes_at a) (set.contains b.state.storage.ring.used) (nodes_at b)
-worked_keeps a b m w = keeps (storage_at a) (storage_at b) m.lawful w.evolved
 
 -- a root stands, and has this tree
 pub record HasNewTree (b : Moment) (to : ℕ) (tree : Tree) : Type 0 where
@@ -190,7 +184,7 @@ changed_mounted a c to call tree result h k files pushes groups m w new paths st
       off = mounted.off;
     }
 
--- what the roots reach after a change, where what the new one reaches was reached before, or not used
+-- what the roots reach after a change, where what the new one reaches was reached before, or written in a block that was not used
 pub changed_reaches : (a c : Moment) (to : ℕ) (h : Past ℕ) (k : Option (Group ℕ)) (files : Descriptors) → h ≡ history_with c.state.history c.state.group to → k ≡ group_with c.state.group to → IsMountedAt a → IsWorked a c → ReachesBefore a.device a.state c.device to
     → ReachesNew a.device a.state c.device (changed_at c h k files).state
 changed_reaches a c to h k files pushes groups m w here =

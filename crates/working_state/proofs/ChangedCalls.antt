@@ -25,7 +25,7 @@ use Rattle.tree_edits.specs.Edits.{edit_need, source}
 use Rattle.tree_edits.specs.Roots.{IsNewRoot}
 use Rattle.directory.specs.Trails.{IsChangeFault}
 use Rattle.working_state.specs.Moments.{Moment, machine_at, seen_at, IsMountedAt, nodes_at, capacity_at, version_tree, moment}
-use Rattle.working_state.specs.Changes.{IsReady, edited_tree, ReachesFrom, WorkRefuses, IsPushed, ChangeCause, IsChanged}
+use Rattle.working_state.specs.Changes.{IsReady, edited_tree, ReachesFrom, WorkRefuses, IsPushed, ChangeCause, IsChanged, work, work_at}
 use Rattle.working_state.specs.Leaves.{HasWritten, is_still, Leaves}
 use Rattle.working_state.specs.Looking.{only_looks}
 use Rattle.working_state.specs.Mounted.{IsStanding}
@@ -175,16 +175,16 @@ change_leaves a b f st call edit l w moves version few =
 abbrev IsOfTree : Edit → Type 0
 IsOfTree edit = (root : ℕ) → source root edit ≡ root
 
--- what the new root reaches was reached by that which calls worked on, or not used
+-- what the new root reaches was reached by that which calls worked on, or written in a block that was not used
 pushed_reach : (a b : Moment) (f : Device) (from root to : ℕ) → IsMountedAt a → IsLooked a b → HasRoot a.state root → from ≡ root → ReachesFrom b.device b.state.storage from f to
     → ReachesBefore a.device a.state f to
 pushed_reach a b f from root to m l has same reaches block reached = elim (reaches block reached) [
-  | inl was ↦ worked_reach a b root m (looked_worked a b l) has block (subst (λ (r : ℕ). Reached (node_of b.device) (r ∷ []) block) same was)
-  | inr fresh ↦ inr (subst (λ (r : Ring). set.contains r.used block ≡ false) l.untouched.ring fresh)
+  | inl was ↦ inl (worked_reach a b root m (looked_worked a b l) has block (subst (λ (r : ℕ). Reached (node_of b.device) (r ∷ []) block) same was))
+  | inr written ↦ inr (subst (λ (r : Ring). set.contains r.used block ≡ false) l.untouched.ring written.0, written.1)
 ]
 
 pub pushed_answer : (a b : Moment) (f : Device) (st : Storage) (h : Past ℕ) (k : Option (Group ℕ)) (files : Descriptors) (call : Call) (edit : Edit) (reply : Reply) → IsMountedAt a → IsLooked a b
-    → IsChangeBy a call (edited_tree b.device edit) reply → NeedsFew b edit a call → HasWritten b.device b.state.storage (edit_need (capacity_at b) (nodes_at b) edit) f st → IsPushed b.device b.state.history b.state.group b.state.storage edit f h k st → files ≡ descriptors_after (machine_at a) call → IsOfTree edit
+    → IsChangeBy a call (edited_tree b.device edit) reply → NeedsFew b edit a call → HasWritten b.device b.state.storage (edit_need (capacity_at b) (nodes_at b) edit) f st → IsPushed (work_at b) edit (work f h k st) → files ≡ descriptors_after (machine_at a) call → IsOfTree edit
     → IsAnswered a call (Ok reply) (moment f (record b.state { storage = st; history = h; group = k; files = files }))
 pushed_answer a b f st h k files call edit reply m l by few written pushed opens own =
     let c : Moment = moment f (record b.state { storage = st }) in
@@ -211,7 +211,7 @@ makes_outside : (a : Moment) (call : Call) → a.state.group ≡ None → change
 makes_outside a call outside changes = outside_makes (machine_at a) call (ap (λ (g : Option (Group ℕ)). map_group (version_tree a) g) outside) changes
 
 cause_refuses : (a b : Moment) (f : Device) (st : Storage) (root : ℕ) (call : Call) {edit : Edit} (made : ℕ → Tree) (reply : Reply) (fault : Fault) → working_root a.state.history a.state.group ≡ Some root → IsLooked a b
-    → IsChangeBy a call made reply → NeedsFew b edit a call → ChangeCause b.device b.state.history b.state.group b.state.storage edit fault f st → Refuses (seen_at a) (machine_at a) call fault (seen_at (moment f (record b.state { storage = st })))
+    → IsChangeBy a call made reply → NeedsFew b edit a call → ChangeCause (work_at b) edit fault f st → Refuses (seen_at a) (machine_at a) call fault (seen_at (moment f (record b.state { storage = st })))
 cause_refuses a b f st root call made reply fault is l by few (inl (inl only)) =
     inr (subst (λ x. MayRefuse (seen_at a) (machine_at a) call x (seen_at (moment f (record b.state { storage = st })))) (sym only.0)
     (writes-tree (machine_at a) call (makes (machine_at a) call by.fine (ap is_some (by.after root is))), only.1.on, λ off made. later_serial a b l (only.1.serial_left (later_writable a b l ∙ off) (later_outside a b l call by.heavy made))))
@@ -222,7 +222,7 @@ cause_refuses a b f st root call {edit} made reply fault is l by few (inr work) 
     writing_refuses a b f st edit call fault l by.heavy (makes (machine_at a) call by.fine (ap is_some (by.after root is))) (by.more (capacity_at a)) few work
 
 pub refused_change : (a b : Moment) (f : Device) (st : Storage) (h : Past ℕ) (k : Option (Group ℕ)) (root : ℕ) (call : Call) {edit : Edit} (made : ℕ → Tree) (reply : Reply) (fault : Fault) → IsMountedAt a → working_root a.state.history a.state.group ≡ Some root
-    → IsLooked a b → IsChangeBy a call made reply → NeedsFew b edit a call → HasWritten b.device b.state.storage (edit_need (capacity_at b) (nodes_at b) edit) f st → (h ≡ b.state.history) × (k ≡ b.state.group) × ChangeCause b.device b.state.history b.state.group b.state.storage edit fault f st
+    → IsLooked a b → IsChangeBy a call made reply → NeedsFew b edit a call → HasWritten b.device b.state.storage (edit_need (capacity_at b) (nodes_at b) edit) f st → (h ≡ b.state.history) × (k ≡ b.state.group) × ChangeCause (work_at b) edit fault f st
     → IsAnswered a call (Err fault) (moment f (record b.state { storage = st; history = h; group = k }))
 refused_change a b f st h k root call {edit} made reply fault m is l by few written ends =
     let c : Moment = moment f (record b.state { storage = st }) in
@@ -233,7 +233,7 @@ refused_change a b f st h k root call {edit} made reply fault m is l by few writ
 
 -- a change that answers nothing, and leaves the open files
 pub change_answer : (a b : Moment) (f : Device) (st : Storage) (h : Past ℕ) (k : Option (Group ℕ)) (root : ℕ) (call : Call) (edit : Edit) (result : Result (Unit {0}) Fault) → IsMountedAt a → working_root a.state.history a.state.group ≡ Some root
-    → IsLooked a b → IsChangeBy a call (edited_tree b.device edit) Reply.Empty → NeedsFew b edit a call → descriptors_after (machine_at a) call ≡ a.state.files → IsOfTree edit → IsChanged b.device b.state.history b.state.group b.state.storage edit result f h k st
+    → IsLooked a b → IsChangeBy a call (edited_tree b.device edit) Reply.Empty → NeedsFew b edit a call → descriptors_after (machine_at a) call ≡ a.state.files → IsOfTree edit → IsChanged (work_at b) edit result (work f h k st)
     → IsAnswered a call (replied empty result) (moment f (record b.state { storage = st; history = h; group = k }))
 change_answer a b f st h k root call edit (Ok x) m is l by few files own changes =
     pushed_answer a b f st h k b.state.files call edit Reply.Empty m l by few changes.written changes.ends (l.rest.files ∙ sym files) own
@@ -242,12 +242,12 @@ change_answer a b f st h k root call edit (Err fault) m is l by few files own ch
 
 -- the same, where the edit is that of the change
 
-pub pushed_by : (a b : Moment) (f : Device) (st : Storage) (h : Past ℕ) (k : Option (Group ℕ)) (files : Descriptors) (call : Call) {edit : Edit} (reply : Reply) → IsPushed b.device b.state.history b.state.group b.state.storage edit f h k st
+pub pushed_by : (a b : Moment) (f : Device) (st : Storage) (h : Past ℕ) (k : Option (Group ℕ)) (files : Descriptors) (call : Call) {edit : Edit} (reply : Reply) → IsPushed (work_at b) edit (work f h k st)
     → IsChangeBy a call (edited_tree b.device edit) reply → NeedsFew b edit a call → HasWritten b.device b.state.storage (edit_need (capacity_at b) (nodes_at b) edit) f st → IsMountedAt a → IsLooked a b → files ≡ descriptors_after (machine_at a) call → IsOfTree edit
     → IsAnswered a call (Ok reply) (moment f (record b.state { storage = st; history = h; group = k; files = files }))
 pushed_by a b f st h k files call {edit} reply pushed by few written m l opens own = pushed_answer a b f st h k files call edit reply m l by few written pushed opens own
 
-pub change_by : (a b : Moment) (f : Device) (st : Storage) (h : Past ℕ) (k : Option (Group ℕ)) (root : ℕ) (call : Call) {edit : Edit} (result : Result (Unit {0}) Fault) → IsChanged b.device b.state.history b.state.group b.state.storage edit result f h k st
+pub change_by : (a b : Moment) (f : Device) (st : Storage) (h : Past ℕ) (k : Option (Group ℕ)) (root : ℕ) (call : Call) {edit : Edit} (result : Result (Unit {0}) Fault) → IsChanged (work_at b) edit result (work f h k st)
     → IsChangeBy a call (edited_tree b.device edit) Reply.Empty → NeedsFew b edit a call → IsMountedAt a → working_root a.state.history a.state.group ≡ Some root → IsLooked a b → descriptors_after (machine_at a) call ≡ a.state.files → IsOfTree edit
     → IsAnswered a call (replied empty result) (moment f (record b.state { storage = st; history = h; group = k }))
 change_by a b f st h k root call {edit} result changes by few m is l files own = change_answer a b f st h k root call edit result m is l by few files own changes

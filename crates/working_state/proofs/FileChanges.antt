@@ -12,7 +12,7 @@ use Rattle.plain_trees.specs.Contents.{Contents, Entry, overwritten, resized, pw
 use Rattle.plain_trees.specs.Trees.{Tree, put, IsFile, bytes_of, bytes_of_file}
 use Rattle.history_machine.specs.History.{working_root, changed, group_with}
 use Rattle.history_machine.specs.Descriptors.{Descriptor, descriptor_at}
-use Rattle.history_machine.specs.Machine.{Machine, Space, has_paths, working_tree, file_put, refusal, way_need, change_need, reply_of, tree_after, descriptors_after, changes_tree, machine_of, machine_with}
+use Rattle.history_machine.specs.Machine.{Machine, Space, has_paths, working_tree, file_put, pwrite_tree, ftruncate_tree, refusal, way_need, pwrite_body, ftruncate_body, change_need, reply_of, tree_after, descriptors_after, machine_of, machine_with}
 use Rattle.fs_types.specs.declared.call.Call.{Call}
 use Rattle.fs_types.specs.declared.call.Reply.{Reply}
 use Rattle.fs_types.specs.declared.fault.Fault.{Fault}
@@ -45,7 +45,7 @@ use Rattle.working_state.specs.Steps.{is_light}
 use Rattle.working_state.specs.Moments.{IsAnswered}
 use Rattle.working_state.specs.Worked.{IsWorked, IsLooked, WorkCause, ReadCause}
 use Rattle.working_state.proofs.ChangedCalls.{IsChangeBy}
-use Rattle.working_state.proofs.ChangeSteps.{makes, later_tree, way_some}
+use Rattle.working_state.proofs.ChangeSteps.{later_tree, way_some}
 use Rattle.working_state.proofs.MovedEntries.{read_cause}
 use Rattle.working_state.proofs.Needs.{put_way}
 use Rattle.working_state.proofs.OpenCalls.{working_is}
@@ -151,9 +151,6 @@ pub record IsFileChange (m : Machine) (call : Call) (path : Path) (bytes : List 
   pub paths : has_paths call ≡ true
   pub more : (capacity : ℕ) → 0 < change_need capacity m call
 
-pub file_makes : (m : Machine) (call : Call) (path : Path) (bytes : List ℕ) → IsFileChange m call path bytes → changes_tree m call ≡ true
-file_makes m call path bytes change = makes m call change.fine (ap is_some change.after)
-
 -- the root that calls work on, after work, and the file in it
 later_root : (a c : Moment) (root : ℕ) → working_root a.state.history a.state.group ≡ Some root → IsWorked a c → working_root c.state.history c.state.group ≡ Some root
 later_root a c root is w = same_working a.state c.state w.rest ∙ is
@@ -202,14 +199,14 @@ pub pwrite_change : (m : Machine) (descriptor offset : ℕ) (bytes : List ℕ) (
     → IsFileChange m (Call.Pwrite descriptor offset bytes) path (overwritten (bytes_of_file (working_tree m) path) offset bytes)
 pwrite_change m descriptor offset bytes path has fine some below = record {
   fine = fine;
-  after = ap (option_and_then (λ (d : Descriptor). if length bytes == 0 then None else Some (file_put (working_tree m) d.path (overwritten (bytes_of_file (working_tree m) d.path) offset bytes)))) has.1
+  after = ap (λ o. option_map_or (pwrite_tree m offset bytes) o None) has.1
       ∙ ap (λ b. if b then None else Some (file_put (working_tree m) path (overwritten (bytes_of_file (working_tree m) path) offset bytes))) some;
   files = refl;
   heavy = some_heavy descriptor offset bytes some;
   moves = refl;
   paths = refl;
   more = λ capacity.
-      subst (λ (o : Option Descriptor). 0 < option_map_or (λ d. pwrite_need capacity (length (bytes_of_file (working_tree m) d.path)) offset (length bytes) + way_need m (Call.Pwrite descriptor offset bytes) d.path) o 0) (sym has.1)
+      subst (λ (o : Option Descriptor). 0 < option_map_or (λ d. pwrite_body capacity m offset bytes d + way_need m (Call.Pwrite descriptor offset bytes) d.path) o 0) (sym has.1)
       (some_more (pwrite_need capacity (length (bytes_of_file (working_tree m) path)) offset (length bytes)) (way_need m (Call.Pwrite descriptor offset bytes) path) (way_some m (Call.Pwrite descriptor offset bytes) path below));
 }
 
@@ -222,7 +219,7 @@ pub pwrite_nothing : (m : Machine) (descriptor offset : ℕ) (bytes : List ℕ) 
 pwrite_nothing m descriptor offset (b ∷ bytes) none = absurd (omega arith)
 pwrite_nothing m descriptor offset [] none = record { stays = stays; no_version = no_tree; no_end = ap (option_and_then (λ t. if is_some m.group then None else Some t)) no_tree; no_record = refl }
   where
-    go : (o : Option Descriptor) → option_and_then (λ (d : Descriptor). let r : Option Tree = None in r) o ≡ None
+    go : (o : Option Descriptor) → option_map_or (pwrite_tree m offset []) o None ≡ None
     go None = refl
     go (Some d) = refl
 
@@ -238,14 +235,14 @@ pub ftruncate_change : (m : Machine) (descriptor n : ℕ) (path : Path) → IsPa
     → IsFileChange m (Call.Ftruncate descriptor n) path (resized (bytes_of_file (working_tree m) path) n)
 ftruncate_change m descriptor n path has fine other below = record {
   fine = fine;
-  after = ap (option_and_then (λ (d : Descriptor). if length (bytes_of_file (working_tree m) d.path) == n then None else Some (file_put (working_tree m) d.path (resized (bytes_of_file (working_tree m) d.path) n)))) has.1
+  after = ap (λ o. option_map_or (ftruncate_tree m n) o None) has.1
       ∙ ap (λ b. if b then None else Some (file_put (working_tree m) path (resized (bytes_of_file (working_tree m) path) n))) other;
   files = refl;
   heavy = refl;
   moves = refl;
   paths = refl;
   more = λ capacity.
-      subst (λ (o : Option Descriptor). 0 < option_map_or (λ d. ftruncate_need capacity (length (bytes_of_file (working_tree m) d.path)) n + way_need m (Call.Ftruncate descriptor n) d.path) o 0) (sym has.1)
+      subst (λ (o : Option Descriptor). 0 < option_map_or (λ d. ftruncate_body capacity m n d + way_need m (Call.Ftruncate descriptor n) d.path) o 0) (sym has.1)
       (some_more (ftruncate_need capacity (length (bytes_of_file (working_tree m) path)) n) (way_need m (Call.Ftruncate descriptor n) path) (way_some m (Call.Ftruncate descriptor n) path below));
 }
 
@@ -255,7 +252,7 @@ ftruncate_nothing m descriptor n path has same = record { stays = stays; no_vers
   where
     no_tree : tree_after m (Call.Ftruncate descriptor n) ≡ None
     no_tree =
-        ap (option_and_then (λ (d : Descriptor). if length (bytes_of_file (working_tree m) d.path) == n then None else Some (file_put (working_tree m) d.path (resized (bytes_of_file (working_tree m) d.path) n)))) has.1
+        ap (λ o. option_map_or (ftruncate_tree m n) o None) has.1
         ∙ ap (λ b. if b then None else Some (file_put (working_tree m) path (resized (bytes_of_file (working_tree m) path) n))) same
 
     stays : machine_of m (Call.Ftruncate descriptor n) None ≡ m
@@ -306,7 +303,7 @@ pwrite_few a b root descriptor offset bytes path trail head size x reply m is l 
     let long = working_length a b path head size m w there in
     let same = same_capacity_at a b w in
     let all : change_need (capacity_at a) (machine_at a) (Call.Pwrite descriptor offset bytes) ≡ pwrite_need (capacity_at b) size offset (length bytes) + way_need (machine_at a) (Call.Pwrite descriptor offset bytes) path =
-    ap (λ (o : Option Descriptor). option_map_or (λ y. pwrite_need (capacity_at a) (length (bytes_of_file (working_tree (machine_at a)) y.path)) offset (length bytes) + way_need (machine_at a) (Call.Pwrite descriptor offset bytes) y.path) o 0) has.1
+    ap (λ (o : Option Descriptor). option_map_or (λ y. pwrite_body (capacity_at a) (machine_at a) offset bytes y + way_need (machine_at a) (Call.Pwrite descriptor offset bytes) y.path) o 0) has.1
     ∙ (λ i. pwrite_need (same i) (long i) offset (length bytes) + way_need (machine_at a) (Call.Pwrite descriptor offset bytes) path) in
     let few = put_way a b call x reply root path trail m is l by way in
     omega arith
@@ -320,7 +317,7 @@ ftruncate_few a b root descriptor n path trail head size x reply m is l has ther
     let long = working_length a b path head size m w there in
     let same = same_capacity_at a b w in
     let all : change_need (capacity_at a) (machine_at a) (Call.Ftruncate descriptor n) ≡ ftruncate_need (capacity_at b) size n + way_need (machine_at a) (Call.Ftruncate descriptor n) path =
-    ap (λ (o : Option Descriptor). option_map_or (λ y. ftruncate_need (capacity_at a) (length (bytes_of_file (working_tree (machine_at a)) y.path)) n + way_need (machine_at a) (Call.Ftruncate descriptor n) y.path) o 0) has.1
+    ap (λ (o : Option Descriptor). option_map_or (λ y. ftruncate_body (capacity_at a) (machine_at a) n y + way_need (machine_at a) (Call.Ftruncate descriptor n) y.path) o 0) has.1
     ∙ (λ i. ftruncate_need (same i) (long i) n + way_need (machine_at a) (Call.Ftruncate descriptor n) path) in
     let few = put_way a b call x reply root path trail m is l by way in
     omega arith

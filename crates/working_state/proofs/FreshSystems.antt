@@ -31,7 +31,7 @@ use Rattle.node_store.specs.NodePages.{node_of, pages_for}
 use Rattle.node_store.specs.Fitting.{Fits, StillFits}
 use Rattle.node_store.specs.Storage as parts
 use Rattle.node_store.specs.Storage.{Evolved, Pays, Spends, Adds, unpaid}
-use Rattle.node_format.specs.Links.{link, link_at}
+use Rattle.node_format.specs.Links.{link, link_at, chain_bytes}
 use Rattle.block_trees.specs.Chains.{link_of}
 use Rattle.block_trees.specs.Trees.{entries_in}
 use Rattle.block_trees.proofs.Chains.{first_law}
@@ -204,6 +204,11 @@ pub root_empty : (s : parts.Storage) (bytes : List ℕ) (t : parts.Storage) (res
 root_empty s bytes t (Ok root) read adds = first_law (node_of t.device) 0 root (link true 0 []) [] (omega arith) (ap link_of adds.node ∙ read) refl refl
 root_empty s bytes t (Err fault) read adds = tt
 
+pub root_node : (s : parts.Storage) (bytes : List ℕ) (t : parts.Storage) (result : Result ℕ Fault) → bytes ≡ chain_bytes 0 [] → Adds s bytes t result
+    → IfOk result (λ root. node_of t.device root ≡ Some (chain_bytes 0 []))
+root_node s bytes t (Ok root) written adds = adds.node ∙ ap Some written
+root_node s bytes t (Err fault) written adds = tt
+
 first_good : (blocks : ℕ) (bad : set.FinSet nat_cmp) (b : ℕ) → IsNext (is_busy (unused_ring blocks) bad) blocks (blocks - 1) b → IsFirstGood bad b
 first_good blocks bad b next = record {
   data_block = next.data_block.0;
@@ -222,9 +227,9 @@ first_root d s e t root ring next =
 -- the first moment, once the root is written
 pub written_begun : (d : Device) (was : set.FinSet nat_cmp) (limit : ℕ) (s : Storage) (e : Device) (t : Storage) (h : Past ℕ) (files : Descriptors) (root : ℕ) → IsGeometry d.geometry → s.bad ≡ was
     → s.ring ≡ unused_ring d.geometry.blocks → Fits d s → HasWritten d s 1 e t → set.contains t.ring.used root ≡ true
-    → entries_in (node_of e) root ≡ Some [] → parts.IsNextBlock (parts.storage d s.bad s.ring) (parts.storage e t.bad t.ring) root → 2 ≤ limit → h ≡ fresh limit root → files ≡ none_open
+    → node_of e root ≡ Some (chain_bytes 0 []) → entries_in (node_of e) root ≡ Some [] → parts.IsNextBlock (parts.storage d s.bad s.ring) (parts.storage e t.bad t.ring) root → 2 ≤ limit → h ≡ fresh limit root → files ≡ none_open
     → IsBegun d was limit (moment e (record { history = h; group = None; storage = t; files = files; is_off = false }))
-written_begun d was limit s e t h files root lawful bad ring fits written kept empty next some is none =
+written_begun d was limit s e t h files root lawful bad ring fits written kept node empty next some is none =
     let state : State = record { history = h; group = None; storage = t; files = files; is_off = false } in
     let same = sym written.evolved.geometry in
     let stands = fresh_mounted (moment e state) limit root refl (subst IsGeometry same lawful) (written.evolved.blocks ∙ ap (λ (r : Ring). r.blocks) ring ∙ ap (λ (g : Geometry). g.blocks) same) (written.fits.fits fits) some is refl none empty kept in
@@ -241,6 +246,7 @@ written_begun d was limit s e t h files root lawful bad ring fits written kept e
       paid = omega arith;
       root_block = first_root d s e t root ring next;
       last = next.last;
+      node = node;
     }
 
 -- The flash, and the refusals that write no root.

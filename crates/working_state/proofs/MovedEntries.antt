@@ -19,7 +19,7 @@ use Rattle.flash_model.specs.Device.{Device}
 use Rattle.node_format.specs.Items.{Item}
 use Rattle.node_format.specs.declared.place.Place.{Place}
 use Rattle.node_format.specs.declared.place.Place.TheVariants.{Dir, File}
-use Rattle.node_store.specs.Faults.{IsLookFault, IsReadFault}
+use Rattle.node_store.specs.Faults.{IsReadFault}
 use Rattle.node_store.specs.NodePages.{node_of}
 use Rattle.block_trees.specs.Bodies.{Blocks, body}
 use Rattle.block_trees.specs.Laws.{IsShallow}
@@ -68,13 +68,6 @@ read_may old new m call ReadFailed begins why = (begins, why)
 read_may old new m call PowerCut begins why = (begins, why)
 read_may old new m call NoMemory begins why = begins
 read_may old new m call _ begins why = absurd why
-
--- a look at depths is refused so
-pub depth_cause : (old new : Seen) (fault : Fault) → IsLookFault fault → WorkCause old fault new → ReadCause old fault new
-depth_cause old new ReadFailed is why = why
-depth_cause old new PowerCut is why = why
-depth_cause old new NoMemory is why = tt
-depth_cause old new _ is why = absurd (not_so is)
 
 read_lookup : (fault : Fault) → IsReadFault fault → IsLookupFault fault
 read_lookup NoEntry reads = refl
@@ -357,9 +350,6 @@ deeper_before f g place most same deeper = subst (λ h. IsDeeper h place most) s
 
 pub shallow_before : (f g : Blocks) (place : Place) (most : ℕ) → g ≡ f → IsShallow g place most → IsShallow f place most
 shallow_before f g place most same shallow = subst (λ h. IsShallow h place most) same shallow
-
-abbrev pub DepthRefused : Moment → Moment → Path → Place → Fault → Type 0
-DepthRefused a b new place fault = ((fault ≡ NameTooLong) × IsDeeper (nodes_at a) place (16 - length new)) ⊎ ReadCause (seen_at a) fault (seen_at b)
 
 -- open files are the same after reads
 pub busy_before : (s t : State) (old new : Path) (busy : Bool) → t.files ≡ s.files → (is_open_within t.files old || is_open t.files new) ≡ busy → (is_open_within s.files old || is_open s.files new) ≡ busy

@@ -28,6 +28,7 @@ use Rattle.working_state.proofs.Roots.{at_history}
 use Rattle.working_state.specs.Moments.{Moment, moment, machine_at, seen_at, IsMountedAt, IsRefused, nodes_at, capacity_at}
 use Rattle.working_state.specs.Leaves.{is_still, Leaves}
 use Rattle.working_state.specs.Looking.{only_looks}
+use Rattle.working_state.specs.Seen.{showing}
 use Rattle.working_state.specs.Steps.{replied, CallStep}
 use Rattle.working_state.specs.Moments.{IsAnswered}
 use Rattle.working_state.specs.Opening.{open_refusal_of, changes_found}
@@ -52,9 +53,6 @@ open_at : (a : Moment) (path : Path) (flags : OpenFlags) (root : ℕ) → IsMoun
 open_at a path flags root m is lawful =
     ap (λ b. cond (not b) (Some Invalid) (refusal_by (machine_at a) path flags (get (working_tree (machine_at a))))) lawful
     ∙ ap (refusal_by (machine_at a) path flags) (working_is a root m is)
-
-pub open_unlawful : (m : Machine) (path : Path) (flags : OpenFlags) → are_lawful flags ≡ false → refusal m (Call.Open path flags) ≡ Some Invalid
-open_unlawful m path flags wrong = ap (λ b. cond (not b) (Some Invalid) (refusal_by m path flags (get (working_tree m)))) wrong
 
 creation : (b full : Bool) (table : Option Fault) → cond (not b) (Some NoEntry) (cond full (Some DirectoryFull) table) ≡ option_or (cond (not b) (Some NoEntry) (cond full (Some DirectoryFull) None)) table
 creation false full table = refl
@@ -247,7 +245,7 @@ opened_answer a b path flags descriptor files m l lawful fine same free is =
         let group = ap (λ (x : Machine). x.group) (worked_machine a b m w) in
         (λ i. machine_with (history i) (group i) (descriptors i)) ∙ sym (next_is n path flags descriptor fine none free)
 
-    step : CallStep (seen_at a) n false call (Ok (Reply.Fd descriptor)) (seen_at b) (machine_at (moment b.device (record b.state { files = files }))) false
+    step : CallStep (showing (seen_at a) n false) call (Ok (Reply.Fd descriptor)) (showing (seen_at b) (machine_at (moment b.device (record b.state { files = files }))) false)
     step = record {
       later = worked_later a b w;
       answers = (

@@ -12,11 +12,11 @@ use Rattle.fs_types.specs.declared.fault.Fault.{Fault}
 use Rattle.fs_types.specs.declared.fault.Fault.TheVariants.{NoEntry, NotDirectory, Exists, Invalid, Busy, FlashFull, ReadOnly, ReadFailed, PowerCut, NoMemory, Damaged}
 use Rattle.directory.specs.Lookups.{is_path_fault, IsLookupFault}
 use Rattle.directory.specs.Trails.{IsChangeFault}
-use Rattle.working_state.specs.Moments.{Moment, machine_at, seen_at, IsMountedAt, IsAnswered, Steps, IsRefused, IsStep, moment}
+use Rattle.working_state.specs.Moments.{Moment, machine_at, seen_at, shown_at, IsMountedAt, IsAnswered, Steps, IsRefused, IsStep, moment}
 use Rattle.working_state.specs.Leaves.{is_still}
 use Rattle.working_state.specs.Looking.{LooksOnce}
 use Rattle.working_state.specs.Seen.{Seen}
-use Rattle.working_state.specs.Steps.{last_serial, replied, is_light, unlooked_refusal, begins_work, is_writing, is_cut, is_cut_answer, MayRefuse, LeadsTo, CallStep, tells_space}
+use Rattle.working_state.specs.Steps.{last_serial, is_light, unlooked_refusal, begins_work, is_writing, is_cut, is_cut_answer, MayRefuse, LeadsTo, CallStep, tells_space}
 use Rattle.working_state.specs.Mounted.{IsMounted}
 use Rattle.working_state.specs.Worked.{IsWorked, IsLooked, WorkCause}
 use Rattle.working_state.specs.declared.state.State.{State}
@@ -98,11 +98,6 @@ pub refused_step : (a b : Moment) (call : Call) (fault : Fault) → IsMountedAt 
     → IsStep a call (Err fault) b (is_cut fault)
 refused_step a b call fault m w refuses = record { later = worked_later a b w; answers = (refuses, worked_machine a b m w, refl) }
 
--- a step, where what was answered is a fault
-pub at_fault : {T : Type 0} (f : T → Reply) (old new : Seen) (m n : Machine) (call : Call) (fault : Fault) (result : Result T Fault) → result ≡ Err fault
-    → CallStep old m false call (Err fault) new n (is_cut fault) → CallStep old m false call (replied f result) new n (is_cut_answer result)
-at_fault f old new m n call fault result is step = subst (λ r. CallStep old m false call (replied f r) new n (is_cut_answer r)) (sym is) step
-
 -- a call that only looks is answered so
 pub looked_answer : (a b : Moment) (call : Call) (result : Result Reply Fault) → IsMountedAt a → is_still call ≡ false → IsLooked a b → LooksOnce (machine_at a) call a.device b.device → IsStep a call result b (is_cut_answer result) → IsAnswered a call result b
 looked_answer a b call result m moves l asks step =
@@ -138,7 +133,7 @@ remembered_step a b u call result again told on is plain answered =
     }))
   where
     StepFrom : Bool → Bool → Type 0
-    StepFrom off off' = CallStep (seen_at a) (machine_at a) off call result (seen_at b) (machine_at b) off'
+    StepFrom off off' = CallStep (shown_at a off) call result (shown_at b off')
 
 -- the system stays mounted: where the answer is that the power is off, it is
 pub remembered_mounted : (a b : Moment) (u : State) (call : Call) (result : Result Reply Fault) → u ≡ remembering b.state result → IsMountedAt b → IsStep a call result b (is_cut_answer result) → IsMounted b.device u

@@ -1,5 +1,5 @@
 -- What stands still stands after reads and writes of nodes, and the machine is the same.
-use Rattle.std.proofs.Common.{◌≡◌, ℕ, Option, ◌-◌, ◌≤◌, true, false, ◌||◌, refl, sym, ap, subst, ◌∙◌, inl, arith}
+use Rattle.std.proofs.Common.{◌≡◌, ℕ, Option, [], ◌∷◌, ◌-◌, ◌≤◌, true, false, ◌||◌, refl, sym, ap, subst, ◌∙◌, inl, arith}
 use Rattle.std.proofs.lemmas.Bool.{both_ways}
 use Rattle.std.specs.FinSet as set
 use Rattle.history_machine.specs.History.{Past, map_roots, map_group, working_root}
@@ -20,7 +20,7 @@ use Rattle.node_store.specs.Storage.{Storage, storage, is_kept, Evolved}
 use Rattle.node_store.specs.StorageLaws.{Evolved_itself, Evolved_on, Untouched_itself, Untouched_evolved, Untouched_on}
 use Rattle.node_store.specs.StoreLaws.{Evolved_node}
 use Rattle.block_trees.specs.Laws.{FrameLaw}
-use Rattle.block_trees.specs.Reached.{Keeps}
+use Rattle.block_trees.specs.Reached.{Keeps, Reached}
 use Rattle.block_trees.specs.Trees.{IsRoot, root_tree}
 use Rattle.block_trees.proofs.Frames.{frame_law}
 use Rattle.working_state.specs.Moments.{Moment, machine_at, seen_at, storage_at, IsMountedAt, capacity_at, version_tree, moment}
@@ -28,7 +28,7 @@ use Rattle.working_state.specs.Leaves.{HasLooked, HasWritten, is_still, Leaves}
 use Rattle.working_state.specs.Looking.{only_looks, LooksOnce}
 use Rattle.working_state.proofs.Looks.{looks_still, looks_other, neither}
 use Rattle.working_state.specs.Seen.{capacity_of, tree_on}
-use Rattle.working_state.specs.Roots.{HasRoot, ReachesNew}
+use Rattle.working_state.specs.Roots.{HasRoot, IsReached, ReachesNew}
 use Rattle.working_state.specs.Steps.{LeadsTo}
 use Rattle.working_state.specs.Mounted.{IsStanding, KeepsPages}
 use Rattle.working_state.specs.Worked.{IsSameBut, IsWorked, IsLooked}
@@ -209,11 +209,11 @@ pub worked_pages : (a b : Moment) → IsMountedAt a → IsWorked a b → KeepsPa
 worked_pages a b m w p (root, has, reached) = w.evolved.kept_pages p ((m.roots root has).held root refl (block_of a.device p) reached)
 
 -- a root that was reaches what it did
-pub worked_reach : (a b : Moment) (root : ℕ) → IsMountedAt a → IsWorked a b → HasRoot a.state root → ReachesBefore a.device a.state b.device root
-worked_reach a b root m w has block reached = inl (root, has, (frame (storage_at a) (storage_at b) m.lawful w.evolved).reached root block (m.roots root has).held reached)
+pub worked_reach : (a b : Moment) (root : ℕ) → IsMountedAt a → IsWorked a b → HasRoot a.state root → (block : ℕ) → Reached (node_of b.device) (root ∷ []) block → IsReached a.device a.state block
+worked_reach a b root m w has block reached = (root, has, (frame (storage_at a) (storage_at b) m.lawful w.evolved).reached root block (m.roots root has).held reached)
 
 pub worked_before : (a b : Moment) → IsMountedAt a → IsWorked a b → AllRoots (ReachesBefore a.device a.state b.device) b.state
-worked_before a b m w root has = worked_reach a b root m w (subst (λ (x : Past ℕ × Option (Group ℕ)). HasRoot (with_work b.state x.0 x.1) root) (λ i. (w.rest.history i, w.rest.group i)) has)
+worked_before a b m w root has block reached = inl (worked_reach a b root m w (subst (λ (x : Past ℕ × Option (Group ℕ)). HasRoot (with_work b.state x.0 x.1) root) (λ i. (w.rest.history i, w.rest.group i)) has) block reached)
 
 pub worked_reaches : (a b : Moment) → IsMountedAt a → IsWorked a b → ReachesNew a.device a.state b.device b.state
 worked_reaches a b m w = all_reach a.device a.state b.device b.state (worked_before a b m w)

@@ -1,6 +1,6 @@
 -- What a call that does no device operation has to show for its step, and what stays of the invariant.
-use Rattle.std.proofs.Common.{◌≡◌, ◌⊎◌, inl, inr, ℕ, ◌+◌, ◌<◌, ◌≤◌, Bool, true, false, cond, ◌&&◌, Option, Some, None, List, [], ◌∷◌, map, Result, Ok, Err, OnOk, OnErr, IfOk, IfErr, length, sym, ap, refl, ◌∙◌, subst, arith}
-use Rattle.std.proofs.lemmas.Bool.{true≢false, both_ways, and_parts, and_from, le-leb, lt-leb}
+use Rattle.std.proofs.Common.{◌≡◌, ◌⊎◌, inl, inr, ℕ, ◌+◌, ◌<◌, Bool, true, false, cond, ◌&&◌, Option, Some, None, List, [], ◌∷◌, map, Result, Ok, Err, OnOk, OnErr, IfOk, IfErr, length, sym, ap, refl, ◌∙◌, subst, arith}
+use Rattle.std.proofs.lemmas.Bool.{true≢false, both_ways, and_parts, and_from}
 use Rattle.std.specs.Prelude.{◌==◌, ◌||◌, nat_lt, nat_le, unwrap_or}
 use Rattle.std.specs.Option.{option_map, option_map_or, option_and_then, is_some, is_none}
 use Rattle.fs_types.specs.Names.{Name}
@@ -18,12 +18,12 @@ use Rattle.fs_types.specs.declared.fault.Fault.{Fault}
 use Rattle.fs_types.specs.declared.fault.Fault.TheVariants.{PowerCut}
 use Rattle.node_store.specs.declared.storage.Storage.{Storage}
 use Rattle.history.specs.Answers.{told_nothing}
-use Rattle.working_state.specs.Moments.{Moment, machine_at, seen_at, IsMountedAt, IsAnswered, Steps, version_tree, moment}
+use Rattle.working_state.specs.Moments.{Moment, machine_at, seen_at, shown_at, IsMountedAt, IsAnswered, Steps, version_tree, moment}
 use Rattle.working_state.specs.Changes.{IsReadOnly, IsOverflow}
 use Rattle.working_state.specs.Facts.{facts_of, group_refusal}
 use Rattle.working_state.specs.Leaves.{Leaves}
 use Rattle.working_state.specs.Roots.{HasRoot, IsSpace, ReachesNew}
-use Rattle.working_state.specs.Seen.{Seen}
+use Rattle.working_state.specs.Seen.{Seen, showing}
 use Rattle.bad_blocks.specs.Mode.{is_read_only}
 use Rattle.working_state.specs.Steps.{last_serial, replied, empty, is_cut, is_cut_answer, is_writing, is_for_record, tells_space, MayRefuse, AnswersOnce, LeadsTo, CallStep}
 use Rattle.working_state.specs.declared.state.State.{State}
@@ -46,7 +46,7 @@ module _ (a : Moment) (call : Call) where
   stays = same_reach a.device a.state a.state (λ root has. has)
 
   -- a call that does no device operation, and is answered so
-  pub still_step : (t : State) (result : Result Reply Fault) → t.storage ≡ a.state.storage → (a.state.is_off ≡ true → t ≡ a.state) → (tells_space call ≡ true → TellsSpace result t) → ReachesNew a.device a.state a.device t → OnErr result (t.history ≡ a.state.history) → OnErr result (t.group ≡ a.state.group) → CallStep (seen_at a) before a.state.is_off call result (seen_at (moment a.device t)) (machine_at (moment a.device t)) t.is_off → Steps a call result (moment a.device t)
+  pub still_step : (t : State) (result : Result Reply Fault) → t.storage ≡ a.state.storage → (a.state.is_off ≡ true → t ≡ a.state) → (tells_space call ≡ true → TellsSpace result t) → ReachesNew a.device a.state a.device t → OnErr result (t.history ≡ a.state.history) → OnErr result (t.group ≡ a.state.group) → CallStep (shown_at a a.state.is_off) call result (shown_at (moment a.device t) t.is_off) → Steps a call result (moment a.device t)
   still_step t result same stopped told reached refused regrouped step = record {
     step = step;
     told = told;
@@ -84,14 +84,14 @@ module _ (a : Moment) (call : Call) where
   pub refused : (fault : Fault) → a.state.is_off ≡ false → is_cut fault ≡ false → (refusal before call ≡ Some fault) ⊎ MayRefuse (seen_at a) before call fault (seen_at a) → Steps a call (Err fault) a
   refused fault on no_cut why = still_step a.state (Err fault) refl (λ _. refl) (λ _. tt) stays refl refl (record {
     later = same-later (seen_at a);
-    answers = subst (λ off. AnswersOnce (seen_at a) before off call (Err fault) (seen_at a) before off) (sym on) (why, refl, sym no_cut);
+    answers = subst (λ off. AnswersOnce (showing (seen_at a) before off) call (Err fault) (showing (seen_at a) before off)) (sym on) (why, refl, sym no_cut);
   })
 
   -- a call where an earlier one answered that the power is off
   pub off_step : (fault : Fault) → (fault ≡ PowerCut) × (a.state.is_off ≡ true) → Steps a call (Err fault) a
   off_step fault why = still_step a.state (Err fault) refl (λ _. refl) (λ _. tt) stays refl refl (record {
     later = same-later (seen_at a);
-    answers = subst (λ off. AnswersOnce (seen_at a) before off call (Err fault) (seen_at a) before off) (sym why.1) (why.0, refl, refl, refl);
+    answers = subst (λ off. AnswersOnce (showing (seen_at a) before off) call (Err fault) (showing (seen_at a) before off)) (sym why.1) (why.0, refl, refl, refl);
   })
 
   -- a call that the history answers
@@ -180,19 +180,7 @@ module _ (a : Moment) (name : Name) (root : ℕ) (outside : a.state.group ≡ No
       a.state.files)
       ∙ (λ i. machine_with (changed-map (version_tree a) a.state.history root i) (map_group (version_tree a) (sym outside i)) a.state.files)
 
--- A checkpoint.
-
-module _ {R : Type 0} (p : Past R) (name : Name) where
-  pub checkpoint-exists : is_some (checkpoint_root p name) ≡ true → checkpoint_refusal p name ≡ Some Fault.Exists
-  checkpoint-exists there = ap (λ b. cond b (Some Fault.Exists) (cond (nat_le 16 (length p.checkpoints)) (Some Fault.CheckpointsFull) None)) there
-
-  pub checkpoint-full : is_some (checkpoint_root p name) ≡ false → 16 ≤ length p.checkpoints → checkpoint_refusal p name ≡ Some Fault.CheckpointsFull
-  checkpoint-full new many = (λ i. cond (new i) (Some Fault.Exists) (cond (le-leb 16 (length p.checkpoints) many i) (Some Fault.CheckpointsFull) None))
-
-  pub checkpoint-free : is_some (checkpoint_root p name) ≡ false → length p.checkpoints < 16 → checkpoint_refusal p name ≡ None
-  checkpoint-free new few = (λ i. cond (new i) (Some Fault.Exists) (cond (lt-leb 16 (length p.checkpoints) few i) (Some Fault.CheckpointsFull) None))
-
--- a checkpoint that the machine accepts, which may want memory
+-- A checkpoint that the machine accepts, which may want memory.
 pub checkpointed : (a : Moment) (name : Name) (result : Result (Unit {0}) Fault) (p : Past ℕ) → a.state.is_off ≡ false → a.state.group ≡ None → is_read_only a.state.storage.bad ≡ false → checkpoint_refusal a.state.history name ≡ None
     → OnOk result (p ≡ with_checkpoint a.state.history name) → IfErr result (λ fault. fault ≡ unwrap_or (checkpoint_refusal a.state.history name) Fault.NoMemory) → OnErr result (p ≡ a.state.history)
     → Steps a (Call.Checkpoint name) (replied empty result) (at_history a p)
@@ -224,7 +212,7 @@ by_result (Ok x) P after old p ok err here there = subst P (sym ok) here
 by_result (Err fault) P after old p ok err here there = subst P (sym err) there
 
 -- a call leaves a machine
-pub still_machine : (s t : Seen) (m n : Machine) (off off' : Bool) (call : Call) (result : Result Reply Fault) → IsMachine m → has_paths call ≡ true → CallStep s m off call result t n off' → IsMachine n
+pub still_machine : (s t : Seen) (m n : Machine) (off off' : Bool) (call : Call) (result : Result Reply Fault) → IsMachine m → has_paths call ≡ true → CallStep (showing s m off) call result (showing t n off') → IsMachine n
 still_machine s t m n off off' call (Ok reply) is paths step = subst IsMachine (sym step.answers.1.leaves) (machine_law.kept m call is paths)
 still_machine s t m n true off' call (Err fault) is paths step = subst IsMachine (sym step.answers.2) is
 still_machine s t m n false off' call (Err fault) is paths step = subst IsMachine (sym step.answers.1) is
@@ -286,6 +274,11 @@ module _ {R : Type 0} (p : Past R) where
   pub name-no_cut : (name : Name) → NoCut (name_refusal p name)
   name-no_cut name = either (is_none (checkpoint_root p name)) (Some Fault.NoSuchVersion) None refl tt
 
+  pub checkpoint-no_cut : (name : Name) → NoCut (checkpoint_refusal p name)
+  checkpoint-no_cut name =
+      either (is_some (checkpoint_root p name)) (Some Fault.Exists) _ refl
+      (either (nat_le 16 (length p.checkpoints)) (Some Fault.CheckpointsFull) None refl tt)
+
 group-no_cut : (group : Option (Group ℕ)) (files : Descriptors) (call : Call) → NoCut (group_refusal group files call)
 group-no_cut group files call =
     either ((facts_of call).outside && is_some group) (Some Fault.InGroup) _ refl
@@ -302,7 +295,7 @@ refused_group a call fault on says =
 pub still_answer : (a : Moment) (call : Call) (result : Result Reply Fault) (t : State) → a.state.is_off ≡ false → t.is_off ≡ a.state.is_off → IsMountedAt (moment a.device t) → Steps a call result (moment a.device t) → IsAnswered a call result (moment a.device t)
 still_answer a call result t on same m steps = record {
   mounted = m;
-  step = record { later = steps.step.later; answers = by result t.is_off (subst (λ off. AnswersOnce (seen_at a) (machine_at a) off call result (seen_at b) (machine_at b) t.is_off) on steps.step.answers) };
+  step = record { later = steps.step.later; answers = by result t.is_off (subst (λ off. AnswersOnce (shown_at a off) call result (shown_at b t.is_off)) on steps.step.answers) };
   leaves = steps.leaves;
   is_off = same;
   pages = λ p reached. refl;
@@ -314,7 +307,7 @@ still_answer a call result t on same m steps = record {
     b : Moment
     b = moment a.device t
 
-    by : (result : Result Reply Fault) (off : Bool) → AnswersOnce (seen_at a) (machine_at a) false call result (seen_at b) (machine_at b) off → AnswersOnce (seen_at a) (machine_at a) false call result (seen_at b) (machine_at b) (is_cut_answer result)
+    by : (result : Result Reply Fault) (off : Bool) → AnswersOnce (shown_at a false) call result (shown_at b off) → AnswersOnce (shown_at a false) call result (shown_at b (is_cut_answer result))
     by (Ok reply) off h = (refl, h.1, refl)
     by (Err fault) off h = (h.0, h.1, refl)
 

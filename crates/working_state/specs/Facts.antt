@@ -26,7 +26,17 @@ pub record Facts : Type 0 where
   pub closed : Bool
 
 abbrev pub plain : Facts
-plain = record { still = false; light = false; looks = false; for_record = false; sync = false; tells_space = false; outside = false; inside = false; closed = false }
+plain = record {
+  still = false;
+  light = false;
+  looks = false;
+  for_record = false;
+  sync = false;
+  tells_space = false;
+  outside = false;
+  inside = false;
+  closed = false;
+}
 
 -- calls on the history that change it alone, and those that move the present version or begin a group
 abbrev pub on_history : Facts

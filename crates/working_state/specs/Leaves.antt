@@ -16,8 +16,8 @@ pub record HasLooked (old : Device) (s : Storage) (new : Device) (t : Storage) :
   pub untouched : parts.IsUntouched (parts.storage old s.bad s.ring) (parts.storage new t.bad t.ring)
   pub fits : StillFits old s new t
 
--- so many nodes were written at most: kept blocks stay, anchors and kept blocks keep their pages, and a block was taken
--- for each node at most, and one for each that went bad
+-- so many nodes were written at most: kept blocks stay, anchors and kept blocks keep their pages, and a block was
+-- taken for each node at most, and one for each that went bad
 pub record HasWritten (old : Device) (s : Storage) (most : ℕ) (new : Device) (t : Storage) : Type 0 where
   pub evolved : parts.Evolved (parts.storage old s.bad s.ring) (parts.storage new t.bad t.ring)
   pub paid : t.ring.takes + set.len s.bad ≤ s.ring.takes + set.len t.bad + most
@@ -27,9 +27,9 @@ pub record HasWritten (old : Device) (s : Storage) (most : ℕ) (new : Device) (
 abbrev pub is_still : Call → Bool
 is_still call = (facts_of call).still
 
--- what a call leaves, whatever it answers: what one try of its change does, in which it writes as many nodes at most as it
--- needs; a call that changes no tree only reads; one that does no device operation leaves all as it was; and one that only
--- looks, looks once
+-- what a call leaves, whatever it answers: what one try of its change does, in which it writes as many nodes at
+-- most as it needs; a call that changes no tree only reads; one that does no device operation leaves all as it was;
+-- and one that only looks, looks once
 pub record Leaves (m : Machine) (call : Call) (old : Device) (s : Storage) (new : Device) (t : Storage) : Type 0 where
   pub written : HasWritten old s (need (capacity_of old) m call) new t
   pub looked : changes_tree m call ≡ false → HasLooked old s new t

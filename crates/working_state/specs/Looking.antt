@@ -22,8 +22,8 @@ look_nodes t path = path_need t t path
 abbrev pub list_nodes : Tree → Path → ℕ
 list_nodes t path = look_nodes t path + nodes_for (entry_count t path)
 
--- so many nodes: those on the way to a file, those that hold a range of its bytes, and two for each binary digit of the
--- index of its last node
+-- so many nodes: those on the way to a file, those that hold a range of its bytes, and two for each binary digit of
+-- the index of its last node
 pub record IsReadOf (capacity way : ℕ) (bytes : List ℕ) (offset count nodes : ℕ) : Type 0 where
   pub digits : ℕ
   pub enough : HasDigits (head_index capacity (length bytes)) digits
@@ -31,21 +31,26 @@ pub record IsReadOf (capacity way : ℕ) (bytes : List ℕ) (offset count nodes 
 
 -- a range of the bytes of a file is read once
 abbrev pub AsksForRange : Device → ℕ → List ℕ → ℕ → ℕ → Device → Type 0
-AsksForRange old way bytes offset count new = (nodes : ℕ) → IsReadOf (capacity_of old) way bytes offset count nodes → AsksBlocks old nodes new
+AsksForRange old way bytes offset count new =
+    (nodes : ℕ) → IsReadOf (capacity_of old) way bytes offset count nodes → AsksBlocks old nodes new
 
 -- that of an open file; without one nothing is read
 abbrev pub AsksForOpen : Device → Option Descriptor → Tree → ℕ → ℕ → Device → Type 0
 AsksForOpen old None t offset count new = AsksBlocks old 0 new
-AsksForOpen old (Some file) t offset count new = AsksForRange old (look_nodes t file.path) (bytes_of_file t file.path) offset count new
+AsksForOpen old (Some file) t offset count new =
+    AsksForRange old (look_nodes t file.path) (bytes_of_file t file.path) offset count new
 
 -- calls that only look at what stands at a path, or at the bytes of a file
 abbrev pub only_looks : Call → Bool
 only_looks call = (facts_of call).looks
 
--- such a call looks once: it reads the nodes of each directory on its path, and then those of the directory or the bytes of the file
+-- such a call looks once: it reads the nodes of each directory on its path, and then those of the directory or the
+-- bytes of the file
 abbrev pub LooksOnce : Machine → Call → Device → Device → Type 0
 LooksOnce m (Call.Stat view path) old new = AsksBlocks old (list_nodes (view_tree m view) path) new
 LooksOnce m (Call.List view path) old new = AsksBlocks old (list_nodes (view_tree m view) path) new
-LooksOnce m (Call.ReadAt view path offset count) old new = AsksForRange old (look_nodes (view_tree m view) path) (bytes_of_file (view_tree m view) path) offset count new
-LooksOnce m (Call.Pread descriptor offset count) old new = AsksForOpen old (descriptor_at m.descriptors descriptor) (working_tree m) offset count new
+LooksOnce m (Call.ReadAt view path offset count) old new =
+    AsksForRange old (look_nodes (view_tree m view) path) (bytes_of_file (view_tree m view) path) offset count new
+LooksOnce m (Call.Pread descriptor offset count) old new =
+    AsksForOpen old (descriptor_at m.descriptors descriptor) (working_tree m) offset count new
 LooksOnce m _ old new = Unit {0}

@@ -9,7 +9,8 @@ use Rattle.directory.specs.declared.lookups.Found.TheVariants.{Missing, File, Di
 
 -- why what was found is not opened
 abbrev pub open_refusal_of : OpenFlags → Found → Option Fault
-open_refusal_of flags (Missing is_full) = if not (creates flags) then Some NoEntry else if is_full then Some DirectoryFull else None
+open_refusal_of flags (Missing is_full) =
+    if not (creates flags) then Some NoEntry else if is_full then Some DirectoryFull else None
 open_refusal_of flags (File head size) = if creates flags && is_exclusive flags then Some Exists else None
 open_refusal_of flags (Dir block) = if creates flags && is_exclusive flags then Some Exists else Some IsDirectory
 

@@ -8,7 +8,7 @@ use Rattle.fs_types.specs.declared.call.Reply.{Reply}
 use Rattle.fs_types.specs.declared.fault.Fault.{Fault}
 use Rattle.fs_types.specs.declared.fault.Fault.TheVariants.{Exists, Invalid, Busy, FlashFull, ReadOnly, Overflow, ReadFailed, PowerCut, NoMemory}
 use Rattle.working_state.specs.Facts.{facts_of}
-use Rattle.working_state.specs.Seen.{Seen}
+use Rattle.working_state.specs.Seen.{Seen, Shown}
 
 -- the greatest serial is given to no version
 abbrev pub last_serial : ℕ
@@ -54,24 +54,41 @@ is_sync call = (facts_of call).sync
 abbrev pub tells_space : Call → Bool
 tells_space call = (facts_of call).tells_space
 
--- an accepted call that read-only mode refuses: one that changes a tree, in a group too, one that makes a version, or one that
--- the record has to take
+-- an accepted call that read-only mode refuses: one that changes a tree, in a group too, one that makes a
+-- version, or one that the record has to take
 abbrev pub is_writing : Machine → Call → Bool
-is_writing m call = is_accepted m call && ((is_some (tree_after m call) || is_some (version_after m call)) || is_for_record call)
+is_writing m call = is_accepted m call
+    && ((is_some (tree_after m call) || is_some (version_after m call)) || is_for_record call)
 
--- no block is free, and those that were free were fewer than the nodes to be written and the blocks that went bad since
+-- where the call makes a version, a serial is left for it; or none is
+abbrev pub HasSerial : Machine → Call → Type 0
+HasSerial m call = makes_version m call ≡ true → m.history.next < last_serial
+
+abbrev pub LacksSerial : Machine → Call → Type 0
+LacksSerial m call = (makes_version m call ≡ true) × (m.history.next ≡ last_serial)
+
+-- a sync that is accepted
+abbrev pub IsAcceptedSync : Machine → Call → Type 0
+IsAcceptedSync m call = (is_sync call ≡ true) × (is_accepted m call ≡ true)
+
+-- no block is free, and those that were free were fewer than the nodes to be written and the blocks that went bad
+-- since
 pub record IsFull (old : Seen) (nodes : ℕ) (new : Seen) : Type 0 where
   pub none_free : new.free ≡ 0
   pub few_free : old.free + old.listed < new.listed + nodes
 
--- a refusal that the machine does not give, with its cause. The checks before the work are in order: read-only mode (16),
--- and for a version the serials, or for a commit its sequence (22). So where no block is left for the nodes of a version,
--- neither had refused it; and where read-only mode came on in the work, a serial was left. Where the call came to a look-up
--- or to its work: a read failed; the device is off; memory was wanted
+-- a refusal that the machine does not give, with its cause. The checks before the work are in order: read-only
+-- mode (16), and for a version the serials, or for a commit its sequence (22). So where no block is left for
+-- the nodes of a version, neither had refused it; and where read-only mode came on in the work, a serial was
+-- left. Where the call came to a look-up or to its work: a read failed; the device is off; memory was wanted
 abbrev pub MayRefuse : Seen → Machine → Call → Fault → Seen → Type 0
-MayRefuse old m call FlashFull new = (0 < need old.capacity m call) × (old.read_only ≡ false) × (makes_version m call ≡ true → m.history.next < last_serial) × IsFull old (need old.capacity m call) new
-MayRefuse old m call ReadOnly new = (is_writing m call ≡ true) × (new.read_only ≡ true) × (old.read_only ≡ false → makes_version m call ≡ true → m.history.next < last_serial)
-MayRefuse old m call Overflow new = (old.read_only ≡ false) × (((makes_version m call ≡ true) × (m.history.next ≡ last_serial)) ⊎ ((is_sync call ≡ true) × (is_accepted m call ≡ true)))
+MayRefuse old m call FlashFull new =
+    (0 < need old.capacity m call) × (old.read_only ≡ false) × HasSerial m call
+    × IsFull old (need old.capacity m call) new
+MayRefuse old m call ReadOnly new =
+    (is_writing m call ≡ true) × (new.read_only ≡ true) × (old.read_only ≡ false → HasSerial m call)
+MayRefuse old m call Overflow new =
+    (old.read_only ≡ false) × (LacksSerial m call ⊎ IsAcceptedSync m call)
 MayRefuse old m call ReadFailed new = (begins_work m call ≡ true) × (old.failed_reads < new.failed_reads)
 MayRefuse old m call PowerCut new = (begins_work m call ≡ true) × (new.powered ≡ false)
 MayRefuse old m call NoMemory new = begins_work m call ≡ true
@@ -99,20 +116,28 @@ abbrev pub is_cut_answer : {T : Type 0} → Result T Fault → Bool
 is_cut_answer (Ok x) = false
 is_cut_answer (Err fault) = is_cut fault
 
--- a call that was carried out: it is accepted, and what it answers is the machine's, whatever space is left, if it does not
--- tell that; where read-only mode refuses it, that was off and is; and for a version a serial was left
+-- a call that was carried out: it is accepted, and what it answers is the machine's, whatever space is left, if
+-- it does not tell that; where read-only mode refuses it, that was off and is; and for a version a serial was left
 pub record IsDone (old : Seen) (m : Machine) (call : Call) (reply : Reply) (new : Seen) (n : Machine) : Type 0 where
   pub accepted : refusal m call ≡ None
   pub answered : (space : Space) → tells_space call ≡ false → answer space m call ≡ Ok reply
   pub leaves : n ≡ next m call
   pub writable : is_writing m call ≡ true → (old.read_only ≡ false) × (new.read_only ≡ false)
-  pub serial_left : makes_version m call ≡ true → m.history.next < last_serial
+  pub serial_left : HasSerial m call
 
--- by whether a call answered before that the power is off, and now: then each call answers so and does nothing
-abbrev pub AnswersOnce : Seen → Machine → Bool → Call → Result Reply Fault → Seen → Machine → Bool → Type 0
-AnswersOnce old m off call (Ok reply) new n off' = (off ≡ false) × IsDone old m call reply new n × (off' ≡ false)
-AnswersOnce old m true call (Err fault) new n off' = (fault ≡ PowerCut) × (new ≡ old) × (n ≡ m) × (off' ≡ true)
-AnswersOnce old m false call (Err fault) new n off' = Refuses old m call fault new × (n ≡ m) × (off' ≡ is_cut fault)
+-- a call that is not carried out leaves the machine. Where a call answered before that the power is off, each one
+-- answers so and does nothing
+abbrev pub AnswersFault : Bool → Shown → Call → Fault → Shown → Type 0
+AnswersFault true old call fault new =
+    (fault ≡ PowerCut) × (new.seen ≡ old.seen) × (new.machine ≡ old.machine) × (new.is_off ≡ true)
+AnswersFault false old call fault new =
+    Refuses old.seen old.machine call fault new.seen × (new.machine ≡ old.machine) × (new.is_off ≡ is_cut fault)
+
+-- what a call answers, by whether it was carried out
+abbrev pub AnswersOnce : Shown → Call → Result Reply Fault → Shown → Type 0
+AnswersOnce old call (Ok reply) new =
+    (old.is_off ≡ false) × IsDone old.seen old.machine call reply new.seen new.machine × (new.is_off ≡ false)
+AnswersOnce old call (Err fault) new = AnswersFault old.is_off old call fault new
 
 -- what calls lead to, whatever they answer: the bad list grows by exactly the failures, and each take leaves one free
 -- block less
@@ -127,6 +152,6 @@ pub record LeadsTo (old new : Seen) : Type 0 where
   pub stays_read_only : old.read_only ≡ true → new.read_only ≡ true
 
 -- the call's step: it is answered so, and what is seen is later
-pub record CallStep (old : Seen) (m : Machine) (off : Bool) (call : Call) (result : Result Reply Fault) (new : Seen) (n : Machine) (off' : Bool) : Type 0 where
-  pub later : LeadsTo old new
-  pub answers : AnswersOnce old m off call result new n off'
+pub record CallStep (old : Shown) (call : Call) (result : Result Reply Fault) (new : Shown) : Type 0 where
+  pub later : LeadsTo old.seen new.seen
+  pub answers : AnswersOnce old call result new

@@ -2,10 +2,9 @@
 //! outside a change group the greatest serial; then the nodes of the edit are written, and where
 //! read-only mode did not come on in this, their root becomes that of the group, or else the present
 //! version.
-ghost use Rattle.std.specs.Prelude.{◌≡◌, ℕ, ◌<◌, Some, None};
+ghost use Rattle.std.specs.Prelude.{◌≡◌, ℕ, Some};
 ghost use Rattle.history_machine.specs.History.{working_root, history_with, group_with};
-ghost use Rattle.working_state.specs.Steps.{last_serial};
-ghost use Rattle.working_state.specs.Changes.{IsReady, CanApply, IsTried, IsChanged};
+ghost use Rattle.working_state.specs.Changes.{IsReady, CanApply, IsTried, IsChanged, LeavesSerial, work};
 ghost use Rattle.working_state.specs.Mounted.{IsStanding};
 
 use crate::checks::{check_change, check_writable};
@@ -30,7 +29,7 @@ pub(crate) fn change<F: Flash>(
     requires ready { IsReady (F.device flash.old) storage.old }
     requires stands { (root : ℕ) → working_root history.old group.old ≡ Some root → IsStanding (F.device flash.old) storage.old.ring root }
     requires editable { (root : ℕ) → working_root history.old group.old ≡ Some root → CanApply (F.device flash.old) storage.old root edit }
-    ensures { IsChanged (F.device flash.old) history.old group.old storage.old edit.entry result (F.device flash.new) history.new group.new storage.new }
+    ensures { IsChanged (work (F.device flash.old) history.old group.old storage.old) edit.entry result (work (F.device flash.new) history.new group.new storage.new) }
 {
     check_change(history, group, storage)?;
     let root = root_of(history, group);
@@ -42,7 +41,7 @@ pub(crate) fn change<F: Flash>(
 
 /// Gives the root of a change to the group, for which a version is due then, or else to a new version.
 fn adopt(history: &mut History<u32>, group: &mut Option<Group<u32>>, root: u32)
-    requires { group.old ≡ None → history.old.next < last_serial }
+    requires { LeavesSerial history.old group.old }
     ensures history { history.new ≡ history_with history.old group.old root }
     ensures group { group.new ≡ group_with group.old root }
 {

@@ -1,11 +1,11 @@
 //! What calls check before they work, and what they remember after it.
-ghost use Rattle.std.specs.Prelude.{◌≡◌, ◌<◌, ◌⊎◌, ◌||◌, true, false, is_some, Some, None, IfErr, OnOk};
+ghost use Rattle.std.specs.Prelude.{◌≡◌, ◌||◌, true, false, is_some, Some, None, IfErr, OnOk};
 ghost use Rattle.history_machine.specs.Descriptors.{any_open};
 ghost use Rattle.fs_types.specs.Requests.{call_of};
 ghost use Rattle.fs_types.specs.declared.fault.Fault.{Fault};
-ghost use Rattle.working_state.specs.Changes.{IsReadOnly, IsOverflow};
+ghost use Rattle.working_state.specs.Changes.{LeavesSerial, CheckCause};
 ghost use Rattle.bad_blocks.specs.Mode.{is_read_only};
-ghost use Rattle.working_state.specs.Steps.{last_serial, is_cut_answer};
+ghost use Rattle.working_state.specs.Steps.{is_cut_answer};
 ghost use Rattle.working_state.specs.Facts.{group_refusal};
 
 use crate::state::State;
@@ -121,8 +121,8 @@ pub(crate) fn check_change(
     storage: &Storage,
 ) -> Result<(), Fault>
     ensures writable { OnOk result (is_read_only storage.now.bad ≡ false) }
-    ensures serial { OnOk result (group.now ≡ None → history.now.next < last_serial) }
-    ensures err { IfErr result (λ fault. ((fault ≡ Fault.ReadOnly) × IsReadOnly history.now group.now storage.now storage.now) ⊎ ((fault ≡ Fault.Overflow) × IsOverflow history.now group.now storage.now)) }
+    ensures serial { OnOk result (LeavesSerial history.now group.now) }
+    ensures err { IfErr result (λ fault. CheckCause history.now group.now storage.now fault storage.now) }
 {
     check_writable(storage)?;
     if group.is_none() && history.is_exhausted() {

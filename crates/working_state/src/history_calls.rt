@@ -13,7 +13,7 @@ use crate::changes::change;
 use crate::checks::check_writable;
 use crate::state::State;
 use flash_model::Flash;
-use fs_types::{CpName, Fault, MAX_CHECKPOINTS, Reply};
+use fs_types::{CpName, Fault, Reply};
 use std::alloc::Global;
 use tree_edits::Edit;
 
@@ -75,9 +75,7 @@ impl State {
         requires allowed { group_refusal self.old.group self.old.files (Call.Forget count) ≡ None }
         ensures { (device : Device) → IsMounted device self.old → IsAnswered (moment device self.old) (Call.Forget count) (replied empty result) (moment device self.new) }
     {
-        if count > self.history.cursor() as u64 {
-            return Err(Fault::Invalid);
-        }
+        self.history.check_forget(count)?;
         check_writable(&self.storage)?;
         self.history.forget(count)
     }
@@ -88,12 +86,7 @@ impl State {
         requires allowed { group_refusal self.old.group self.old.files (Call.Checkpoint name.now) ≡ None }
         ensures { (device : Device) → IsMounted device self.old → IsAnswered (moment device self.old) (Call.Checkpoint name.now) (replied empty result) (moment device self.new) }
     {
-        if self.history.checkpoints().contains_key(name) {
-            return Err(Fault::Exists);
-        }
-        if self.history.checkpoints().len() >= MAX_CHECKPOINTS {
-            return Err(Fault::CheckpointsFull);
-        }
+        self.history.check_checkpoint(name)?;
         check_writable(&self.storage)?;
         let root = self.root();
         self.history.checkpoint(name.clone()?, root)
@@ -105,7 +98,7 @@ impl State {
         requires allowed { group_refusal self.old.group self.old.files (Call.RemoveCheckpoint name.now) ≡ None }
         ensures { (device : Device) → IsMounted device self.old → IsAnswered (moment device self.old) (Call.RemoveCheckpoint name.now) (replied empty result) (moment device self.new) }
     {
-        self.history.checkpoint_root(name)?;
+        self.history.check_name(name)?;
         check_writable(&self.storage)?;
         self.history.remove_checkpoint(name)
     }

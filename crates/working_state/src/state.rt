@@ -6,6 +6,7 @@ ghost use Rattle.fs_types.specs.declared.limits.TheConstants.{ANCHORS, MAX_VERSI
 ghost use Rattle.fs_types.specs.declared.fault.Fault.{Fault};
 ghost use Rattle.flash_model.specs.Geometry.{IsGeometry};
 ghost use Rattle.allocator.specs.Ring.{IsDataBlock};
+ghost use Rattle.node_format.specs.Links.{chain_bytes};
 ghost use Rattle.node_store.specs.Fitting.{Fits};
 ghost use Rattle.node_store.specs.NodePages.{node_of};
 ghost use Rattle.node_store.specs.Storage as parts;
@@ -108,6 +109,7 @@ fn write_root<F: Flash>(flash: &mut F, storage: &mut Storage) -> Result<u32, Fau
 
     // The root.
     ensures kept { IfOk result (λ root. set.contains storage.new.ring.used root ≡ true) }
+    ensures node { IfOk result (λ root. node_of (F.device flash.new) root ≡ Some (chain_bytes 0 [])) }
     ensures empty { IfOk result (λ root. entries_in (node_of (F.device flash.new)) root ≡ Some []) }
     ensures next { IfOk result (λ root. parts.IsNextBlock (parts.storage (F.device flash.old) storage.old.bad storage.old.ring) (parts.storage (F.device flash.new) storage.new.bad storage.new.ring) root) }
 

@@ -40,6 +40,7 @@ returns-then-saved-place-clause-lacks g c = inr (record {
   count = c.new-draft.result.count;
   means = λ sequence. subst (Means c.args.saved.now sequence c.args.bad.now) (sym (c.new-draft.ensures.payload ∙ c.as_slice.ensures.value)) (c.payload_with-payload.ensures.means sequence);
   fills = c.new-draft.ensures.is.fills;
+  fits = c.new-draft.ensures.is.fits;
   past = c.if-saved-place.true;
 })
 

@@ -12,7 +12,7 @@ use Rattle.directory.proofs.EditedPaths.{made_reaches}
 use Rattle.directory.proofs.Held.{held_later}
 use Rattle.directory.proofs.NewDirectories.{rewritten_before}
 use Rattle.directory.proofs.TrailEdits.{look_later, trail_later, path_nodes-later}
-use Rattle.directory.proofs.WrittenNodes.{empty_written}
+use Rattle.directory.proofs.WrittenNodes.{empty_written, chained_is}
 use Rattle.directory.proofs.edits.put_directory.Goals as goal
 
 missing_below : (f : Blocks) (root : ℕ) (path : Path) → look_up f root path ≡ Ok (Missing false) → 0 < length path
@@ -63,7 +63,7 @@ returns-clause-made g c =
     record {
       block = block;
       empty = empty_written (g.N.Nodes.node new) block (ap link_of (same ∙ c.in_ok-block.ensures.written) ∙ c.empty_directory.ensures.read);
-      was_free = c.in_ok-block.ensures.fresh;
+      fresh = (c.in_ok-block.ensures.fresh, chained_is (g.N.Nodes.node new) block 0 [] (ap link_of (same ∙ c.in_ok-block.ensures.written) ∙ c.empty_directory.ensures.read));
       is_kept = g.met.N.Nodes.stays_kept mid new block c.put_entry.ensures.works.came c.in_ok-block.ensures.kept;
       rewritten = rewritten_before (g.N.Nodes.node old) (g.N.Nodes.node mid) (g.N.Nodes.node new) (g.N.Nodes.kept old) (g.N.Nodes.kept mid) (g.N.Nodes.kept new) keeps (λ b free. g.met.N.Nodes.was_fresh old mid b c.write.ensures.works.came free) c.args.path.now c.args.root c.in_ok-to.to (Some (Dir block)) c.requires.held c.in_ok-to.ensures.rewritten;
     }

@@ -7,5 +7,5 @@ pub loop-case-init : goal.loop-case-init
 loop-case-init g c = (
   subst (λ (fails : List Case). Checks c.args.area (g.B.Bench.driver c.args.bench.now) [] fails (g.B.Bench.driver c.args.bench.now))
       (sym c.requires.new) (none (g.B.Bench.driver c.args.bench.now)),
-  record { area = refl; operations = omega arith },
+  record { area = refl; moments = refl; operations = omega arith },
 )

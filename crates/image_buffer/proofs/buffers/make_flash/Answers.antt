@@ -1,6 +1,6 @@
 use Rattle.std.proofs.Common.{◌<◌, inl, inr, sym, subst}
 use Rattle.fs_types.specs.declared.limits.TheConstants.{MIN_VERSIONS, MAX_VERSIONS}
-use Rattle.shell.specs.Memory.{IsNewFlash, IsFormatOf}
+use Rattle.script_runs.specs.Flashes.{IsNewFlash, IsFormatOf}
 use Rattle.image_buffer.specs.Buffers.{MakeRefusal}
 use Rattle.image_buffer.proofs.Refusing.{lawful_limit, format_refused}
 use Rattle.image_buffer.proofs.buffers.make_flash.Goals as goal

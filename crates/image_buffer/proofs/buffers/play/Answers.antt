@@ -1,5 +1,5 @@
 use Rattle.std.proofs.Common.{List, ℕ, Some, Ok, Err, sym, subst}
-use Rattle.shell.specs.Scripts.{EndsOnSimFlash}
+use Rattle.script_runs.specs.Scripts.{EndsOnSimFlash}
 use Rattle.image_buffer.specs.Buffers.{PlayRefusal}
 use Rattle.image_buffer.proofs.Refusing.{broken_off}
 use Rattle.image_buffer.proofs.buffers.play.Goals as goal

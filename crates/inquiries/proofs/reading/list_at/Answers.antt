@@ -9,6 +9,7 @@ returns-clause-same g c = record {
   machine = same_machine _ _ c.args.fs.now.system c.list.new.self.system (Call.List c.args.view.now c.args.path.now) _ (list_reads c.args.view.now c.args.path.now) c.list.ensures.step;
   pages = c.list.ensures.pages;
   failed_reads = more_failed _ _ c.args.fs.now.system c.list.new.self.system (Call.List c.args.view.now c.args.path.now) _ (list_reads c.args.view.now c.args.path.now) c.list.ensures.step;
+  same_flash = c.list.ensures.same_flash;
 }
 
 pub returns-clause-ok : goal.returns-clause-ok

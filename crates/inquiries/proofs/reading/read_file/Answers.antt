@@ -8,6 +8,7 @@ returns-clause-same g c = record {
   machine = same_machine _ _ c.args.fs.now.system c.read_at.new.self.system (Call.ReadAt c.args.view.now c.args.path.now 0 16777216) _ (file_reads c.args.view.now c.args.path.now 0 16777216) c.read_at.ensures.step;
   pages = c.read_at.ensures.pages;
   failed_reads = more_failed _ _ c.args.fs.now.system c.read_at.new.self.system (Call.ReadAt c.args.view.now c.args.path.now 0 16777216) _ (file_reads c.args.view.now c.args.path.now 0 16777216) c.read_at.ensures.step;
+  same_flash = c.read_at.ensures.same_flash;
 }
 
 pub returns-clause-accepted : goal.returns-clause-accepted

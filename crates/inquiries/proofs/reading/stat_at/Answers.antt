@@ -9,6 +9,7 @@ returns-clause-same g c = record {
   machine = same_machine _ _ c.args.fs.now.system c.stat.new.self.system (Call.Stat c.args.view.now c.args.path.now) _ (stat_reads c.args.view.now c.args.path.now) c.stat.ensures.step;
   pages = c.stat.ensures.pages;
   failed_reads = more_failed _ _ c.args.fs.now.system c.stat.new.self.system (Call.Stat c.args.view.now c.args.path.now) _ (stat_reads c.args.view.now c.args.path.now) c.stat.ensures.step;
+  same_flash = c.stat.ensures.same_flash;
 }
 
 pub returns-clause-accepted : goal.returns-clause-accepted

@@ -1,4 +1,7 @@
+use Rattle.std.proofs.Common.{inl, inr}
+use Rattle.std.proofs.lemmas.Bool.{cases_Bool}
 use Rattle.std.proofs.lemmas.Result.{err_from_is_err_and}
+use Rattle.std.specs.FinSet as set
 use Rattle.mounting.proofs.Formatting.{only_bad_anchors, begun_ready, root_cause, all_causes, all_formatted, sizes_stay, lists_failed, numbered, all_asked, asked_clear, asked_root, asked_record}
 use Rattle.mounting.proofs.formats.format_lawful.Goals as goal
 
@@ -22,6 +25,7 @@ pub returns-clause-ok : goal.returns-clause-ok
 returns-clause-ok g c =
     all_formatted (g.F.Flash.device c.clear_anchors.new.flash) c.in_ok-bad.bad c.args.limit (g.F.Flash.device c.write_first_root.new.flash) c.in_ok-state.state c.in_ok-state.ensures.begun
     (g.F.Flash.device c.commit_first.new.flash) c.commit_first.new.state.storage.bad c.commit_first.ensures.only_anchors _ c.commit_first.result c.commit_first.ensures.committed c.commit_first.ensures.writable
+    c.commit_first.ensures.placed
 
 pub returns-clause-why : goal.returns-clause-why
 returns-clause-why g c =
@@ -61,3 +65,9 @@ returns-clause-asks_at_most g c =
     asked_record (g.F.Flash.device c.args.flash.now) (g.F.Flash.device c.clear_anchors.new.flash) c.in_ok-bad.bad c.args.limit (g.F.Flash.device c.write_first_root.new.flash) c.in_ok-state.state
     (g.F.Flash.device c.commit_first.new.flash) c.commit_first.new.state.storage.bad c.clear_anchors.ensures.asks c.write_first_root.ensures.asks c.in_ok-bad.ensures.cleared.only_anchors c.in_ok-state.ensures.begun
     c.commit_first.ensures.only_anchors c.commit_first.ensures.operations
+
+pub commit_first-requires-clause-listed : goal.commit_first-requires-clause-listed
+commit_first-requires-clause-listed g c = λ b has. elim (cases_Bool (set.contains c.in_ok-bad.bad b)) [
+  | inl was ↦ inl (only_bad_anchors (g.F.Flash.device c.args.flash.now) (g.F.Flash.device c.clear_anchors.new.flash) c.in_ok-bad.bad c.in_ok-bad.ensures.cleared.only_anchors b was)
+  | inr not_was ↦ inr (c.in_ok-state.ensures.begun.evolved.bad_used b has not_was)
+]

@@ -10,7 +10,7 @@ returns-clause-spelled c =
       slots = c.in_ok-push_slots.ensures.slots;
       size = c.in_ok-push_slots.ensures.size;
     } in
-    let has = subst (λ (old : List ℕ). HasSlots old c.args.index c.args.pointers.now 16 c.push_slots.new.out.items) c.in_ok-out.ensures placed in
+    let has = subst (λ (old : List ℕ). HasSlots old c.args.index c.args.pointers.now 16 c.push_slots.new.out.items) c.in_ok-out.ensures.spelled placed in
     subst (λ (node : List ℕ). IsBodySpelling node c.args.index c.args.pointers.now c.args.bytes.now) (sym c.in_ok-extend_from_slice.ensures.items)
     (spelled c.args.index c.args.pointers.now c.args.bytes.now c.push_slots.new.out.items (omega arith) c.requires.some c.requires.capacity has)
 

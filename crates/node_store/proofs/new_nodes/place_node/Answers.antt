@@ -5,7 +5,7 @@ use Rattle.std.proofs.lemmas.Result.{err_from_is_err_and}
 use Rattle.flash_model.specs.declared.geometry.Geometry.{Geometry}
 use Rattle.flash_model.specs.Geometry.{IsGeometry, block_bytes}
 use Rattle.node_format.specs.Headers.{IsNode}
-use Rattle.node_store.proofs.Attempts.{refused_adds, added_on, Pays_on, Spends_on}
+use Rattle.node_store.proofs.Attempts.{refused_adds, added_on, no_limit, Pays_on, Spends_on}
 use Rattle.node_store.specs.Fitting.{ListsNone, IsListedFirst}
 use Rattle.node_store.specs.FittingLaws.{still_on}
 use Rattle.node_store.specs.Storage.{IsAttempt}
@@ -45,15 +45,20 @@ returns-in-Some g c =
     let attempt : IsAttempt before c.args.node.items after (Ok (Some c.in-Some.block)) =
     subst (λ bytes. IsAttempt before bytes after (Ok (Some c.in-Some.block))) c.attempts.invariant.same (rw c.in-Some.is at c.in_ok-block.ensures.attempt) in
     record {
-      adds = added_on first before after c.args.node.items c.in-Some.block c.attempts.invariant.evolved attempt.tries;
-      evolved = Evolved_on _ _ _ c.attempts.invariant.evolved attempt.evolved;
-      pays = Pays_on first before after 1 c.attempts.invariant.pays attempt.pays;
-      next = Passes_next _ before after c.in-Some.block attempt.evolved c.attempts.invariant.passes attempt.next;
-      operations = Spends_on first before after c.args.node.items c.attempts.invariant.evolved c.attempts.invariant.operations attempt.operations;
-      fits = still_on _ _ _ _ _ _ c.attempts.invariant.fits c.write_next.ensures.fits;
-      lists =
-          subst (λ bytes. IsListedFirst c.write_next.new.storage c.in-Some.block bytes) c.attempts.invariant.same
-          (c.in_ok-block.ensures.listed c.in-Some.block (ap Ok c.in-Some.is));
+      writes = record {
+        adds = added_on first before after c.args.node.items c.in-Some.block c.attempts.invariant.evolved attempt.tries;
+        evolved = Evolved_on _ _ _ c.attempts.invariant.evolved attempt.evolved;
+        pays = Pays_on first before after 1 c.attempts.invariant.pays attempt.pays;
+        next = Passes_next _ before after c.in-Some.block attempt.evolved c.attempts.invariant.passes attempt.next;
+        operations = Spends_on first before after c.args.node.items c.attempts.invariant.evolved c.attempts.invariant.operations attempt.operations;
+        at_limit = no_limit _ c.requires.room;
+      };
+      lists = record {
+        fits = still_on _ _ _ _ _ _ c.attempts.invariant.fits c.write_next.ensures.fits;
+        lists =
+            subst (λ bytes. IsListedFirst c.write_next.new.storage c.in-Some.block bytes) c.attempts.invariant.same
+            (c.in_ok-block.ensures.listed c.in-Some.block (ap Ok c.in-Some.is));
+      };
     }
 
 -- the attempt was refused
@@ -66,31 +71,34 @@ returns-in_err-block g c =
     let attempt : IsAttempt before c.args.node.items after (Err c.in_err-block.field-0.0) =
     subst (λ bytes. IsAttempt before bytes after (Err c.in_err-block.field-0.0)) c.attempts.invariant.same c.in_err-block.ensures.attempt in
     record {
-      adds = rw (p.1, p.2) (refused_adds first before after c.args.node.items c.in_err-block.field-0.0 c.attempts.invariant.room attempt.tries);
-      evolved = Evolved_on _ _ _ c.attempts.invariant.evolved attempt.evolved;
-      pays = rw (p.1, p.2) (Pays_on first before after _ c.attempts.invariant.pays attempt.pays);
-      next = rw p.1 tt;
-      operations = Spends_on first before after c.args.node.items c.attempts.invariant.evolved c.attempts.invariant.operations attempt.operations;
-      fits = still_on _ _ _ _ _ _ c.attempts.invariant.fits c.write_next.ensures.fits;
-      lists = rw p.1 (λ b fresh used. elim (cases_Bool (set.contains c.attempts.storage.ring.used b)) [
-        | inl was ↦ c.write_next.ensures.apart b was (c.attempts.invariant.unlisted b fresh was)
-        | inr was_not ↦ c.in_err-block.ensures.unlisted b was_not used
-      ]);
+      writes = record {
+        adds = rw (p.1, p.2) (refused_adds first before after c.args.node.items c.in_err-block.field-0.0 c.attempts.invariant.room attempt.tries);
+        evolved = Evolved_on _ _ _ c.attempts.invariant.evolved attempt.evolved;
+        pays = rw (p.1, p.2) (Pays_on first before after _ c.attempts.invariant.pays attempt.pays);
+        next = rw p.1 tt;
+        operations = Spends_on first before after c.args.node.items c.attempts.invariant.evolved c.attempts.invariant.operations attempt.operations;
+        at_limit = no_limit _ c.requires.room;
+      };
+      lists = record {
+        fits = still_on _ _ _ _ _ _ c.attempts.invariant.fits c.write_next.ensures.fits;
+        lists = rw p.1 (λ b fresh used. elim (cases_Bool (set.contains c.attempts.storage.ring.used b)) [
+          | inl was ↦ c.write_next.ensures.apart b was (c.attempts.invariant.unlisted b fresh was)
+          | inr was_not ↦ c.in_err-block.ensures.unlisted b was_not used
+        ]);
+      };
     }
 
-pub write_next-requires-clause-lawful : goal.write_next-requires-clause-lawful
-write_next-requires-clause-lawful g c = subst IsGeometry (sym c.attempts.invariant.evolved.geometry) c.requires.lawful
-
-pub write_next-requires-clause-ring_blocks : goal.write_next-requires-clause-ring_blocks
-write_next-requires-clause-ring_blocks g c = c.attempts.invariant.evolved.blocks ∙ c.requires.ring_blocks ∙ ap (λ (h : Geometry). h.blocks) (sym c.attempts.invariant.evolved.geometry)
-
-pub write_next-requires-clause-fits : goal.write_next-requires-clause-fits
-write_next-requires-clause-fits g c = c.attempts.invariant.fits.fits c.requires.fits
-
-pub write_next-requires-clause-node : goal.write_next-requires-clause-node
-write_next-requires-clause-node g c =
-    subst (λ (h : Geometry). IsNode (block_bytes h) c.attempts.node.items) (sym c.attempts.invariant.evolved.geometry)
-    (subst (IsNode (block_bytes (g.F.Flash.device c.args.flash.now).geometry)) (sym c.attempts.invariant.same) c.requires.node)
+pub write_next-requires-clause-writable : goal.write_next-requires-clause-writable
+write_next-requires-clause-writable g c =
+    let may = c.requires.writable in
+    let same = c.attempts.invariant.evolved.geometry in
+    record {
+      lawful = subst IsGeometry (sym same) may.lawful;
+      ring_blocks = c.attempts.invariant.evolved.blocks ∙ may.ring_blocks ∙ ap (λ (h : Geometry). h.blocks) (sym same);
+      fits = c.attempts.invariant.fits.fits may.fits;
+      node = subst (λ (h : Geometry). IsNode (block_bytes h) c.attempts.node.items) (sym same)
+          (subst (IsNode (block_bytes (g.F.Flash.device c.args.flash.now).geometry)) (sym c.attempts.invariant.same) may.node);
+    }
 
 pub write_next-requires-clause-room : goal.write_next-requires-clause-room
 write_next-requires-clause-room g c = c.attempts.invariant.room

@@ -1,7 +1,7 @@
-use Rattle.std.proofs.Common.{◌≡◌, ℕ, ◌+◌, ◌*◌, ◌<◌, ◌≤◌, Err, length, refl, sym, subst, arith}
+use Rattle.std.proofs.Common.{◌≡◌, ℕ, ◌+◌, ◌*◌, ◌<◌, ◌≤◌, Err, length, refl, ap, sym, subst, arith}
 use Rattle.std.proofs.lemmas.Result.{err_from_is_err_and}
 use Rattle.flash_model.specs.declared.flash.DevFault.TheVariants.{Failed}
-use Rattle.allocator.specs.Ring.{free_count}
+use Rattle.allocator.specs.Ring.{Ring, free_count}
 use Rattle.node_store.specs.NodePages.{pages_for}
 use Rattle.node_store.specs.Writing.{WritesBlock}
 use Rattle.node_store.specs.Storage.{storage, Evolved, PassesBad, Pays}
@@ -56,9 +56,9 @@ returns-in-Ok-clause-attempt g c = record {
       took_good (storage (g.F.Flash.device c.args.flash.now) c.args.bad.now c.args.ring.now) c.args.block c.take_block.new.ring
       c.args.bytes.now (g.F.Flash.device c.write_block.new.flash) _ c.requires.node c.take_block.ensures c.in-Ok.ensures.writes refl;
   pays = pays_good (storage (g.F.Flash.device c.args.flash.now) c.args.bad.now c.args.ring.now) c.args.block c.take_block.new.ring (g.F.Flash.device c.write_block.new.flash) c.take_block.ensures;
-  next = record { next = c.take_block.ensures.next; last = c.take_block.ensures.last };
+  next = record { next = c.take_block.ensures.next; last = ap (λ (r : Ring). r.last) c.take_block.ensures.ring };
   operations =
-      spends_once (g.F.Flash.device c.args.flash.now).operations (g.F.Flash.device c.write_block.new.flash).operations c.args.ring.now.takes c.take_block.new.ring.takes (1 + pages_for (g.F.Flash.device c.args.flash.now).geometry.page (length c.args.bytes.now)) c.take_block.ensures.takes c.write_block.ensures.operations;
+      spends_once (g.F.Flash.device c.args.flash.now).operations (g.F.Flash.device c.write_block.new.flash).operations c.args.ring.now.takes c.take_block.new.ring.takes (1 + pages_for (g.F.Flash.device c.args.flash.now).geometry.page (length c.args.bytes.now)) (ap (λ (r : Ring). r.takes) c.take_block.ensures.ring) c.write_block.ensures.operations;
 }
 
 pub returns-in-Err-PowerCut-clause-attempt : goal.returns-in-Err-PowerCut-clause-attempt
@@ -71,7 +71,7 @@ returns-in-Err-PowerCut-clause-attempt g c = record {
   pays = pays_good (storage (g.F.Flash.device c.args.flash.now) c.args.bad.now c.args.ring.now) c.args.block c.take_block.new.ring (g.F.Flash.device c.write_block.new.flash) c.take_block.ensures;
   next = tt;
   operations =
-      spends_once (g.F.Flash.device c.args.flash.now).operations (g.F.Flash.device c.write_block.new.flash).operations c.args.ring.now.takes c.take_block.new.ring.takes (1 + pages_for (g.F.Flash.device c.args.flash.now).geometry.page (length c.args.bytes.now)) c.take_block.ensures.takes c.write_block.ensures.operations;
+      spends_once (g.F.Flash.device c.args.flash.now).operations (g.F.Flash.device c.write_block.new.flash).operations c.args.ring.now.takes c.take_block.new.ring.takes (1 + pages_for (g.F.Flash.device c.args.flash.now).geometry.page (length c.args.bytes.now)) (ap (λ (r : Ring). r.takes) c.take_block.ensures.ring) c.write_block.ensures.operations;
 }
 
 pub returns-in_err-list_block-in-Err-Failed-clause-attempt : goal.returns-in_err-list_block-in-Err-Failed-clause-attempt
@@ -88,7 +88,7 @@ returns-in_err-list_block-in-Err-Failed-clause-attempt g c = record {
       (pays g (goal.at.returns-in_err-list_block-in-Err-Failed-clause-attempt g c).After-list_block);
   next = rw (err_from_is_err_and c.from_residual.result c.from_residual.ensures.1).1 tt;
   operations =
-      spends_once (g.F.Flash.device c.args.flash.now).operations (g.F.Flash.device c.write_block.new.flash).operations c.args.ring.now.takes c.take_block.new.ring.takes (1 + pages_for (g.F.Flash.device c.args.flash.now).geometry.page (length c.args.bytes.now)) c.take_block.ensures.takes c.write_block.ensures.operations;
+      spends_once (g.F.Flash.device c.args.flash.now).operations (g.F.Flash.device c.write_block.new.flash).operations c.args.ring.now.takes c.take_block.new.ring.takes (1 + pages_for (g.F.Flash.device c.args.flash.now).geometry.page (length c.args.bytes.now)) (ap (λ (r : Ring). r.takes) c.take_block.ensures.ring) c.write_block.ensures.operations;
 }
 
 pub returns-in_ok-list_block-in-Err-Failed-clause-attempt : goal.returns-in_ok-list_block-in-Err-Failed-clause-attempt
@@ -102,14 +102,14 @@ returns-in_ok-list_block-in-Err-Failed-clause-attempt g c = record {
   next =
       passes g (goal.at.returns-in_ok-list_block-in-Err-Failed-clause-attempt g c).After-list_block;
   operations =
-      spends_once (g.F.Flash.device c.args.flash.now).operations (g.F.Flash.device c.write_block.new.flash).operations c.args.ring.now.takes c.take_block.new.ring.takes (1 + pages_for (g.F.Flash.device c.args.flash.now).geometry.page (length c.args.bytes.now)) c.take_block.ensures.takes c.write_block.ensures.operations;
+      spends_once (g.F.Flash.device c.args.flash.now).operations (g.F.Flash.device c.write_block.new.flash).operations c.args.ring.now.takes c.take_block.new.ring.takes (1 + pages_for (g.F.Flash.device c.args.flash.now).geometry.page (length c.args.bytes.now)) (ap (λ (r : Ring). r.takes) c.take_block.ensures.ring) c.write_block.ensures.operations;
 }
 
 pub returns-in-Ok-clause-page : goal.returns-in-Ok-clause-page
 returns-in-Ok-clause-page g c = c.write_block.ensures.page
 
 pub returns-in-Ok-clause-taken : goal.returns-in-Ok-clause-taken
-returns-in-Ok-clause-taken g c = c.take_block.ensures.only
+returns-in-Ok-clause-taken g c = ap (λ (r : Ring). r.used) c.take_block.ensures.ring
 
 pub returns-in-Ok-clause-fresh : goal.returns-in-Ok-clause-fresh
 returns-in-Ok-clause-fresh g c = c.take_block.ensures.fresh
@@ -121,7 +121,7 @@ pub returns-in-Err-PowerCut-clause-page : goal.returns-in-Err-PowerCut-clause-pa
 returns-in-Err-PowerCut-clause-page g c = c.write_block.ensures.page
 
 pub returns-in-Err-PowerCut-clause-taken : goal.returns-in-Err-PowerCut-clause-taken
-returns-in-Err-PowerCut-clause-taken g c = c.take_block.ensures.only
+returns-in-Err-PowerCut-clause-taken g c = ap (λ (r : Ring). r.used) c.take_block.ensures.ring
 
 pub returns-in-Err-PowerCut-clause-fresh : goal.returns-in-Err-PowerCut-clause-fresh
 returns-in-Err-PowerCut-clause-fresh g c = c.take_block.ensures.fresh
@@ -133,7 +133,7 @@ pub returns-in_err-list_block-in-Err-Failed-clause-page : goal.returns-in_err-li
 returns-in_err-list_block-in-Err-Failed-clause-page g c = c.write_block.ensures.page
 
 pub returns-in_err-list_block-in-Err-Failed-clause-taken : goal.returns-in_err-list_block-in-Err-Failed-clause-taken
-returns-in_err-list_block-in-Err-Failed-clause-taken g c = c.take_block.ensures.only
+returns-in_err-list_block-in-Err-Failed-clause-taken g c = ap (λ (r : Ring). r.used) c.take_block.ensures.ring
 
 pub returns-in_err-list_block-in-Err-Failed-clause-fresh : goal.returns-in_err-list_block-in-Err-Failed-clause-fresh
 returns-in_err-list_block-in-Err-Failed-clause-fresh g c = c.take_block.ensures.fresh
@@ -145,7 +145,7 @@ pub returns-in_ok-list_block-in-Err-Failed-clause-page : goal.returns-in_ok-list
 returns-in_ok-list_block-in-Err-Failed-clause-page g c = c.write_block.ensures.page
 
 pub returns-in_ok-list_block-in-Err-Failed-clause-taken : goal.returns-in_ok-list_block-in-Err-Failed-clause-taken
-returns-in_ok-list_block-in-Err-Failed-clause-taken g c = c.take_block.ensures.only
+returns-in_ok-list_block-in-Err-Failed-clause-taken g c = ap (λ (r : Ring). r.used) c.take_block.ensures.ring
 
 pub returns-in_ok-list_block-in-Err-Failed-clause-fresh : goal.returns-in_ok-list_block-in-Err-Failed-clause-fresh
 returns-in_ok-list_block-in-Err-Failed-clause-fresh g c = c.take_block.ensures.fresh

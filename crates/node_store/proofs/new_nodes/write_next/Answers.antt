@@ -29,7 +29,7 @@ module _ (g : Over) (c : After-first g) where
 
 pub try_block-tried-requires-clause-node : goal.try_block-tried-requires-clause-node
 try_block-tried-requires-clause-node g c =
-    subst (IsNode (block_bytes (g.F.Flash.device c.args.flash.now).geometry)) (sym (lent g (goal.at.try_block-tried-requires-clause-node g c).After-first)) c.requires.node
+    subst (IsNode (block_bytes (g.F.Flash.device c.args.flash.now).geometry)) (sym (lent g (goal.at.try_block-tried-requires-clause-node g c).After-first)) c.requires.writable.node
 
 pub returns-in-Ok-Some-clause-attempt : goal.returns-in-Ok-Some-clause-attempt
 returns-in-Ok-Some-clause-attempt g c =
@@ -57,7 +57,7 @@ returns-in-Ok-Some-clause-fits g c =
     (storage new c.try_block-tried.new.bad c.try_block-tried.new.ring)) was c.try_block-tried.ensures.attempt in
     still_fits _ _ _ _ attempt.evolved.geometry c.try_block-tried.ensures.page (ap (λ (k : NodeCache). k.room) listed)
     (λ fits. subst (IsTruthful new) (sym listed)
-    (written_truthful (g.F.Flash.device c.args.flash.now) new c.args.storage.now.cache c.in_ok-block.block c.args.node.now.items c.requires.lawful attempt.evolved.geometry
+    (written_truthful (g.F.Flash.device c.args.flash.now) new c.args.storage.now.cache c.in_ok-block.block c.args.node.now.items c.requires.writable.lawful attempt.evolved.geometry
     c.try_block-tried.ensures.others c.list.ensures.bounded (ap (node_of new) (sym here) ∙ attempt.tries.node ∙ ap Some (lent g t)) fits.truthful))
 
 pub returns-in-Ok-Some-clause-listed : goal.returns-in-Ok-Some-clause-listed
@@ -100,7 +100,7 @@ returns-clause-fits g c =
     let evolved = c.try_block-tried.ensures.attempt.evolved in
     still_fits _ _ _ _ evolved.geometry c.try_block-tried.ensures.page (ap (λ (k : NodeCache). k.room) gone)
     (λ fits. subst (IsTruthful (g.F.Flash.device c.try_block-tried.new.flash)) (sym gone)
-    (tried_truthful (g.F.Flash.device c.args.flash.now) (g.F.Flash.device c.try_block-tried.new.flash) c.args.storage.now.cache c.in_ok-block.block c.args.node.now.items c.requires.lawful evolved.geometry
+    (tried_truthful (g.F.Flash.device c.args.flash.now) (g.F.Flash.device c.try_block-tried.new.flash) c.args.storage.now.cache c.in_ok-block.block c.args.node.now.items c.requires.writable.lawful evolved.geometry
     c.try_block-tried.ensures.others c.list.ensures.bounded fits.truthful))
 
 pub returns-clause-unlisted : goal.returns-clause-unlisted

@@ -8,4 +8,4 @@ pub returns-in-Ok-ask-clause-ok : goal.returns-in-Ok-ask-clause-ok
 returns-in-Ok-ask-clause-ok g c = (c.in-Ok.flash, c.in-Ok.ensures.ok, c.in-Ok-ask.ensures.ok)
 
 pub returns-clause-err : goal.returns-clause-err
-returns-clause-err g c = inr (c.in-Ok.flash, c.in-Err-ask.fault, c.in-Ok.ensures.ok, c.in-Err-ask.ensures.err, c.of_ask.ensures)
+returns-clause-err g c = inr (c.in-Ok.flash, c.ask.new.flash, c.in-Err-ask.fault, c.in-Ok.ensures.ok, c.in-Err-ask.ensures.err, c.of_ask.ensures)

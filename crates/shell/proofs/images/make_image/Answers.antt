@@ -1,6 +1,6 @@
 use Rattle.std.proofs.Common.{◌<◌, inl, inr, refl, sym, subst}
 use Rattle.fs_types.specs.declared.limits.TheConstants.{MIN_VERSIONS, MAX_VERSIONS}
-use Rattle.shell.specs.Memory.{IsNewFlash, IsFormatOf}
+use Rattle.script_runs.specs.Flashes.{IsNewFlash, IsFormatOf}
 use Rattle.shell.specs.Tools.{FormatFailure}
 use Rattle.shell.proofs.ImageLemmas.{lawful_limit, format_saved, format_refused}
 use Rattle.shell.proofs.images.make_image.Goals as goal

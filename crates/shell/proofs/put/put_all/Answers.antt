@@ -1,6 +1,6 @@
 use Rattle.std.proofs.Common.{map}
 use Rattle.shell.specs.Served.{place}
-use Rattle.shell.specs.Sources.{source_found}
+use Rattle.host_files.specs.Sources.{source_found}
 use Rattle.shell.proofs.PutLemmas.{unbegun, broken_within, group_ends, group_unended}
 use Rattle.shell.proofs.put.put_all.Goals as goal
 

@@ -3,7 +3,7 @@ use Rattle.std.specs.Prelude.{IfSome}
 use Rattle.flash_model.specs.Simulation.{device_of}
 use Rattle.system.specs.Systems.{IsSystem}
 use Rattle.shell.specs.Served.{place}
-use Rattle.shell.specs.Sources.{source_found}
+use Rattle.host_files.specs.Sources.{source_found}
 use Rattle.shell.proofs.PutLemmas.{HasPut}
 use Rattle.shell.proofs.put.put_each.Given as goal
 

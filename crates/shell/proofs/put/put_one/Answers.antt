@@ -1,6 +1,6 @@
 use Rattle.std.proofs.Common.{inl}
 use Rattle.shell.specs.Served.{place}
-use Rattle.shell.specs.Sources.{source_found}
+use Rattle.host_files.specs.Sources.{source_found}
 use Rattle.shell.proofs.PutLemmas.{one_put, one_stopped}
 use Rattle.shell.proofs.put.put_one.Goals as goal
 

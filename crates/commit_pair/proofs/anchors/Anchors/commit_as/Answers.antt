@@ -10,14 +10,14 @@ commit_from-requires-clause-blank g c =
     let geometry = c.args.saved.now.geometry in
     let suits = c.requires.suits in
     record {
-      below = begins_below d geometry c.args.bad.now c.args.self.now c.start-home.result.0 c.start-home.result.1 suits.same suits.lawful c.requires.ready c.start-home.ensures;
-      within = begins_within d geometry c.args.bad.now c.args.self.now c.start-home.result.0 c.start-home.result.1 suits.same suits.lawful c.requires.ready c.start-home.ensures;
-      blank = begins_blank d geometry c.args.bad.now c.args.self.now c.start-home.result.0 c.start-home.result.1 suits.same suits.lawful c.requires.ready c.start-home.ensures;
+      below = begins_below d geometry c.args.bad.now c.args.self.now c.start-home.result.0 c.start-home.result.1 suits.same suits.lawful c.requires.ready c.start-home.ensures.begins;
+      within = begins_within d geometry c.args.bad.now c.args.self.now c.start-home.result.0 c.start-home.result.1 suits.same suits.lawful c.requires.ready c.start-home.ensures.begins;
+      blank = begins_blank d geometry c.args.bad.now c.args.self.now c.start-home.result.0 c.start-home.result.1 suits.same suits.lawful c.requires.ready c.start-home.ensures.begins;
     }
 
 pub commit_from-requires-clause-spares : goal.commit_from-requires-clause-spares
 commit_from-requires-clause-spares g c =
-    begins_spares (g.F.Flash.device c.args.flash.now) c.args.saved.now.geometry c.args.bad.now c.args.self.now c.start-home.result.0 c.start-home.result.1 c.requires.suits.same c.requires.suits.lawful c.requires.ready c.start-home.ensures
+    begins_spares (g.F.Flash.device c.args.flash.now) c.args.saved.now.geometry c.args.bad.now c.args.self.now c.start-home.result.0 c.start-home.result.1 c.requires.suits.same c.requires.suits.lawful c.requires.ready c.start-home.ensures.begins
 
 pub returns-in_err-found-clause-ready : goal.returns-in_err-found-clause-ready
 returns-in_err-found-clause-ready g c = λ on.

@@ -1,19 +1,16 @@
 use Rattle.std.proofs.Common.{◌%◌, ap, ◌∙◌, subst}
 use Rattle.flash_model.specs.declared.sim_flash.SimFlash.{SimFlash}
 use Rattle.flash_model.specs.Device.{Device}
-use Rattle.flash_model.specs.Stored.{page_at, erased_to}
-use Rattle.flash_model.proofs.Ending.{ErasesPages, begins, erase_done}
+use Rattle.flash_model.specs.Stored.{page_at, erased_to, ErasesPages}
+use Rattle.flash_model.proofs.Ending.{begins, erase_done}
 use Rattle.flash_model.proofs.sim_flash.SimFlashFlash.erase.Goals as goal
-
-pub invariant_of-self-clause-room : goal.invariant_of-self-clause-room
-invariant_of-self-clause-room c = c.erase_block.ensures.room _ c.begin.new.self.room
 
 -- the pages of the block, by what befalls the erase
 pages : (c : goal.After-end)
-    → ErasesPages (page_at c.args.self.now.pages.items) c.args.self.now.geometry.pages c.args.block c.in_ok-due.due (page_at c.erase_block.new.pages.items)
+    → ErasesPages (page_at c.args.self.now.pages) c.args.self.now.geometry.pages c.args.block c.in_ok-due.due (page_at c.erase_block.new.self)
 pages c =
-    subst (λ (f : SimFlash). ErasesPages (page_at f.pages.items) f.geometry.pages c.args.block c.in_ok-due.due (page_at c.erase_block.new.pages.items))
-    c.in_ok-due.ensures.begun (record { others = c.erase_block.ensures.others; own = c.erase_block.ensures.own })
+    subst (λ (f : SimFlash). ErasesPages (page_at f.pages) f.geometry.pages c.args.block c.in_ok-due.due (page_at c.erase_block.new.self))
+    c.in_ok-due.ensures.begun c.erase_block.ensures.pages
 
 pub returns-clause-erases : goal.returns-clause-erases
 returns-clause-erases c =
@@ -23,4 +20,4 @@ returns-clause-erases c =
 pub returns-clause-pages : goal.returns-clause-pages
 returns-clause-pages c =
     λ p _ here. ap (λ (d : Device). d.pages p) c.end.ensures.ends.rest ∙ (pages c).own p here
-    ∙ ap (λ due. erased_to due (p % c.args.self.now.geometry.pages) (page_at c.args.self.now.pages.items p)) c.in_ok-due.ensures.ok
+    ∙ ap (λ due. erased_to due (p % c.args.self.now.geometry.pages) (page_at c.args.self.now.pages p)) c.in_ok-due.ensures.ok

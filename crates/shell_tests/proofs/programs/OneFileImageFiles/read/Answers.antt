@@ -1,7 +1,7 @@
 use Rattle.std.proofs.Common.{◌∙◌, ap, sym, inr, take, min, codes}
 use Rattle.std.proofs.lemmas.List.{take_min}
 use Rattle.std.specs.Str.{bytes_eq}
-use Rattle.shell.specs.declared.image_files.TheConstants.{MOST_BYTES}
+use Rattle.host_files.specs.declared.image_files.TheConstants.{MOST_BYTES}
 use Rattle.shell_tests.proofs.Named.{front_of, unknown}
 use Rattle.shell_tests.proofs.programs.OneFileImageFiles.read.Goals as goal
 

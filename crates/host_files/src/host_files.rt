@@ -1,0 +1,156 @@
+//! The files of the host.
+ghost use Rattle.std.specs.Prelude.{◌≡◌, take, IfSome, IfOk};
+
+mod claims;
+mod gathering;
+mod identity;
+mod replaced;
+mod replacing;
+
+use crate::image_files::{FileFault, ImageFiles, MOST_BYTES};
+use crate::source::{Source, Sources};
+use claims::Claim;
+use gathering::gather;
+use identity::Identity;
+use replaced::Replaced;
+use replacing::replace_file;
+use std::alloc::{AllocError, Global};
+use std::fs::{File, Metadata, OpenFile};
+use std::io::{ErrorKind, Read};
+use std::rt::Files;
+use std::{fs, io};
+
+/// The files of the host, of whose bytes no contract speaks.
+///
+/// A name is claimed by a lock on the file that it leads to, through links: so two programs that claim
+/// one file are kept apart, and any other program is not. A file is replaced by a new one that is
+/// written beside it under its name with `.new` after it, has its mode, is brought to the disk and
+/// renamed; then the folder is brought to the disk. Where that fails, the new file is removed again. One
+/// that may not be written is not replaced.
+#[derive(Drop)]
+pub struct HostFiles<'a, R> {
+    rt: &'a R,
+    claim: Option<Claim>,
+}
+
+impl<'a, R: Files<File = File>> HostFiles<'a, R> {
+    /// The files that a runtime reaches. No name is claimed.
+    pub fn new(rt: &'a R) -> HostFiles<'a, R> {
+        HostFiles { rt, claim: None }
+    }
+}
+
+impl<R: Files<File = File>> ImageFiles for HostFiles<'_, R> {
+    fn claim(&mut self, alloc: Global, name: &str) -> Result<(), FileFault> {
+        self.claim = None;
+        match Claim::of(self.rt, alloc, name) {
+            Ok(claim) => {
+                self.claim = Some(claim);
+                Ok(())
+            }
+            Err(error) => Err(fault_of(&error)),
+        }
+    }
+
+    fn read(&self, alloc: Global, name: &str) -> Result<Vec<u8>, FileFault> {
+        read_file(self.rt, alloc, name).map_err(|error| fault_of(&error))
+    }
+
+    fn read_source(&self, alloc: Global, name: &str) -> Result<Vec<u8>, FileFault> {
+        read_unlinked(self.rt, alloc, name).map_err(|error| fault_of(&error))
+    }
+
+    fn takes_away(&self, alloc: Global, name: &str, other: &str) -> Result<bool, FileFault> {
+        match Replaced::of(self.rt, alloc, name) {
+            Ok(replaced) => Ok(is_among(self.rt, replaced, other)),
+            Err(error) => Err(fault_of(&error)),
+        }
+    }
+
+    fn replace(&mut self, alloc: Global, name: &str, bytes: &[u8]) -> Result<(), FileFault> {
+        let Some(claim) = self.claim.take() else {
+            return Err(FileFault::Failed);
+        };
+        if claim.name() != name {
+            return Err(FileFault::Failed);
+        }
+        match replace_file(self.rt, alloc, &claim, bytes) {
+            Ok(folder) => folder.sync_all().map_err(|_| FileFault::Unsynced),
+            Err(error) => Err(fault_of(&error)),
+        }
+    }
+}
+
+impl<R: Files<File = File> + AllocGlobal> Sources for HostFiles<'_, R> {
+    fn gather(&self, alloc: Global, name: &str, image: &str) -> Result<Vec<Source>, AllocError> {
+        let own = match Replaced::of(self.rt, alloc, image) {
+            Ok(replaced) => replaced,
+            Err(error) if error.kind() == ErrorKind::OutOfMemory => return Err(AllocError),
+            Err(_) => Replaced::none(),
+        };
+        gather(self.rt, alloc, name, own)
+    }
+}
+
+fn fault_of(error: &io::Error) -> FileFault {
+    match error.kind() {
+        ErrorKind::OutOfMemory => FileFault::Memory,
+        _ => FileFault::Failed,
+    }
+}
+
+/// Whether what a name leads to is among what is taken away.
+fn is_among<R: Files>(rt: &R, replaced: Replaced, name: &str) -> bool {
+    match fs::metadata(rt, name) {
+        Ok(found) => replaced.has(Identity::of(&found)),
+        Err(_) => false,
+    }
+}
+
+/// The bytes of the plain file that a name leads to. Any other is refused before it is opened.
+fn read_file<R: Files>(rt: &R, alloc: Global, name: &str) -> io::Result<Vec<u8>> {
+    refuse_special(&fs::metadata(rt, name)?)?;
+    read_opened(alloc, fs::open(rt, name)?)
+}
+
+/// The bytes of the plain file of a name that is no link. The host opens a link too, so what was opened
+/// has to be the file that was looked at before.
+fn read_unlinked<R: Files>(rt: &R, alloc: Global, name: &str) -> io::Result<Vec<u8>> {
+    let looked = fs::symlink_metadata(rt, name)?;
+    refuse_special(&looked)?;
+    let file = fs::open(rt, name)?;
+    if Identity::of(&file.metadata()?) != Identity::of(&looked) {
+        return Err(io::Error::from(ErrorKind::InvalidInput));
+    }
+    read_opened(alloc, file)
+}
+
+/// The bytes of a plain file that is open.
+fn read_opened<F: Read + OpenFile + Drop>(alloc: Global, file: F) -> io::Result<Vec<u8>> {
+    let opened = file.metadata()?;
+    refuse_special(&opened)?;
+    read_front(alloc, file, opened.len())
+}
+
+/// Refused where it is no plain file.
+fn refuse_special(found: &Metadata) -> io::Result<()> {
+    if found.is_file() {
+        return Ok(());
+    }
+    Err(io::Error::from(ErrorKind::InvalidInput))
+}
+
+/// The bytes of a reader, the first [`MOST_BYTES`] where it has more. The room is made at once for
+/// so many bytes as it is said to have, and one more.
+fn read_front<R: Read + Drop>(alloc: Global, reader: R, len: u64) -> io::Result<Vec<u8>>
+    ensures { IfOk result (λ bytes. IfSome (R.remaining reader) (λ all. bytes.items ≡ take MOST_BYTES all)) }
+{
+    let room = if len < MOST_BYTES {
+        len + 1
+    } else {
+        MOST_BYTES
+    };
+    let mut bytes = Vec::with_capacity(alloc, room as usize)?;
+    reader.take(MOST_BYTES).read_to_end(&mut bytes)?;
+    Ok(bytes)
+}

@@ -1,0 +1,70 @@
+//! The files of images.
+use std::alloc::Global;
+use thiserror::Error;
+
+/// So many bytes of a file are read at most: one more than the longest image has, which is that of
+/// a flash of 16,384 blocks of 16 pages of 256 bytes, all of them with data.
+pub const MOST_BYTES: u64 = 67_387_413;
+
+/// Why a file was not claimed, read or replaced.
+#[derive(Clone, Copy, Debug, PartialEq, Eq, Error)]
+pub enum FileFault {
+    /// The file failed, or is not to be had.
+    #[error("the file failed")]
+    Failed,
+    /// The file was replaced, and may be the old one again after the host lost its power.
+    #[error("the file was not brought to the disk")]
+    Unsynced,
+    /// Memory could not be had.
+    #[error("out of memory")]
+    Memory,
+}
+
+/// Files, by their names.
+pub trait ImageFiles {
+    ghost use Rattle.std.specs.Prelude.{◌≡◌, ◌⊎◌, None, List, ℕ, take, IfSome, IfOk, IfErr, OnOk};
+    ghost use Rattle.host_files.specs.Files.{Held, KeepsOthers, LeavesFile};
+    ghost use Rattle.host_files.specs.declared.image_files.FileFault.{FileFault};
+
+    // The bytes of the file of a name, where they are known.
+    ghost held: { Self → Held } = { λ _ _. None };
+
+    // The name is claimed.
+    ghost claims: { Self → List ℕ → Type 0 } = { λ _ _. Unit {0} };
+
+    // A read of the file of this name gives these bytes, as the files are now.
+    ghost reads: { Self → List ℕ → List ℕ → Type 0 } = { λ _ _ _. Unit {0} };
+
+    /// Claims a name: until it is replaced, another is claimed or the files are dropped, no other
+    /// program that claims it has its file, if there is one. A name that is claimed before is let
+    /// go of. Refused where the file is no plain file, or another program has it. No file changes.
+    fn claim(&mut self, alloc: Global, name: &str) -> Result<(), FileFault>
+        ensures ok { OnOk result (claims self.new name.now) }
+        ensures same { held self.new ≡ held self.old };
+
+    /// The bytes of a file, the first [`MOST_BYTES`] where it has more. Refused where it is no plain
+    /// file. Where it fails they are not known.
+    fn read(&self, alloc: Global, name: &str) -> Result<Vec<u8>, FileFault>
+        ensures ok { IfOk result (λ bytes. IfSome (held self.now name.now) (λ all. bytes.items ≡ take MOST_BYTES all)) }
+        ensures failed { IfErr result (λ fault. (fault ≡ FileFault.Memory) ⊎ (held self.now name.now ≡ None)) }
+        ensures now { IfOk result (λ bytes. reads self.now name.now bytes.items) };
+
+    /// The bytes of a file, as [`read`](ImageFiles::read) gives them. Refused where its name is a link too.
+    fn read_source(&self, alloc: Global, name: &str) -> Result<Vec<u8>, FileFault>
+        ensures ok { IfOk result (λ bytes. IfSome (held self.now name.now) (λ all. bytes.items ≡ take MOST_BYTES all)) }
+        ensures failed { IfErr result (λ fault. (fault ≡ FileFault.Memory) ⊎ (held self.now name.now ≡ None)) };
+
+    /// Whether to replace the file of a name takes the file of another name away, as the files tell: both
+    /// names lead to one file, or the other leads to what stands where the new file is made. No clause
+    /// says what it answers.
+    fn takes_away(&self, alloc: Global, name: &str, other: &str) -> Result<bool, FileFault>;
+
+    /// Puts a file of these bytes in the place of the one of this name, which is claimed, if there is
+    /// one. Where that fails the file of this name stays as it was; where it is `Unsynced` it is the
+    /// new one. Of the other files only the one under the name with `.new` after it may change.
+    fn replace(&mut self, alloc: Global, name: &str, bytes: &[u8]) -> Result<(), FileFault>
+        requires { claims self.old name.now }
+        ensures ok { OnOk result (IfSome (held self.new name.now) (λ all. all ≡ bytes.now)) }
+        ensures err { IfErr result (LeavesFile (held self.old name.now) (held self.new name.now) bytes.now) }
+        ensures others { KeepsOthers name.now (held self.old) (held self.new) };
+}

@@ -1,0 +1,28 @@
+use Rattle.std.proofs.Common.{rules, ◌≡◌, ◌⊎◌, Some, subst}
+use Rattle.fs_types.specs.declared.fault.Fault.{Fault}
+use Rattle.flash_model.specs.Device.{Device}
+use Rattle.flash_model.specs.Reading.{OnlyReads}
+use Rattle.working_state.specs.Seen.{machine_on}
+use Rattle.system.specs.Mounts.{IsMountOf}
+use Rattle.system.specs.declared.systems.System.{System}
+use Rattle.inquiries.specs.Asked.{RefusesInquiry}
+use Rattle.inquiries.specs.Inquiries.{inquiry_refusal}
+use Rattle.inquiries.specs.Readings.{Meets}
+use Rattle.inquiries.specs.declared.inquiry.Inquiry.{Inquiry}
+use Rattle.inquiries.proofs.asking.ask.Goals as goal
+
+-- what the work left of the device is what the flash is left as
+refused_on : (d was end left : Device) (inquiry : Inquiry) (system : System) (fault : Fault) → end ≡ left → IsMountOf d was system → OnlyReads d was
+    → (inquiry_refusal (machine_on was system.state) inquiry ≡ Some fault) ⊎ Meets was end fault → RefusesInquiry d inquiry left fault
+refused_on d was end left inquiry system fault same mounted reads why = record {
+  device = was;
+  system = system;
+  mounted = mounted;
+  reads = reads;
+  why = subst (λ (e : Device). (inquiry_refusal (machine_on was system.state) inquiry ≡ Some fault) ⊎ Meets was e fault) same why;
+}
+
+pub returns-in-Err-told-clause-err : goal.returns-in-Err-told-clause-err
+returns-in-Err-told-clause-err g c =
+    refused_on (g.F.Flash.device c.args.flash.now) (g.F.Flash.device c.in-Ok.fs.flash.now) (g.F.Flash.device c.tell-told.new.fs.flash.now) _ c.args.inquiry.now c.in-Ok.fs.system c.in-Err-told.fault
+    (search rules) c.in-Ok.ensures.mounted c.in-Ok.ensures.only_reads c.in-Err-told.ensures.err

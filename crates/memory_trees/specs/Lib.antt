@@ -1,0 +1,4 @@
+pub mod Nodes
+pub mod Paths
+pub mod Maps
+pub mod Codes

@@ -1,0 +1,11 @@
+-- A part in a flat file.
+use Rattle.flash_model.specs.declared.geometry.Geometry.{Geometry}
+use Rattle.part_file.specs.declared.part_file.PartFile.{PartFile}
+
+-- its sizes
+abbrev pub sizes_of : {B : Type 0} → PartFile B → Geometry
+sizes_of part = part.sizes
+
+-- the bytes behind it
+abbrev pub backing_of : {B : Type 0} → PartFile B → B
+backing_of part = part.backing

@@ -1,0 +1,28 @@
+//! The trait of the bytes behind a part.
+ghost use Rattle.std.specs.Prelude.{◌≡◌, ℕ, List, [], ◌∷◌, Option, IfSome, OnOk, length, take, drop};
+ghost use Rattle.part_file.specs.Steps.{Step, writes, barrier, Does};
+
+use std::io;
+
+/// Bytes that are read and written in place, as those of a file. What is written is on the medium for
+/// certain after the next barrier alone.
+pub trait Backing {
+    // The bytes, where they are known.
+    ghost held: { Self → Option (List ℕ) };
+
+    // What was done to them so far, where it is known.
+    ghost steps: { Self → Option (List Step) };
+
+    /// Reads as many bytes as the buffer has, from a place on.
+    fn read_at(&mut self, place: u64, buffer: &mut [u8]) -> io::Result<()>
+        ensures bytes { OnOk result (IfSome (held self.old) (λ bytes. buffer.new ≡ take (length buffer.old) (drop place bytes))) }
+        ensures steps { steps self.new ≡ steps self.old };
+
+    /// Writes bytes from a place on. Where that fails nothing is known of them.
+    fn write_at(&mut self, place: u64, bytes: &[u8]) -> io::Result<()>
+        ensures { OnOk result (Does (steps self.old) (writes place bytes.now ∷ []) (steps self.new)) };
+
+    /// Brings all that was written to the medium.
+    fn barrier(&mut self) -> io::Result<()>
+        ensures { OnOk result (Does (steps self.old) (barrier ∷ []) (steps self.new)) };
+}

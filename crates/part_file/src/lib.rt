@@ -1,0 +1,13 @@
+//! A part in place in a flat file: where its pages and their states stand, and which operation writes what
+//! in which order.
+//!
+//! A host holds writes back, so on the blocks of the anchors a barrier stands between the bytes of a page
+//! and its state, and after each operation. docs/format.md has the layout.
+#![tactic(auto)]
+
+mod backing;
+mod part_file;
+mod places;
+
+pub use backing::Backing;
+pub use part_file::{PartFault, PartFile};

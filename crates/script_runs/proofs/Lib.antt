@@ -1,0 +1,4 @@
+pub mod PlanLemmas
+pub mod ScriptLaws
+pub mod TakenLines
+pub mod TurnLemmas

@@ -1,0 +1,36 @@
+-- A script that is run on a flash in memory of its own.
+use Rattle.std.specs.Prelude.{◌≡◌, ◌⊎◌, ℕ, Option, Result, Ok, Err, List, []}
+use Rattle.fs_types.specs.declared.fault.Fault.{Fault}
+use Rattle.flash_model.specs.Simulation.{device_of, plan_of, IsNew}
+use Rattle.flash_model.specs.Plan.{plan_of_entries}
+use Rattle.flash_model.specs.declared.sim_flash.SimFlash.{SimFlash}
+use Rattle.flash_model.specs.declared.geometry.Geometry.{Geometry}
+use Rattle.mounting.specs.Formats.{IsFormatted, ListsFailed, IsNumbered, FormatCause}
+use Rattle.script_runs.specs.Flashes.{IsNewFlash, IsFormatOf}
+use Rattle.script_runs.specs.Plans.{FollowsPlan}
+use Rattle.script_runs.specs.Scripts.{EndsBy, IsUnmounted, LineSession}
+use Rattle.script.specs.declared.line_answer.LineAnswer.{LineAnswer}
+use Rattle.script_runs.specs.declared.scripts.ScriptFault.{ScriptFault}
+
+-- the sizes of the flash of `memory`
+abbrev pub memory_sizes : Geometry
+memory_sizes = record { page = 256; pages = 16; blocks = 32 }
+
+-- how many versions the system of `memory` keeps
+abbrev pub kept_versions : ℕ
+kept_versions = 8
+
+-- lines that were carried out on a new flash, once it was formatted, with what that left of its plan
+abbrev pub NewSession : Geometry → List (List ℕ) → List LineAnswer → Type 0
+NewSession sizes lines answers =
+    (start : SimFlash) × (formatted : SimFlash) × (end : SimFlash) × IsNewFlash sizes start × IsFormatOf kept_versions start formatted × FollowsPlan start formatted × LineSession formatted end lines answers
+
+-- why no system was made: for want of memory for the flash; or since it was not formatted, or not mounted then
+abbrev pub NewCause : Geometry → Fault → Type 0
+NewCause sizes fault = (fault ≡ Fault.NoMemory)
+    ⊎ (((start : SimFlash) × (end : SimFlash) × IsNewFlash sizes start × FormatCause (device_of start) kept_versions fault (device_of end))
+    ⊎ ((start : SimFlash) × (formatted : SimFlash) × (end : SimFlash) × IsNewFlash sizes start × IsFormatOf kept_versions start formatted × IsUnmounted formatted end fault))
+
+-- how a script ends on a new flash of its own
+abbrev pub EndsInMemory : Geometry → Option (List ℕ) → Option (List ℕ) → Result (Unit {0}) ScriptFault → Option (List ℕ) → Option (List ℕ) → Type 0
+EndsInMemory sizes input left result old new = EndsBy (NewSession sizes) (NewCause sizes) input left result old new

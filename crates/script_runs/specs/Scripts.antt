@@ -1,0 +1,221 @@
+-- Scripts: what each line does and is answered, and what was read, carried out and written where a script ends.
+use Rattle.std.specs.Prelude.{◌≡◌, ℕ, suc, Bool, IsTrue, Option, Some, None, Result, Ok, Err, IfSome, List, [], ◌∷◌, ◌++◌, take, length, ◌⊎◌}
+use Rattle.std.specs.List.{flat_map}
+use Rattle.std.specs.Io.KnownBytes.{Consumes, IsAtEnd, Appends}
+use Rattle.history_machine.specs.History.{Past}
+use Rattle.plain_trees.specs.Trees.{Tree}
+use Rattle.fs_types.specs.declared.call.Reply.{Reply}
+use Rattle.fs_types.specs.declared.event.Event.{Event}
+use Rattle.fs_types.specs.declared.event.Answer.{Answer}
+use Rattle.fs_types.specs.declared.fault.Fault.{Fault}
+use Rattle.flash_model.specs.Device.{Device}
+use Rattle.flash_model.specs.Plan.{Schedule, planned, IsPlanFull}
+use Rattle.flash_model.specs.Reading.{OnlyReads}
+use Rattle.flash_model.specs.Simulation.{device_of, plan_of}
+use Rattle.flash_model.specs.declared.fault_kind.FaultKind.{FaultKind}
+use Rattle.flash_model.specs.declared.sim_flash.SimFlash.{SimFlash}
+use Rattle.script.specs.Lines.{line_of}
+use Rattle.script.specs.Replies.{text_of}
+use Rattle.script.specs.Streams.{TakesLine, TakesPart, lines_of}
+use Rattle.script.specs.declared.line.Line.{Line}
+use Rattle.script.specs.declared.line_answer.LineAnswer.{LineAnswer}
+use Rattle.system.specs.Mounts.{MountCause}
+use Rattle.mounting.specs.Saved.{saved_trees}
+use Rattle.undofs.specs.Runs.{World, Mounts, Happens}
+use Rattle.undofs.specs.Sessions.{Session}
+use Rattle.script_runs.specs.Plans.{PlanGoesOn}
+use Rattle.script_runs.specs.declared.scripts.Refusal.{Refusal}
+use Rattle.script_runs.specs.declared.scripts.ScriptFault.{ScriptFault}
+use Rattle.script_runs.specs.declared.scripts.Stop.{Stop}
+
+-- the event that a line asks for: a call, a step of reclaiming, or a restart
+abbrev pub event_of : Line → Option Event
+event_of (Line.Call call) = Some (Event.Call call)
+event_of (Line.ReclaimStep budget) = Some (Event.ReclaimStep budget)
+event_of Line.Restart = Some Event.Restart
+event_of _ = None
+
+-- a world, and the faults that are planned for its flash, where any can be
+pub record Scene : Type 0 where
+  pub world : World
+  pub plan : Option Schedule
+
+-- a fault is planned, or no room is left for it
+abbrev pub Plans : Schedule → ℕ → FaultKind → LineAnswer → Option Schedule → Type 0
+Plans old k kind answer new =
+    ((answer ≡ LineAnswer.Told (Answer.Done Reply.Empty)) × (IsPlanFull old k kind → ⊥) × (new ≡ Some (planned old k kind)))
+    ⊎ ((answer ≡ LineAnswer.Told (Answer.Refused Fault.Invalid)) × IsPlanFull old k kind × (new ≡ Some old))
+
+-- the answer to a line that asks for no event: a refused path or name is refused; a fault is planned as the line says, where
+-- the flash has a plan; and what has no form of a line is told so
+abbrev pub IsStillAnswer : Line → Option Schedule → LineAnswer → Option Schedule → Type 0
+IsStillAnswer (Line.Refused fault) old answer new = (answer ≡ LineAnswer.Told (Answer.Refused fault)) × (new ≡ old)
+IsStillAnswer (Line.PlanFault (suc k) kind) (Some old) answer new = Plans old (suc k) kind answer new
+IsStillAnswer _ old answer new = (answer ≡ LineAnswer.Syntax) × (new ≡ old)
+
+-- by the event that a line asks for, if any: the line is told the answer to the event, whose operations take from the plan
+-- what comes due, and without one the world stays
+abbrev pub RepliesBy : Option Event → Line → Scene → LineAnswer → Scene → Type 0
+RepliesBy (Some event) line s (LineAnswer.Told answer) t = Happens s.world event answer t.world × PlanGoesOn s.world.device.operations s.plan t.world.device.operations t.plan
+RepliesBy (Some event) line s LineAnswer.Syntax t = ⊥
+RepliesBy None line s answer t = (t.world ≡ s.world) × IsStillAnswer line s.plan answer t.plan
+
+-- a line is carried out, and so answered
+abbrev pub Replies : Line → Scene → LineAnswer → Scene → Type 0
+Replies line = RepliesBy (event_of line) line
+
+-- lines are carried out in order, each from its bytes, and each is answered: from the first scene to the last
+abbrev pub CarriesOut : Scene → List (List ℕ) → List LineAnswer → Scene → Type 0
+CarriesOut s [] [] t = t ≡ s
+CarriesOut s (line ∷ lines) (answer ∷ answers) t = (between : Scene) × Replies (line_of line) s answer between × CarriesOut between lines answers t
+CarriesOut s _ _ t = ⊥
+
+-- what is written for an answer, and for answers in order
+abbrev pub answer_text : LineAnswer → List ℕ
+answer_text answer = text_of answer ++ 10 ∷ []
+
+abbrev pub answer_texts : List LineAnswer → List ℕ
+answer_texts answers = flat_map answer_text answers
+
+-- the reader lost these lines, one after the other
+abbrev pub HasTaken : Option (List ℕ) → List (List ℕ) → Option (List ℕ) → Type 0
+HasTaken old [] new = new ≡ old
+HasTaken old (line ∷ lines) new = (between : Option (List ℕ)) × TakesLine old between line × HasTaken between lines new
+
+-- it lost these lines and is at its end: they are all that it had
+abbrev pub HasTakenAll : Option (List ℕ) → List (List ℕ) → Option (List ℕ) → Type 0
+HasTakenAll old lines new = (rest : Option (List ℕ)) × HasTaken old lines rest × Consumes rest new [] × IsAtEnd new × IfSome old (λ bytes. lines_of bytes ≡ lines)
+
+-- it lost these lines, and a part of one more
+abbrev pub HasTakenPart : Option (List ℕ) → List (List ℕ) → Option (List ℕ) → Type 0
+HasTakenPart old lines new = (rest : Option (List ℕ)) × HasTaken old lines rest × TakesPart rest new
+
+-- it lost these lines, or one more
+abbrev pub HasTakenMore : Option (List ℕ) → List (List ℕ) → Option (List ℕ) → Type 0
+HasTakenMore old lines new = HasTaken old lines new ⊎ ((line : List ℕ) × HasTaken old (lines ++ line ∷ []) new)
+
+-- how a script ends, where Session says which lines were carried out with which answers, and Cause why no system was made:
+-- all of the input was read and answered; or the reader failed after these lines; or the writer failed in the last answer;
+-- or memory was wanted, before a line was carried out or before its answer was written; or there was no system for its
+-- cause, and nothing was read or written
+abbrev pub EndsBy : (List (List ℕ) → List LineAnswer → Type 0) → (Fault → Type 0) → Option (List ℕ) → Option (List ℕ) → Result (Unit {0}) ScriptFault → Option (List ℕ) → Option (List ℕ) → Type 0
+EndsBy Session Cause input left (Ok done) old new = (lines : List (List ℕ)) × (answers : List LineAnswer) × Session lines answers × HasTakenAll input lines left × Appends old new (answer_texts answers)
+EndsBy Session Cause input left (Err ScriptFault.Read) old new = (lines : List (List ℕ)) × (answers : List LineAnswer) × Session lines answers × HasTakenPart input lines left × Appends old new (answer_texts answers)
+EndsBy Session Cause input left (Err ScriptFault.Write) old new = (lines : List (List ℕ)) × (earlier : List LineAnswer) × (last : LineAnswer) × (n : ℕ) × Session lines (earlier ++ last ∷ []) × HasTaken input lines left × Appends old new (answer_texts earlier ++ take n (answer_text last))
+EndsBy Session Cause input left (Err ScriptFault.Memory) old new =
+    ((lines : List (List ℕ)) × (answers : List LineAnswer) × Session lines answers × HasTakenMore input lines left × Appends old new (answer_texts answers))
+    ⊎ ((lines : List (List ℕ)) × (earlier : List LineAnswer) × (last : LineAnswer) × Session lines (earlier ++ last ∷ []) × HasTaken input lines left × Appends old new (answer_texts earlier))
+EndsBy Session Cause input left (Err (ScriptFault.Mount fault)) old new = Cause fault × (left ≡ input) × (new ≡ old)
+
+-- a flash, and the faults that are planned for it, where any can be
+pub record Ground : Type 0 where
+  pub device : Device
+  pub plan : Option Schedule
+
+abbrev pub ground_at : Device → Option Schedule → Ground
+ground_at d plan = record { device = d; plan = plan }
+
+-- a flash with its plan, and one that has none
+abbrev pub with_plan : Device → Schedule → Ground
+with_plan d plan = ground_at d (Some plan)
+
+abbrev pub unplanned : Device → Ground
+unplanned d = ground_at d None
+
+-- a flash in memory with its plan
+abbrev pub ground : SimFlash → Ground
+ground flash = with_plan (device_of flash) (plan_of flash)
+
+-- lines that were carried out on what was mounted on a flash: the first world is that of the mount, with what its operations
+-- left of the plan of the flash, and the last one stands on the flash at the end, with its plan
+pub record SessionOn (start end : Ground) (lines : List (List ℕ)) (answers : List LineAnswer) : Type 0 where
+  pub history : Past Tree
+  pub first : Scene
+  pub last : Scene
+  pub saved : saved_trees start.device ≡ Some history
+  pub mounts : Mounts start.device (history ∷ []) Answer.Mounted first.world
+  pub begins : PlanGoesOn start.device.operations start.plan first.world.device.operations first.plan
+  pub carried : CarriesOut first lines answers last
+  pub ends : last.world.device ≡ end.device
+  pub plan : last.plan ≡ end.plan
+
+-- a mount was refused for a cause, and the flash was only read
+pub record IsLeft (d e : Device) (fault : Fault) : Type 0 where
+  pub cause : MountCause d e fault
+  pub reads : OnlyReads d e
+
+-- and its plan went on by these reads
+abbrev pub IsRefusedOn : Ground → Ground → Fault → Type 0
+IsRefusedOn start end fault = IsLeft start.device end.device fault × PlanGoesOn start.device.operations start.plan end.device.operations end.plan
+
+-- how a script ends that found and leaves these flashes
+abbrev pub EndsOnFlash : Ground → Ground → Option (List ℕ) → Option (List ℕ) → Result (Unit {0}) ScriptFault → Option (List ℕ) → Option (List ℕ) → Type 0
+EndsOnFlash start end input left result old new = EndsBy (SessionOn start end) (IsRefusedOn start end) input left result old new
+
+-- the same of flashes in memory
+abbrev pub LineSession : SimFlash → SimFlash → List (List ℕ) → List LineAnswer → Type 0
+LineSession start end = SessionOn (ground start) (ground end)
+
+abbrev pub IsUnmounted : SimFlash → SimFlash → Fault → Type 0
+IsUnmounted start end fault = IsLeft (device_of start) (device_of end) fault
+
+abbrev pub EndsOnSimFlash : SimFlash → SimFlash → Option (List ℕ) → Option (List ℕ) → Result (Unit {0}) ScriptFault → Option (List ℕ) → Option (List ℕ) → Type 0
+EndsOnSimFlash start end = EndsOnFlash (ground start) (ground end)
+
+-- how an answer refuses its line
+abbrev pub refusal_of : LineAnswer → Option Refusal
+refusal_of (LineAnswer.Told (Answer.Refused fault)) = Some (Refusal.Fault fault)
+refusal_of (LineAnswer.Told Answer.Unmounted) = Some Refusal.Unmounted
+refusal_of (LineAnswer.Told _) = None
+refusal_of LineAnswer.Syntax = Some Refusal.Syntax
+
+-- none of these answers refuses its line; and none but the last
+abbrev pub AreAccepted : List LineAnswer → Type 0
+AreAccepted [] = Unit {0}
+AreAccepted (answer ∷ answers) = (refusal_of answer ≡ None) × AreAccepted answers
+
+abbrev pub AreAcceptedBefore : List LineAnswer → Type 0
+AreAcceptedBefore [] = Unit {0}
+AreAcceptedBefore (answer ∷ []) = Unit {0}
+AreAcceptedBefore (answer ∷ next ∷ answers) = (refusal_of answer ≡ None) × AreAcceptedBefore (next ∷ answers)
+
+-- a script stopped at the first line that was refused, whose answer is written: the lines after it were not read
+abbrev pub StopsAt : (List (List ℕ) → List LineAnswer → Type 0) → Option (List ℕ) → Option (List ℕ) → Stop → Option (List ℕ) → Option (List ℕ) → Type 0
+StopsAt Session input left stop old new =
+    (lines : List (List ℕ)) × (earlier : List LineAnswer) × (last : LineAnswer) × Session lines (earlier ++ last ∷ []) × AreAccepted earlier
+    × (refusal_of last ≡ Some stop.refusal) × (stop.line ≡ length lines) × HasTaken input lines left × Appends old new (answer_texts (earlier ++ last ∷ []))
+
+-- how a script ends that may stop at the first line that is refused: where it was to, no line before the last was refused
+abbrev pub EndsOrStops : Bool → (List (List ℕ) → List LineAnswer → Type 0) → (Fault → Type 0) → Option (List ℕ) → Option (List ℕ) → Result (Option Stop) ScriptFault → Option (List ℕ) → Option (List ℕ) → Type 0
+EndsOrStops stop Session Cause input left (Ok None) old new = EndsBy (λ lines answers. Session lines answers × (IsTrue stop → AreAccepted answers)) Cause input left (Ok tt) old new
+EndsOrStops stop Session Cause input left (Ok (Some at)) old new = IsTrue stop × StopsAt Session input left at old new
+EndsOrStops stop Session Cause input left (Err fault) old new = EndsBy (λ lines answers. Session lines answers × (IsTrue stop → AreAcceptedBefore answers)) Cause input left (Err fault) old new
+
+abbrev pub ScriptEndsOn : Bool → Ground → Ground → Option (List ℕ) → Option (List ℕ) → Result (Option Stop) ScriptFault → Option (List ℕ) → Option (List ℕ) → Type 0
+ScriptEndsOn stop start end input left result old new = EndsOrStops stop (SessionOn start end) (IsRefusedOn start end) input left result old new
+
+abbrev pub ScriptEnds : Bool → SimFlash → SimFlash → Option (List ℕ) → Option (List ℕ) → Result (Option Stop) ScriptFault → Option (List ℕ) → Option (List ℕ) → Type 0
+ScriptEnds stop start end = ScriptEndsOn stop (ground start) (ground end)
+
+-- the events that lines ask for
+abbrev pub with_event : {A : Type 0} → Option A → List A → List A
+with_event None xs = xs
+with_event (Some x) xs = x ∷ xs
+
+abbrev pub events_of : List (List ℕ) → List Event
+events_of [] = []
+events_of (line ∷ lines) = with_event (event_of (line_of line)) (events_of lines)
+
+-- the answers to those events
+abbrev pub with_told : Option Event → LineAnswer → List Answer → List Answer
+with_told (Some event) (LineAnswer.Told answer) answers = answer ∷ answers
+with_told _ _ answers = answers
+
+abbrev pub event_answers : List (List ℕ) → List LineAnswer → List Answer
+event_answers (line ∷ lines) (answer ∷ answers) = with_told (event_of (line_of line)) answer (event_answers lines answers)
+event_answers _ _ = []
+
+-- lines that were carried out are a session of the events that they ask for, with the answers to these
+abbrev pub ScriptLaw : Type 0
+ScriptLaw = (start end : Ground) (lines : List (List ℕ)) (answers : List LineAnswer) → SessionOn start end lines answers
+    → (v : World) × Session start.device (events_of lines) (Answer.Mounted ∷ event_answers lines answers) v × (v.device ≡ end.device)

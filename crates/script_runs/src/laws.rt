@@ -1,0 +1,11 @@
+//! The laws of scripts. The function does nothing: its contract is the laws.
+ghost use Rattle.script_runs.specs.Plans.{EntriesLaw};
+ghost use Rattle.script_runs.specs.Scripts.{ScriptLaw};
+
+/// What lines do that are carried out: their calls are the events of a run, and are answered as
+/// there. Of the faults that are planned, those that wait after an event are some of those that waited
+/// before it, in order.
+pub fn script_laws()
+    ensures session { ScriptLaw }
+    ensures entries { EntriesLaw }
+{}

@@ -1,0 +1,14 @@
+//! Scripts run on a flash: on any, on one whose faults can be planned, and on one in memory.
+#![tactic(auto)]
+
+mod following;
+mod laws;
+mod memory;
+mod planning;
+mod scripts;
+
+pub use laws::script_laws;
+pub use memory::run_in_memory;
+pub use scripts::{
+    Refusal, ScriptFault, Stop, carry_out, run_script, run_script_on, run_script_until,
+};

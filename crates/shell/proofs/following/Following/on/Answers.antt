@@ -1,6 +1,0 @@
-use Rattle.shell.proofs.PlanLemmas.{goes_on_none}
-use Rattle.shell.proofs.following.Following.on.Goals as goal
-
-pub invariant_of-result-clause-goes_on : goal.invariant_of-result-clause-goes_on
-invariant_of-result-clause-goes_on g c =
-    goes_on_none g.S.Start.done (g.F.Flash.device c.args.flash.now).operations g.S.Start.plan (g.F.Planned.schedule c.args.flash.now) c.requires.plan c.requires.done

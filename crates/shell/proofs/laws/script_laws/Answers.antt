@@ -1,6 +1,0 @@
-use Rattle.shell.proofs.PlanLemmas.{entries_law}
-use Rattle.shell.proofs.ScriptLaws.{script_law}
-use Rattle.shell.proofs.laws.script_laws.Goals as goal
-
-pub returns : goal.returns
-returns c = record { session = script_law; entries = entries_law }

@@ -1,0 +1,206 @@
+#!/usr/bin/env python3
+"""Tries the built program on what no test of the gate can make: closed streams, limits of the process, words
+that are no UTF-8, links that come in between, and a full disk. docs/testing.md tells what each case shows.
+
+  tools/check_host.py PROGRAM
+
+PROGRAM is crates/uffs/out/uffs, as `rt run` builds it there. Each case is a line `ok` or `WRONG` with its name
+and what was found; the status is the number of the wrong ones. All files stand in a new folder that is removed
+again. The full disk is a small file system in memory, for which the caller has to be the superuser; else that
+case is told as not tried.
+"""
+import os
+import resource
+import shutil
+import signal
+import subprocess
+import sys
+import tempfile
+
+SCRIPT = b"mkdir /a\nsync\n"
+
+
+class Wrong(Exception):
+    """What was found where something else has to be."""
+
+
+def run(program, words, given=b"", **how):
+    """The status of the program, its output and what it says on standard error."""
+    done = subprocess.run([program, *words], input=given, capture_output=True, check=False, timeout=60, **how)
+    return done.returncode, done.stdout, done.stderr
+
+
+def want(found, wanted):
+    """Refuses anything but what is wanted."""
+    if found != wanted:
+        raise Wrong(f"{found!r} in place of {wanted!r}")
+
+
+def read(name):
+    """The bytes of a file."""
+    with open(name, "rb") as file:
+        return file.read()
+
+
+def made(program, folder, name="image"):
+    """A new image in a folder."""
+    image = os.path.join(folder, name)
+    want(run(program, ["format", image]), (0, b"", b""))
+    return image
+
+
+def closed(program, words, stream):
+    """The status of the program with a standard stream closed, and a script on its input if that is open."""
+    def close():
+        os.close(stream)
+    given = subprocess.DEVNULL if stream == 0 else subprocess.PIPE
+    kept = [subprocess.PIPE, subprocess.PIPE]
+    done = subprocess.Popen([program, *words], stdin=given, stdout=kept[0], stderr=kept[1], preexec_fn=close)
+    out, err = done.communicate(None if stream == 0 else SCRIPT, timeout=60)
+    return done.returncode, out, err
+
+
+def closed_output(program, folder):
+    """With standard output closed the replies are not written, and the image stays."""
+    image = made(program, folder)
+    before = read(image)
+    want(closed(program, ["run", image], 1), (1, b"", b"uffs: output\n"))
+    want(read(image), before)
+    want(closed(program, ["check", image], 1), (1, b"", b"uffs: output\n"))
+    want(closed(program, ["format", image], 1), (0, b"", b""))
+
+
+def closed_errors(program, folder):
+    """With standard error closed a message is lost, and written to no file."""
+    image = made(program, folder)
+    before = read(image)
+    want(closed(program, ["run", image, "--stop"], 2), (0, b"ok\nok\n", b""))
+    changed = read(image)
+    want(changed != before, True)
+    want(closed(program, ["format", image, "--blocks", "1"], 2), (3, b"", b""))
+    want(closed(program, ["put", image, folder, "/x"], 2)[0], 1)
+    want(read(image), changed)
+
+
+def closed_input(program, folder):
+    """With standard input closed no file is read as the script."""
+    image = made(program, folder)
+    before = read(image)
+    want(closed(program, ["run", image], 0), (1, b"", b"uffs: input\n"))
+    want(read(image), before)
+
+
+def all_closed(program, folder):
+    """With all three closed the image stays."""
+    image = made(program, folder)
+    before = read(image)
+    def close():
+        os.closerange(0, 3)
+    done = subprocess.run([program, "run", image], check=False, timeout=60, preexec_fn=close)
+    want((done.returncode, read(image)), (1, before))
+
+
+def limited(program, folder):
+    """A file that may not grow is told as one that cannot be written, the image stays, and no new file is left."""
+    image = made(program, folder)
+    before = read(image)
+    def limit():
+        signal.signal(signal.SIGXFSZ, signal.SIG_IGN)
+        resource.setrlimit(resource.RLIMIT_FSIZE, (100, 100))
+    told = f"uffs: cannot write {image}\n".encode()
+    want(run(program, ["run", image], SCRIPT, preexec_fn=limit, restore_signals=False), (1, b"ok\nok\n", told))
+    want((read(image), os.listdir(folder)), (before, ["image"]))
+
+
+def not_utf8(program, folder):
+    """A word that is no UTF-8 is a wrong use."""
+    want(run(program, ["check", b"\xff"])[:2], (2, b""))
+    want(run(program, [b"\xff"])[:2], (2, b""))
+
+
+def fifos(program, folder):
+    """What is no plain file is refused, and not waited for."""
+    fifo = os.path.join(folder, "fifo")
+    os.mkfifo(fifo)
+    for name in (fifo, "/dev/null", "/dev/zero"):
+        told = f"uffs: cannot write {name}\n".encode()
+        want(run(program, ["run", name], SCRIPT), (1, b"", told))
+        want(run(program, ["format", name]), (1, b"", told))
+        want(run(program, ["check", name]), (1, b"", f"uffs: cannot read {name}\n".encode()))
+
+
+def in_use(program, folder):
+    """While a script waits for its next line the image is refused to others, and read by those that only look."""
+    image = made(program, folder)
+    first = subprocess.Popen([program, "run", image], stdin=subprocess.PIPE, stdout=subprocess.PIPE)
+    first.stdin.write(SCRIPT)
+    first.stdin.flush()
+    want(first.stdout.readline() + first.stdout.readline(), b"ok\nok\n")
+    told = f"uffs: cannot write {image}\n".encode()
+    want(run(program, ["run", image], SCRIPT), (1, b"", told))
+    want(run(program, ["format", image]), (1, b"", told))
+    want(run(program, ["check", image]), (0, b"ok\n", b""))
+    first.stdin.close()
+    want(first.wait(60), 0)
+    first.stdout.close()
+    want(run(program, ["run", image], b"ls /\n"), (0, b"entries 1 a/\n", b""))
+
+
+def full_disk(program, folder):
+    """On a full disk the image stays, and no new file is left."""
+    disk = os.path.join(folder, "disk")
+    os.mkdir(disk)
+    if subprocess.run(["mount", "-t", "tmpfs", "-o", "size=64k", "tmpfs", disk], capture_output=True, check=False).returncode:
+        return "not tried: no file system can be mounted"
+    try:
+        image = made(program, disk)
+        before = read(image)
+        with open(os.path.join(disk, "rest"), "wb", buffering=0) as rest:
+            try:
+                while True:
+                    rest.write(b"x" * 4096)
+            except OSError:
+                pass
+        told = f"uffs: cannot write {image}\n".encode()
+        want(run(program, ["run", image], SCRIPT), (1, b"ok\nok\n", told))
+        want((read(image), sorted(os.listdir(disk))), (before, ["image", "rest"]))
+    finally:
+        subprocess.run(["umount", disk], check=True)
+    return None
+
+
+def full_output(program, folder):
+    """An output that is full is told, and the image stays."""
+    image = made(program, folder)
+    before = read(image)
+    with open("/dev/full", "wb", buffering=0) as full:
+        done = subprocess.run([program, "run", image], input=SCRIPT, stdout=full, stderr=subprocess.PIPE, check=False, timeout=60)
+    want((done.returncode, done.stderr, read(image)), (1, b"uffs: output\n", before))
+
+
+CASES = [closed_output, closed_errors, closed_input, all_closed, limited, not_utf8, fifos, in_use, full_disk, full_output]
+
+
+def try_case(case, program):
+    """Whether a case went as it has to, which is told."""
+    folder = tempfile.mkdtemp(prefix="uffs-host-")
+    try:
+        note = case(program, folder)
+        print("ok   ", case.__name__, note or "")
+        return True
+    except (Wrong, OSError, subprocess.SubprocessError) as wrong:
+        print("WRONG", case.__name__, wrong)
+        return False
+    finally:
+        shutil.rmtree(folder)
+
+
+def main():
+    """Tries all cases."""
+    if len(sys.argv) != 2:
+        sys.exit(__doc__)
+    program = os.path.abspath(sys.argv[1])
+    sys.exit(sum(not try_case(case, program) for case in CASES))
+
+
+main()

@@ -7,6 +7,7 @@ mod identity;
 mod replaced;
 mod replacing;
 
+use crate::channels::Channels;
 use crate::image_files::{FileFault, ImageFiles, MOST_BYTES};
 use crate::source::{Source, Sources};
 use claims::Claim;
@@ -15,8 +16,8 @@ use identity::Identity;
 use replaced::Replaced;
 use replacing::replace_file;
 use std::alloc::{AllocError, Global};
-use std::fs::{File, Metadata, OpenFile};
-use std::io::{ErrorKind, Read};
+use std::fs::{File, Metadata, OpenFile, OpenOptions};
+use std::io::{BufWriter, ErrorKind, Read};
 use std::rt::Files;
 use std::{fs, io};
 
@@ -90,6 +91,30 @@ impl<R: Files<File = File> + AllocGlobal> Sources for HostFiles<'_, R> {
         };
         gather(self.rt, alloc, name, own)
     }
+}
+
+impl<R: Files<File = File>> Channels for HostFiles<'_, R> {
+    type Incoming = File;
+
+    type Outgoing = BufWriter<File>;
+
+    fn open_incoming(&self, name: &str) -> Result<File, FileFault> {
+        fs::open(self.rt, name).map_err(|error| fault_of(&error))
+    }
+
+    fn open_outgoing(&self, alloc: Global, name: &str) -> Result<BufWriter<File>, FileFault> {
+        open_buffered(self.rt, alloc, name).map_err(|error| fault_of(&error))
+    }
+}
+
+/// The file of a name, of which what is written is handed on where it is flushed.
+fn open_buffered<R: Files<File = File>>(
+    rt: &R,
+    alloc: Global,
+    name: &str,
+) -> io::Result<BufWriter<File>> {
+    let file = OpenOptions::new().write(true).open(rt, name)?;
+    BufWriter::new(alloc, file)
 }
 
 fn fault_of(error: &io::Error) -> FileFault {

@@ -1,12 +1,15 @@
-//! The files of the host: images that are claimed, read and replaced, and what is put into them.
+//! The files of the host: images that are claimed, read and replaced, what is put into them, and streams
+//! that join the program to another one.
 #![tactic(auto)]
 
+mod channels;
 mod host_files;
 mod image_files;
 mod limits;
 mod names;
 mod source;
 
+pub use channels::Channels;
 pub use host_files::HostFiles;
 pub use image_files::{FileFault, ImageFiles, MOST_BYTES};
 pub use limits::read_limit_law;

@@ -46,6 +46,10 @@ tree_app = with_rule (image_app (codes "tree")) (optional_rule (codes "VIEW"))
 abbrev pub diff_app : App
 diff_app = with_rule (with_rule (image_app (codes "diff")) (word_rule (codes "VIEW"))) (optional_rule (codes "OTHER"))
 
+-- a live file system on a part, whose driver is at the other end of two streams
+abbrev pub serve_app : App
+serve_app = with_rule (with_rule (with_rule (new_app (codes "serve")) (word_rule (codes "ANSWERS"))) (word_rule (codes "ORDERS"))) (number_rule (codes "history"))
+
 abbrev pub explain_app : App
 explain_app = with_rule (new_app (codes "explain")) refusal_rule
 
@@ -71,4 +75,4 @@ with_image_apps app = with_subcommand (with_subcommand (with_subcommand (with_su
 
 -- the program
 abbrev pub uffs : App
-uffs = with_subcommand (with_subcommand (with_image_apps (with_reading_apps changing_app)) (new_app (codes "memory")).top) explain_app.top
+uffs = with_subcommand (with_subcommand (with_subcommand (with_image_apps (with_reading_apps changing_app)) (new_app (codes "memory")).top) serve_app.top) explain_app.top

@@ -26,6 +26,7 @@ task_named name = if bytes_eq name (codes "format") then Some Task.Format
     else if bytes_eq name (codes "log") then Some Task.Log
     else if bytes_eq name (codes "df") then Some Task.Df
     else if bytes_eq name (codes "memory") then Some Task.Memory
+    else if bytes_eq name (codes "serve") then Some Task.Serve
     else if bytes_eq name (codes "explain") then Some Task.Explain
     else None
 
@@ -49,6 +50,7 @@ pub record AreNumbersOf (rows : List Row) (numbers : Numbers) : Type 0 where
 -- the tasks that are done on no image
 abbrev pub has_no_image : Task → Bool
 has_no_image Task.Memory = true
+has_no_image Task.Serve = true
 has_no_image Task.Explain = true
 has_no_image _ = false
 
@@ -76,6 +78,9 @@ pub record IsJobOf (name : Text) (rows : List Row) (job : Job) : Type 0 where
   pub blocks : IsNumberOf (one_of (codes "blocks") rows) 32 job.blocks
   pub history : IsNumberOf (one_of (codes "history") rows) 8 job.history
   pub refusal : IsNumberOf (one_of (codes "NO") rows) 0 job.refusal
+  pub is_history_given : job.is_history_given ≡ is_some (first_of (codes "history") rows)
+  pub answers : word_text job.answers ≡ first_of (codes "ANSWERS") rows
+  pub orders : word_text job.orders ≡ first_of (codes "ORDERS") rows
   pub stop : job.stop ≡ flag_of (first_of (codes "stop") rows)
   pub path : word_text job.path ≡ first_of (codes "PATH") rows
   pub file : word_text job.file ≡ first_of (codes "FILE") rows

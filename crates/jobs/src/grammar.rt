@@ -2,7 +2,7 @@
 ghost use Rattle.std.specs.Prelude.{◌≡◌, IfOk, codes, false};
 ghost use Rattle.clap.specs.Words.{app_of, rule_of, new_app, with_rule, with_subcommand};
 ghost use Rattle.clap.specs.declared.builder.command.Command.TheViews.{out-Command};
-ghost use Rattle.jobs.specs.Grammar.{uffs, bare_app, changing_app, format_app, run_app, put_app, get_app, tree_app, diff_app, explain_app, image_app};
+ghost use Rattle.jobs.specs.Grammar.{uffs, bare_app, changing_app, format_app, run_app, put_app, get_app, tree_app, diff_app, serve_app, explain_app, image_app};
 ghost use Rattle.jobs.specs.Grammar.{with_reading_apps, with_image_apps, flag_rule, number_rule, refusal_rule, word_rule, optional_rule};
 
 use clap::{Arg, ArgAction, Command, value_parser};
@@ -22,6 +22,12 @@ pub(crate) const VIEW: &str = "VIEW";
 
 /// The name of the argument that is the view which another is compared with.
 pub(crate) const OTHER: &str = "OTHER";
+
+/// The name of the argument that names the stream of a driver's answers.
+pub(crate) const ANSWERS: &str = "ANSWERS";
+
+/// The name of the argument that names the stream of a driver's orders.
+pub(crate) const ORDERS: &str = "ORDERS";
 
 /// The name of the argument that is the number of a refusal.
 pub(crate) const REFUSAL: &str = "NO";
@@ -145,6 +151,18 @@ Status: 0 the script ran to its end; 1 the input or the output failed, or memory
 
 Example: echo 'df' | uffs memory";
 
+const SERVE_HELP: &str =
+    "A program that drives a part starts this as a child. It writes to ANSWERS what the part holds, and
+carries out what is written to ORDERS: both are fifos, or /dev/fd/N of pipes. ANSWERS is opened first.
+Each line of the input is answered by one line of the output before the next is read. With --history
+an empty file system is made first. docs/serve.md has the bytes.
+
+Status: 0 the script ran to its end; 1 ANSWERS or ORDERS cannot be opened, the start, the input or the
+output failed, or memory; 2 the words; 3 ANSWERS begins with no image, or a format or a mount was
+refused.
+
+Example: uffs serve /dev/fd/3 /dev/fd/4";
+
 const EXPLAIN_HELP: &str =
     "Prints what the refusal of this number means, and what can be done. No file is read or written.
 
@@ -160,6 +178,7 @@ pub(crate) fn program<'a>(alloc: Global) -> Result<Command<'a>, AllocError>
     let program = with_reading_commands(alloc, changing_program(alloc)?)?;
     let program = with_image_commands(alloc, program)?;
     let program = program.subcommand(memory_command(alloc))?;
+    let program = program.subcommand(serve_command(alloc)?)?;
     program.subcommand(explain_command(alloc)?)
 }
 
@@ -384,6 +403,32 @@ fn diff_command<'a>(alloc: Global) -> Result<Command<'a>, AllocError>
     )
 }
 
+fn serve_command<'a>(alloc: Global) -> Result<Command<'a>, AllocError>
+    ensures app { IfOk result (λ command. app_of command ≡ serve_app) }
+    ensures local { IfOk result (λ command. (out-Command command).has_globals ≡ false) }
+{
+    let command = named_command(
+        alloc,
+        "serve",
+        "Runs the script on standard input on the part of a driver in another process",
+        SERVE_HELP,
+    );
+    let command = with_word(
+        alloc,
+        command,
+        ANSWERS,
+        "What the driver writes: what its part holds, then its answers",
+    )?;
+    let command = with_word(alloc, command, ORDERS, "What the driver reads: its orders")?;
+    with_number(
+        alloc,
+        command,
+        "history",
+        "H",
+        "Makes an empty file system first, which keeps so many versions, 2 to 128",
+    )
+}
+
 fn explain_command<'a>(alloc: Global) -> Result<Command<'a>, AllocError>
     ensures app { IfOk result (λ command. app_of command ≡ explain_app) }
     ensures local { IfOk result (λ command. (out-Command command).has_globals ≡ false) }
@@ -457,7 +502,7 @@ fn image_command<'a>(
     ensures app { IfOk result (λ command. app_of command ≡ image_app name.entry.now) }
     ensures local { IfOk result (λ command. (out-Command command).has_globals ≡ false) }
 {
-    let command = Command::new(alloc, name).about(about).after_help(help);
+    let command = named_command(alloc, name, about, help);
     command.arg(word_arg(alloc, IMAGE, "The file of the image"))
 }
 
@@ -465,9 +510,20 @@ fn memory_command<'a>(alloc: Global) -> Command<'a>
     ensures app { app_of result ≡ new_app (codes "memory") }
     ensures local { (out-Command result).has_globals ≡ false }
 {
-    Command::new(alloc, "memory")
-        .about("Runs the script on standard input on a flash in memory")
-        .after_help(MEMORY_HELP)
+    named_command(
+        alloc,
+        "memory",
+        "Runs the script on standard input on a flash in memory",
+        MEMORY_HELP,
+    )
+}
+
+/// A subcommand before its arguments.
+fn named_command<'a>(alloc: Global, name: &'a str, about: &'a str, help: &'a str) -> Command<'a>
+    ensures app { app_of result ≡ new_app name.entry.now }
+    ensures local { (out-Command result).has_globals ≡ false }
+{
+    Command::new(alloc, name).about(about).after_help(help)
 }
 
 /// A word that has to be given.

@@ -25,6 +25,8 @@ pub enum Task {
     Df,
     /// A script is run on a flash in memory.
     Memory,
+    /// A script is run on the part of a driver in another process.
+    Serve,
     /// What a refusal means is told.
     Explain,
 }
@@ -34,7 +36,7 @@ pub enum Task {
 pub struct Job<'a> {
     /// What is to be done.
     pub command: Task,
-    /// The file of the image; none for `memory` and `explain`.
+    /// The file of the image; none for `memory`, `serve` and `explain`.
     pub image: Option<&'a str>,
     /// Bytes of a page.
     pub page: u32,
@@ -44,6 +46,12 @@ pub struct Job<'a> {
     pub blocks: u32,
     /// Versions that are kept.
     pub history: u32,
+    /// Whether a word gives how many.
+    pub is_history_given: bool,
+    /// The name under which a driver answers; none where none is named.
+    pub answers: Option<&'a str>,
+    /// The name under which a driver is given its orders; none where none is named.
+    pub orders: Option<&'a str>,
     /// The number of a refusal, 1 to 31; 0 where none is named.
     pub refusal: u32,
     /// Whether a script ends at its first line that is refused.

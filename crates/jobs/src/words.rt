@@ -1,5 +1,5 @@
 //! A job of the program, as its words ask for it.
-ghost use Rattle.std.specs.Prelude.{◌≡◌, ℕ, [], codes, IfOk, OnOk, IfErr, IfSome, IfNone, Option, List, ◌⊎◌, map, option_map, string_bytes};
+ghost use Rattle.std.specs.Prelude.{◌≡◌, ℕ, [], codes, IfOk, OnOk, IfErr, IfSome, IfNone, Option, List, ◌⊎◌, map, option_map, is_some, string_bytes};
 ghost use Rattle.clap.specs.Words.{HasKind, app_of, fault_of, found_of, rows_of, subcommand_rows_of};
 ghost use Rattle.clap.specs.Walk.{one_of, first_of};
 ghost use Rattle.jobs.specs.Grammar.{uffs};
@@ -7,7 +7,7 @@ ghost use Rattle.jobs.specs.Jobs.{AreNumbersOf, AsksFor, SaysJob, IsNumberOf, Is
 ghost use Rattle.jobs.specs.declared.tasks.Job.{Job};
 ghost use Rattle.jobs.specs.declared.words.Numbers.{Numbers};
 
-use crate::grammar::{FILE, IMAGE, OTHER, PATH, REFUSAL, VIEW, program};
+use crate::grammar::{ANSWERS, FILE, IMAGE, ORDERS, OTHER, PATH, REFUSAL, VIEW, program};
 use crate::tasks::{Job, Task};
 use clap::error::ErrorKind;
 use clap::{ArgMatches, Command, Error};
@@ -88,6 +88,9 @@ fn said<'a>(matches: &ArgMatches<'a>) -> Option<Job<'a>>
         blocks,
         history,
         refusal,
+        is_history_given: is_given(given, "history"),
+        answers: word(given, ANSWERS),
+        orders: word(given, ORDERS),
         stop: has_flag(given, "stop"),
         path: word(given, PATH),
         file: word(given, FILE),
@@ -126,6 +129,7 @@ fn task_named(name: &str) -> Option<Task>
         "log" => Some(Task::Log),
         "df" => Some(Task::Df),
         "memory" => Some(Task::Memory),
+        "serve" => Some(Task::Serve),
         "explain" => Some(Task::Explain),
         _ => None,
     }
@@ -136,7 +140,7 @@ fn has_no_image(command: Task) -> bool
     ensures { result ≡ has_no_image command }
 {
     match command {
-        Task::Memory | Task::Explain => true,
+        Task::Memory | Task::Serve | Task::Explain => true,
         _ => false,
     }
 }
@@ -160,6 +164,16 @@ fn word<'a>(given: &ArgMatches<'a>, name: &str) -> Option<&'a str>
     ensures { option_map (λ s. s.now) result ≡ first_of name.now (rows_of (found_of given.now)) }
 {
     given.get_str(name)
+}
+
+/// Whether a word is given for an argument.
+fn is_given(given: &ArgMatches<'_>, name: &str) -> bool
+    ensures { result ≡ is_some (first_of name.now (rows_of (found_of given.now))) }
+{
+    match given.get_str(name) {
+        Some(_) => true,
+        None => false,
+    }
 }
 
 /// The number of an option, else its default; none where its word spells no number.

@@ -9,4 +9,5 @@ returns c =
     let reading = c.in_ok-program.ensures ∙ ap with_reading_apps c.in_ok-changing_program.ensures in
     let images = c.in_ok-program-2.ensures ∙ ap with_image_apps reading in
     let memory = c.in_ok-program-3.ensures.shape c.memory_command.ensures.local ∙ ap₂ with_subcommand images (ap (λ (a : App). a.top) c.memory_command.ensures.app) in
-    IfOk-weaker c.subcommand-2.result _ _ (λ command is. is.shape c.in_ok-explain_command.ensures.local ∙ ap₂ with_subcommand memory (ap (λ (a : App). a.top) c.in_ok-explain_command.ensures.app)) c.subcommand-2.ensures
+    let serve = c.in_ok-program-4.ensures.shape c.in_ok-serve_command.ensures.local ∙ ap₂ with_subcommand memory (ap (λ (a : App). a.top) c.in_ok-serve_command.ensures.app) in
+    IfOk-weaker c.subcommand-3.result _ _ (λ command is. is.shape c.in_ok-explain_command.ensures.local ∙ ap₂ with_subcommand serve (ap (λ (a : App). a.top) c.in_ok-explain_command.ensures.app)) c.subcommand-3.ensures

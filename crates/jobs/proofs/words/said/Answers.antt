@@ -18,10 +18,13 @@ returns-clause-some c =
       blocks = numbers.blocks;
       history = numbers.history;
       refusal = numbers.refusal;
+      is_history_given = c.is_given.ensures;
+      answers = c.word.ensures;
+      orders = c.word-2.ensures;
       stop = c.has_flag.ensures;
-      path = c.word.ensures;
-      file = c.word-2.ensures;
-      view = c.word-3.ensures;
-      other = c.word-4.ensures;
+      path = c.word-3.ensures;
+      file = c.word-4.ensures;
+      view = c.word-5.ensures;
+      other = c.word-6.ensures;
       progress = c.has_flag-2.ensures;
     })

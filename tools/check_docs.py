@@ -11,7 +11,11 @@ Of each block of code:
   - Rust has to stand in source files of crates/, part by part;
   - lines that are written alone have to be the stdout of a program of the gate;
   - all else has to be named in docs/testing.md, by its first line, in backticks.
-It prints a line for each block that does not; its status is 1 where there is one.
+Of each table whose columns are those of a program of the gate, as it prints them: each row has to stand
+in its stdout under the same name, with the same figures.
+Of each link: what it leads to has to be there, the section too. A page that is named has to be a link,
+and a page of over 1,500 words begins with a list of its sections.
+It prints a line for each that does not; its status is 1 where there is one.
 """
 import glob
 import os
@@ -20,6 +24,9 @@ import sys
 
 TOP = os.path.dirname(os.path.dirname(os.path.abspath(__file__)))
 SHELL = re.compile(r"^\$ (?:(?:printf|echo) '([^']*)' \| )?out/uffs (.*)$")
+LINK = re.compile(r"\[([^\]]*)\]\(([^)\s]+)\)")
+PAGE = re.compile(r"(?:docs/)?[A-Za-z]+\.md\b")
+LONG = 1500
 REPLY = re.compile(r"^(ok|done|more|mounted|unmounted|err [A-Z0-9]+( \d+)?|(entries|fd|data|wrote|dir|file|log|df) .*)$")
 
 
@@ -109,6 +116,97 @@ def is_code(part, code):
     return any(one in known for one in indented for known in code)
 
 
+def stored_tables():
+    """The tables that programs of the gate print: the names of the columns, and the figures of each row by its name."""
+    for output in texts("crates/*/stdout").values():
+        for table in output.split("\n\n"):
+            header, *lines = table.strip("\n").split("\n")
+            columns = re.split(r" {2,}", header.strip())[1:]
+            if columns:
+                yield columns, list(rows_of(lines, len(columns)))
+
+
+def rows_of(lines, count):
+    """The rows of a table with so many figures."""
+    for line in lines:
+        parts = line.rsplit(None, count)
+        if len(parts) == count + 1:
+            yield parts[0].strip(), parts[1:]
+
+
+def prose(text):
+    """The lines of a page that stand in no block of code, with their numbers."""
+    lines = text.split("\n")
+    coded = set()
+    for first, block in blocks(text):
+        coded.update(range(first, first + len(block)))
+    return [(number, line) for number, line in enumerate(lines, 1) if number not in coded]
+
+
+def cells_of(line):
+    return [cell.strip().replace("`", "") for cell in line.strip().strip("|").split("|")]
+
+
+def tables(text):
+    """The tables of a page: the names of the columns after the first, and each row with the number of its line."""
+    columns, rows = None, []
+    for number, line in [*prose(text), (0, "")]:
+        if not line.startswith("|"):
+            if columns:
+                yield columns, rows
+            columns, rows = None, []
+        elif columns is None:
+            columns = cells_of(line)[1:]
+        elif not line.startswith("|--"):
+            rows.append((number, cells_of(line)))
+
+
+def wrong_figures(text, stored):
+    """The lines of tables that tell other figures than the gate has."""
+    for columns, rows in tables(text):
+        fitting = [(known, found) for known, found in stored if columns and set(columns) <= set(known)]
+        if not fitting:
+            continue
+        known_rows = [(name, [figures[known.index(it)] for it in columns]) for known, found in fitting for name, figures in found]
+        for number, (name, *figures) in rows:
+            if (name, [it.replace(",", "") for it in figures]) not in known_rows:
+                yield number, f"figures that no program of the gate prints: {name}"
+
+
+def anchor(heading):
+    """The name of a section in a link."""
+    return re.sub(r"[^\w\- ]", "", heading.lower()).replace(" ", "-")
+
+
+def headings(text):
+    return [line.lstrip("#").strip() for _, line in prose(text) if re.match(r"#+ ", line)]
+
+
+def wrong_links(page, text):
+    """The lines with a link that leads nowhere, or with the name of a page that is no link."""
+    for number, line in prose(text):
+        for _, target in LINK.findall(line):
+            if "://" in target:
+                continue
+            path, _, section = target.partition("#")
+            found = os.path.normpath(os.path.join(os.path.dirname(page), path)) if path else page
+            if not os.path.exists(found):
+                yield number, f"a link to nothing: {target}"
+            elif section and section not in [anchor(it) for it in headings(read(found))]:
+                yield number, f"a link to no section: {target}"
+        for name in PAGE.findall(LINK.sub("", line)):
+            if os.path.isfile(f"{TOP}/{name}") and f"{TOP}/{name}" != page:
+                yield number, f"a page that is no link: {name}"
+
+
+def missing_sections(text):
+    """The sections that a long page does not list."""
+    linked = [target for _, line in prose(text) for _, target in LINK.findall(line)]
+    parts = [line[3:].strip() for _, line in prose(text) if line.startswith("## ")]
+    if len(text.split()) > LONG:
+        yield from (f"not in its list of sections: {it}" for it in parts if f"#{anchor(it)}" not in linked)
+
+
 def main():
     sources = {
         "rows": list(rows_that_run()),
@@ -119,14 +217,19 @@ def main():
     }
     told_of = read(f"{TOP}/docs/testing.md")
     pages = [f"{TOP}/README.md", f"{TOP}/CONTRIBUTING.md", *sorted(glob.glob(f"{TOP}/docs/*.md"))]
+    stored = list(stored_tables())
     count, told = 0, 0
     for page in pages:
-        for number, block in blocks(read(page)):
+        text = read(page)
+        wrong = [*wrong_figures(text, stored), *wrong_links(page, text), *((1, it) for it in missing_sections(text))]
+        for number, block in blocks(text):
             count += 1
             if not is_run(block, sources) and f"`{block[0].strip()}`" not in told_of:
-                print(f"{os.path.relpath(page, TOP)}:{number}: not run, and not named in docs/testing.md: {block[0].strip()}")
-                told += 1
-    print(f"{count} blocks, {told} that nothing runs" if told else f"{count} blocks, all run or named")
+                wrong.append((number, f"not run, and not named in docs/testing.md: {block[0].strip()}"))
+        for number, what in sorted(wrong):
+            print(f"{os.path.relpath(page, TOP)}:{number}: {what}")
+        told += len(wrong)
+    print(f"{count} blocks, {told} faults" if told else f"{count} blocks, all run or named; tables and links as they should be")
     return 1 if told else 0
 
 

@@ -69,6 +69,11 @@ pub enum Call {
         descriptor: u64,
         length: u64,
     },
+    /// `write_file`: the file at a path, which is made or replaced, has exactly these bytes.
+    WriteFile {
+        path: Path,
+        bytes: Bytes,
+    },
     /// `rename`: what stands at `old` moves to `new`.
     Rename {
         old: Path,

@@ -31,6 +31,10 @@ pub enum Request<'a> {
         descriptor: u64,
         length: u64,
     },
+    WriteFile {
+        path: &'a Path,
+        bytes: &'a [u8],
+    },
     Rename {
         old: &'a Path,
         new: &'a Path,
@@ -120,6 +124,10 @@ impl Call {
             Call::Ftruncate { descriptor, length } => Request::Ftruncate {
                 descriptor: *descriptor,
                 length: *length,
+            },
+            Call::WriteFile { path, bytes } => Request::WriteFile {
+                path,
+                bytes: bytes.as_slice(),
             },
             Call::Rename { old, new } => Request::Rename { old, new },
             Call::Unlink { path } => Request::Unlink { path },

@@ -1,9 +1,10 @@
 -- What stands at each path of a tree, as a function, and the plain edits of it.
-use Rattle.std.specs.Prelude.{◌≡◌, ℕ, ◌+◌, ◌-◌, ◌/◌, min, max, nat_lt, Bool, true, false, Option, Some, None, is_some, IsSome, List, [], ◌∷◌, ◌++◌, length, take, replicate, drop, if◌then◌else◌}
+use Rattle.std.specs.Prelude.{◌≡◌, ℕ, ◌+◌, ◌-◌, ◌/◌, min, max, nat_lt, nat_eq, Bool, true, false, Option, Some, None, is_some, IsSome, List, [], ◌∷◌, ◌++◌, length, take, replicate, drop, if◌then◌else◌}
 use Rattle.std.specs.Option.{option_or}
 use Rattle.fs_types.specs.Names.{Name, Path, same_name, same_path}
 use Rattle.fs_types.specs.declared.fault.Fault.{Fault}
 use Rattle.fs_types.specs.declared.fault.Fault.TheVariants.{NoEntry, NotDirectory}
+use lib.Pointwise.{pointwise}
 
 -- a directory, or a file with its bytes (POSIX.1-2017)
 pub data Entry : Type 0 where
@@ -102,6 +103,10 @@ resized old n = take n old ++ replicate (n - length old) 0
 abbrev pub overwritten : List ℕ → ℕ → List ℕ → List ℕ
 overwritten old offset bytes = resized old offset ++ bytes ++ drop (offset + length bytes) old
 
+-- two files have the same bytes
+abbrev pub same_bytes : List ℕ → List ℕ → Bool
+same_bytes = pointwise nat_eq
+
 -- at most `count` bytes from `offset` on; fewer near the end
 abbrev pub read_from : List ℕ → ℕ → ℕ → List ℕ
 read_from bytes offset count = take count (drop offset bytes)
@@ -114,6 +119,10 @@ nodes_from capacity from n = (n - 1) / capacity - from / capacity + 1
 
 abbrev pub pwrite_need : ℕ → ℕ → ℕ → ℕ → ℕ
 pwrite_need capacity n offset count = nodes_from capacity (min offset n) (max n (offset + count))
+
+-- the body nodes of a file of so many bytes, which has none where it has no bytes
+abbrev pub body_need : ℕ → ℕ → ℕ
+body_need capacity count = if nat_lt 0 count then nodes_from capacity 0 count else 0
 
 abbrev pub ftruncate_need : ℕ → ℕ → ℕ → ℕ
 ftruncate_need capacity n m = if nat_lt n m then nodes_from capacity n m else 0

@@ -60,8 +60,8 @@ file_of (Call.Open path flags) = Some (record { path = path; flags = flags })
 file_of _ = None
 
 -- why so many bytes don't fit a file from an offset on; no bytes always do
-abbrev pub size_refusal : ℕ → List ℕ → Option Fault
-size_refusal offset bytes = if length bytes == 0 then None else if nat_lt MAX_FILE_BYTES (offset + length bytes) then Some TooBig else None
+abbrev pub range_refusal : ℕ → List ℕ → Option Fault
+range_refusal offset bytes = if length bytes == 0 then None else if nat_lt MAX_FILE_BYTES (offset + length bytes) then Some TooBig else None
 
 -- why a directory is not empty
 abbrev pub emptiness_refusal : Tree → Path → Option Fault

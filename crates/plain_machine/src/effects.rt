@@ -49,6 +49,11 @@ fn changes_tree(history: &History<Tree>, files: &OpenFiles, call: &Call) -> bool
         Call::Ftruncate { descriptor, length } => {
             ftruncate_changes(history.root(), files, *descriptor, *length)
         }
+        Call::WriteFile { path, bytes } => write_file_changes(
+            history.root(),
+            path,
+            bytes.as_slice(),
+        ),
         Call::Rename { old, new } => old != new,
         Call::Unlink { .. } => true,
         Call::Mkdir { .. } => true,
@@ -65,6 +70,15 @@ fn open_changes(tree: &Tree, path: &Path, flags: OpenFlags) -> bool
         return true;
     }
     flags.contains(OpenFlags::TRUNC) && !bytes_at(tree, path).is_empty()
+}
+
+fn write_file_changes(tree: &Tree, path: &Path, bytes: &[u8]) -> bool
+    ensures { result ≡ machine.write_file_changes tree.now path.now bytes.now }
+{
+    if tree.get(path.names()).is_none() {
+        return true;
+    }
+    bytes_at(tree, path) != bytes
 }
 
 fn pwrite_changes(files: &OpenFiles, descriptor: u64, bytes: &Bytes) -> bool
@@ -137,6 +151,7 @@ pub fn tree_after(
         Call::Ftruncate { descriptor, length } => {
             set_length(alloc, tree, files, *descriptor, *length)
         }
+        Call::WriteFile { path, bytes } => write_file(alloc, tree, path, bytes.as_slice()),
         Call::Rename { old, new } => move_path(alloc, tree, files, old, new),
         Call::Unlink { path } => Ok(Some(remove_path(tree, path)?)),
         Call::Mkdir { path } => Ok(Some(with_directory(tree, path)?)),
@@ -199,6 +214,20 @@ fn set_length(
     }
     let new = resize(alloc, old, length as usize)?;
     Ok(Some(with_file(tree, file.path(), new)?))
+}
+
+fn write_file(
+    alloc: Global,
+    tree: &Tree,
+    path: &Path,
+    bytes: &[u8],
+) -> Result<Option<Tree>, AllocError>
+    ensures { IfOk result (λ next. next ≡ machine.tree_after (machine_of_tree tree.now none_open) (Call.WriteFile path.now bytes.now)) }
+{
+    if !write_file_changes(tree, path, bytes) {
+        return Ok(None);
+    }
+    Ok(Some(with_file(tree, path, Vec::from_slice(alloc, bytes)?)?))
 }
 
 fn move_path(

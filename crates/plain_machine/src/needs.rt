@@ -58,7 +58,7 @@ fn pwrite_need(capacity: u64, size: u64, offset: u64, count: u64) -> u64
     nodes_from(capacity, offset.min(size), size.max(offset + count))
 }
 
-/// The nodes of a file's body that `ftruncate` writes.
+/// The nodes of a file's body that `ftruncate` writes: from no bytes on, those of a whole body.
 fn ftruncate_need(capacity: u64, size: u64, new: u64) -> u64
     requires { 0 < capacity }
     ensures { result ≡ min (contents.ftruncate_need capacity size new) u64.MAX }
@@ -91,6 +91,10 @@ pub fn change_need(
         Call::Mkdir { path } => path_need(before, after, path).saturating_add(1),
         Call::Unlink { path } => path_need(before, after, path),
         Call::Rmdir { path } => path_need(before, after, path),
+        Call::WriteFile { path, bytes } => {
+            let body = ftruncate_need(capacity, 0, bytes.as_slice().len() as u64);
+            body.saturating_add(path_need(before, after, path))
+        }
         Call::Rename { old, new } => {
             path_need(before, after, old).saturating_add(path_need(before, after, new))
         }

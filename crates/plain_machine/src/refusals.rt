@@ -7,7 +7,7 @@ ghost use Rattle.history_machine.specs.Descriptors as descriptors;
 ghost use Rattle.history_machine.specs.Machine as machine;
 ghost use Rattle.fs_types.specs.declared.call.Call.{Call};
 ghost use Rattle.fs_types.specs.declared.fault.Fault.{Fault};
-ghost use Rattle.plain_machine.specs.Plain.{machine_of_tree, machine_in, size_refusal, emptiness_refusal};
+ghost use Rattle.plain_machine.specs.Plain.{machine_of_tree, machine_in, range_refusal, emptiness_refusal};
 ghost use Rattle.history_machine.specs.Machine.{machine_with};
 
 use crate::groups::{seen_tree, working_tree};
@@ -38,6 +38,7 @@ pub fn refusal(
             bytes,
         } => pwrite_refusal(files, *descriptor, *offset, bytes),
         Call::Ftruncate { descriptor, length } => ftruncate_refusal(files, *descriptor, *length),
+        Call::WriteFile { path, bytes } => write_file_refusal(tree, files, path, bytes.as_slice()),
         Call::Rename { old, new } => rename_refusal(tree, files, old, new),
         Call::Unlink { path } => unlink_refusal(tree, files, path),
         Call::Mkdir { path } => mkdir_refusal(tree, path),
@@ -157,15 +158,15 @@ fn pwrite_refusal(files: &OpenFiles, descriptor: u64, offset: u64, bytes: &Bytes
 {
     match files.get(descriptor) {
         Some(file) if file.flags().contains(OpenFlags::WRITE) => {
-            size_refusal(offset, bytes.as_slice())
+            range_refusal(offset, bytes.as_slice())
         }
         _ => Some(Fault::BadDescriptor),
     }
 }
 
 /// Why so many bytes don't fit a file from an offset on; no bytes always do.
-fn size_refusal(offset: u64, bytes: &[u8]) -> Option<Fault>
-    ensures { result ≡ size_refusal offset bytes.now }
+fn range_refusal(offset: u64, bytes: &[u8]) -> Option<Fault>
+    ensures { result ≡ range_refusal offset bytes.now }
 {
     if bytes.is_empty() {
         return None;
@@ -190,6 +191,41 @@ fn ftruncate_refusal(files: &OpenFiles, descriptor: u64, length: u64) -> Option<
     }
     if length > MAX_LENGTH {
         return Some(Fault::TooBig);
+    }
+    None
+}
+
+fn write_file_refusal(tree: &Tree, files: &OpenFiles, path: &Path, bytes: &[u8]) -> Option<Fault>
+    ensures { result ≡ machine.write_file_refusal (machine_of_tree tree.now files.now) path.now bytes.now }
+{
+    if let Some(fault) = tree.lookup_refusal(path.names()) {
+        return Some(fault);
+    }
+    if let Some(fault) = write_place_refusal(tree, files, path) {
+        return Some(fault);
+    }
+    if bytes.len() as u64 > MAX_LENGTH {
+        return Some(Fault::TooBig);
+    }
+    None
+}
+
+/// A file that is not open may be replaced, and one that is missing made where there is room.
+fn write_place_refusal(tree: &Tree, files: &OpenFiles, path: &Path) -> Option<Fault>
+    ensures { result ≡ machine.write_place_refusal (machine_of_tree tree.now files.now) path.now (finmap.get tree.now path.now) }
+{
+    let Some(node) = tree.get(path.names()) else {
+        return if tree.is_full(parent(path.names())) {
+            Some(Fault::DirectoryFull)
+        } else {
+            None
+        };
+    };
+    if node.is_dir() {
+        return Some(Fault::IsDirectory);
+    }
+    if files.is_open(path) {
+        return Some(Fault::Busy);
     }
     None
 }

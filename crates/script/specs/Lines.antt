@@ -9,7 +9,7 @@ use Rattle.fs_types.specs.declared.fault.Fault.{Fault}
 use Rattle.fs_types.specs.declared.fault.Fault.TheVariants.{Invalid}
 use Rattle.fs_types.specs.declared.call.View.{View}
 use Rattle.fs_types.specs.declared.call.View.TheVariants.{Present, Serial, Checkpoint as checkpoint_view}
-use Rattle.fs_types.specs.declared.call.Call.TheVariants.{Open, Close, Pread, Pwrite, Ftruncate, Rename, Unlink, Mkdir, Rmdir, Fsync, Sync, Stat, List as list_call, ReadAt, Log, Df, Undo, Redo, Goto, Rollback, Forget, Checkpoint, RemoveCheckpoint, Begin, End, Abandon}
+use Rattle.fs_types.specs.declared.call.Call.TheVariants.{Open, Close, Pread, Pwrite, Ftruncate, WriteFile, Rename, Unlink, Mkdir, Rmdir, Fsync, Sync, Stat, List as list_call, ReadAt, Log, Df, Undo, Redo, Goto, Rollback, Forget, Checkpoint, RemoveCheckpoint, Begin, End, Abandon}
 use Rattle.script.specs.Kinds.{kinds}
 use Rattle.script.specs.Verbs.{verbs}
 use Rattle.script.specs.declared.verb.Verb.{Verb}
@@ -144,6 +144,14 @@ ftruncate_line words = do
   size ← well_formed (number_from parts.1)
   Ok (Call (Ftruncate descriptor size))
 
+abbrev pub write_line : List (List ℕ) → Result Line Misread
+write_line words = do
+  parts ← two_words words
+  spelled ← well_formed (text_from parts.0)
+  bytes ← well_formed (data_from parts.1)
+  path ← path_of spelled
+  Ok (Call (WriteFile path bytes))
+
 abbrev pub rename_line : List (List ℕ) → Result Line Misread
 rename_line words = do
   parts ← two_words words
@@ -193,6 +201,7 @@ asked Verb.Close words = only_number words >>= λ descriptor. Ok (Call (Close de
 asked Verb.Pread words = pread_line words
 asked Verb.Pwrite words = pwrite_line words
 asked Verb.Ftruncate words = ftruncate_line words
+asked Verb.Write words = write_line words
 asked Verb.Rename words = rename_line words
 asked Verb.Unlink words = only_path words >>= λ path. Ok (Call (Unlink path))
 asked Verb.Mkdir words = only_path words >>= λ path. Ok (Call (Mkdir path))

@@ -1,7 +1,7 @@
 //! Lines by the words after the first.
 ghost use Rattle.std.specs.Prelude.{◌≡◌, ◌≢◌, Ok, Err, IfOk, IfErr, map};
 ghost use Rattle.script.specs.declared.misread.Misread.TheVariants.{NoMemory};
-ghost use Rattle.script.specs.Lines.{fault_line, open_line, pread_line, pwrite_line, ftruncate_line, rename_line, read_line, only_number, only_path, lone_name, path_and_view, path_in_view, stat_line, list_line};
+ghost use Rattle.script.specs.Lines.{fault_line, open_line, pread_line, pwrite_line, ftruncate_line, write_line, rename_line, read_line, only_number, only_path, lone_name, path_and_view, path_in_view, stat_line, list_line};
 
 use crate::arguments::{
     named_view, one_word, one_word_and_view, parse_name, parse_path, three_words,
@@ -66,6 +66,18 @@ pub fn ftruncate(words: &[&[u8]]) -> Result<Line, Misread>
     let descriptor = number(descriptor)?;
     let length = number(length)?;
     Ok(Line::Call(Call::Ftruncate { descriptor, length }))
+}
+
+/// `write`: a path and data.
+pub fn write_file(alloc: Global, words: &[&[u8]]) -> Result<Line, Misread>
+    ensures ok { IfOk result (λ line. write_line (map (λ w. w.now) words.now) ≡ Ok line) }
+    ensures err { IfErr result (λ e. e ≢ NoMemory → write_line (map (λ w. w.now) words.now) ≡ Err e) }
+{
+    let (path, bytes) = two_words(words)?;
+    let path = text(alloc, path)?;
+    let bytes = data(alloc, bytes)?;
+    let path = parse_path(alloc, path.as_slice())?;
+    Ok(Line::Call(Call::WriteFile { path, bytes }))
 }
 
 /// `rename`: two paths.

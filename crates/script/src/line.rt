@@ -7,7 +7,7 @@ ghost use Rattle.script.specs.Lines.{alone, asked, line_of, line_of_words};
 use crate::arguments::no_words;
 use crate::forms::{
     fault, ftruncate, list, only_name, only_number, only_path, open, pread, pwrite, read, rename,
-    stat,
+    stat, write_file,
 };
 use crate::misread::Misread;
 use crate::verb::{Verb, verb_of};
@@ -55,6 +55,7 @@ fn line_by_verb(alloc: Global, verb: Verb, words: &[&[u8]]) -> Result<Line, Misr
         Verb::Pread => pread(words),
         Verb::Pwrite => pwrite(alloc, words),
         Verb::Ftruncate => ftruncate(words),
+        Verb::Write => write_file(alloc, words),
         Verb::Rename => rename(alloc, words),
         Verb::Unlink => only_path(alloc, words).map(|path| Line::Call(Call::Unlink { path })),
         Verb::Mkdir => only_path(alloc, words).map(|path| Line::Call(Call::Mkdir { path })),

@@ -14,6 +14,7 @@ pub enum Verb {
     Pread,
     Pwrite,
     Ftruncate,
+    Write,
     Rename,
     Unlink,
     Mkdir,
@@ -40,12 +41,13 @@ pub enum Verb {
     PlanFault,
 }
 
-const VERBS: [(&[u8], Verb); 29] = [
+const VERBS: [(&[u8], Verb); 30] = [
     (b"open", Verb::Open),
     (b"close", Verb::Close),
     (b"pread", Verb::Pread),
     (b"pwrite", Verb::Pwrite),
     (b"ftruncate", Verb::Ftruncate),
+    (b"write", Verb::Write),
     (b"rename", Verb::Rename),
     (b"unlink", Verb::Unlink),
     (b"mkdir", Verb::Mkdir),

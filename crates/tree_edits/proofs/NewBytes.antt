@@ -1,10 +1,10 @@
 -- The root of a tree with a file of other bytes: its body is written first, and then the path to it.
-use Rattle.std.proofs.Common.{◌≡◌, ◌⊎◌, ℕ, suc, ◌*◌, ◌≤◌, Bool, true, false, Option, Some, None, Result, Ok, List, [], ◌∷◌, length, refl, sym, ap, subst, ◌∙◌, inl, inr, arith, length-take}
-use Rattle.std.proofs.lemmas.Bool.{cases_Bool}
+use Rattle.std.proofs.Common.{◌≡◌, ◌⊎◌, ℕ, suc, ◌+◌, ◌-◌, ◌*◌, ◌/◌, ◌<◌, ◌≤◌, Bool, true, false, cond, min, max, Option, Some, None, Result, Ok, List, [], ◌∷◌, ◌++◌, length, append-nil, refl, sym, ap, subst, ◌∙◌, inl, inr, arith, length-take}
+use Rattle.std.proofs.lemmas.Bool.{cases_Bool, lt-ltb, le-ltb}
 use Rattle.std.specs.Prelude.{zero, Err, IfOk}
 use Rattle.std.specs.Option.{option_and_then}
 use Rattle.fs_types.specs.Names.{Path, is_path}
-use Rattle.plain_trees.specs.Contents.{Contents, Entry, read_from}
+use Rattle.plain_trees.specs.Contents.{Contents, Entry, read_from, overwritten, pwrite_need, body_need, nodes_from}
 use Rattle.plain_trees.specs.Trees.{put, bytes_of, bytes_of_file}
 use Rattle.fs_types.specs.declared.fault.Fault.{Fault}
 use Rattle.fs_types.specs.declared.fault.Fault.TheVariants.{FlashFull, ReadOnly, ReadFailed, PowerCut, NoMemory}
@@ -28,11 +28,14 @@ use Rattle.directory.specs.Lookups.{look_up, LeadsToDirectories}
 use Rattle.directory.specs.Trails.{IsChangeFault}
 use Rattle.directory.proofs.LookupLaws.{found_is, found_leads_file, rooted_leads}
 use Rattle.directory.proofs.NewDirectories.{rewritten_before}
+use native.Mathlib.Nat.{zero-div}
+use lib.Seq.{drop-nil}
+use Rattle.skip_list_file.specs.Reading.{HasDigits, nodes_between}
 use Rattle.skip_list_file.specs.Writing as bodies
 use Rattle.skip_list_file.specs.Writing.{IsWritten, IsWritingFault}
 use Rattle.skip_list_file.specs.declared.body.Body.{Body}
 use Rattle.tree_edits.specs.Edits.{TakesFile}
-use Rattle.tree_edits.specs.Roots.{IsNewRoot, IsWrittenNode}
+use Rattle.tree_edits.specs.Roots.{IsNewRoot, IsWrittenNode, IsFreshBody}
 use Rattle.tree_edits.proofs.Lookups.{path_within, no_directory}
 
 pub body_fault : (fault : Fault) → IsWritingFault fault → IsChangeFault fault
@@ -159,6 +162,30 @@ empty_written capacity f kept x none short = record {
 
 pub empty_from : (old : Blocks) (kept : ℕ → Bool) (from : ℕ) (mid : Blocks) (x : Body) → x.length ≡ 0 → IsFrom old kept from mid x
 empty_from old kept from mid x short root block names reached = let some = names.0 in absurd (omega arith)
+
+-- bytes written over none
+pub written_whole : (bytes : List ℕ) → overwritten [] 0 bytes ≡ bytes
+written_whole bytes = ap (λ (rest : List ℕ). bytes ++ rest) (drop-nil (0 + length bytes)) ∙ append-nil bytes
+
+pub whole_need : (capacity n : ℕ) → 0 < n → pwrite_need capacity 0 0 n ≡ body_need capacity n
+whole_need capacity n some =
+    let lo : min 0 0 ≡ 0 = omega arith in
+    let hi : max 0 (0 + n) ≡ n = omega arith in
+    (λ i. nodes_from capacity (lo i) (hi i)) ∙ sym (ap (λ b. cond b (nodes_from capacity 0 n) 0) (lt-ltb 0 n some))
+
+-- the head of an empty file has no binary digits, and no node holds bytes of it
+pub empty_digits : (capacity : ℕ) → HasDigits (head_index capacity 0) 0
+empty_digits capacity = let none : (0 - 1) / capacity ≡ 0 = zero-div capacity in (omega arith, omega (arith, none))
+
+pub empty_between : (capacity from : ℕ) → nodes_between capacity from 0 ≡ 0
+empty_between capacity from = ap (λ b. cond b ((0 - 1) / capacity + 1 - from / capacity) 0) (le-ltb from 0 (omega arith))
+
+-- a body that is written over none is new
+pub fresh_body : (capacity : ℕ) (old new : Blocks) (kept : ℕ → Bool) (x : Body) → bodies.BodyOnlyReaches capacity old new kept (record { head = 0; length = 0 }) x → IsFreshBody kept new x
+fresh_body capacity old new kept x only root block names reached = elim (only root block names reached) [
+  | inl before ↦ absurd (let some = before.1.0 in omega arith)
+  | inr fresh ↦ (fresh.0, inr (fresh.1.0, read_from (body capacity new x.head x.length) (fresh.1.0 * capacity) capacity, fresh.1.1))
+]
 
 -- ---- the file that is there
 

@@ -2,7 +2,7 @@
 use Rattle.std.specs.Prelude.{◌≡◌, ℕ, ◌+◌, ◌-◌, ◌*◌, ◌<◌, ◌≤◌, ◌&&◌, Bool, true, false, Some, Ok, List, [], length}
 use Rattle.fs_types.specs.declared.limits.TheConstants.{MAX_NAMES, MAX_FILE_BYTES}
 use Rattle.fs_types.specs.Names.{Path, is_path, same_path}
-use Rattle.plain_trees.specs.Contents.{Entry, Apart, parent_of, overwritten, resized, pwrite_need, ftruncate_need}
+use Rattle.plain_trees.specs.Contents.{Entry, Apart, parent_of, overwritten, resized, pwrite_need, ftruncate_need, body_need}
 use Rattle.plain_trees.specs.Trees.{Tree, put, remove, move, bytes_of_file}
 use Rattle.node_format.specs.Items.{is_place}
 use Rattle.node_format.specs.declared.place.Place.{Place}
@@ -53,6 +53,9 @@ IsEditable capacity f kept root (Edit.MakeDirectory path trail) =
 IsEditable capacity f kept root (Edit.PutEmptyFile path trail) =
     (is_path path.now ≡ true) × IsTrail f root path.now trail.now
     × (x : Found) × Finds f root path.now x × TakesFile x
+IsEditable capacity f kept root (Edit.WriteFile path trail bytes) =
+    (is_path path.now ≡ true) × IsTrail f root path.now trail.now
+    × (length bytes.now ≤ MAX_FILE_BYTES) × (x : Found) × Finds f root path.now x × TakesFile x
 IsEditable capacity f kept root (Edit.Overwrite path trail body offset bytes) =
     (is_path path.now ≡ true) × IsTrail f root path.now trail.now
     × Finds f root path.now (found.File body.head body.length) × (body.length ≤ MAX_FILE_BYTES)
@@ -75,6 +78,7 @@ with_file t path change = put t path (Entry.File (change (bytes_of_file t path))
 abbrev pub effect : (ℕ → Tree) → Edit → Tree → Tree
 effect trees (Edit.MakeDirectory path trail) t = put t path.now Entry.Dir
 effect trees (Edit.PutEmptyFile path trail) t = put t path.now (Entry.File [])
+effect trees (Edit.WriteFile path trail bytes) t = put t path.now (Entry.File bytes.now)
 effect trees (Edit.Overwrite path trail body offset bytes) t =
     with_file t path.now (λ old. overwritten old offset bytes.now)
 effect trees (Edit.SetLength path trail body size) t = with_file t path.now (λ old. resized old size)
@@ -93,6 +97,8 @@ source root _ = root
 abbrev pub edit_need : ℕ → Blocks → Edit → ℕ
 edit_need capacity f (Edit.MakeDirectory path trail) = path_nodes f trail.now path.now true 0 + 1
 edit_need capacity f (Edit.PutEmptyFile path trail) = path_nodes f trail.now path.now true 0
+edit_need capacity f (Edit.WriteFile path trail bytes) =
+    body_need capacity (length bytes.now) + path_nodes f trail.now path.now true 0
 edit_need capacity f (Edit.Overwrite path trail body offset bytes) =
     pwrite_need capacity body.length offset (length bytes.now) + path_nodes f trail.now path.now true 0
 edit_need capacity f (Edit.SetLength path trail body size) =
@@ -125,6 +131,8 @@ ReadsBody capacity size body_reads way before after =
 abbrev pub ReadsFew : ℕ → Blocks → Edit → ℕ → ℕ → Type 0
 ReadsFew capacity f (Edit.MakeDirectory path trail) before after = after ≤ before + way_reads f trail.now path.now
 ReadsFew capacity f (Edit.PutEmptyFile path trail) before after = after ≤ before + way_reads f trail.now path.now
+ReadsFew capacity f (Edit.WriteFile path trail bytes) before after =
+    after ≤ before + (1 + way_reads f trail.now path.now)
 ReadsFew capacity f (Edit.Overwrite path trail body offset bytes) before after =
     ReadsBody capacity body.length (overwrite_reads capacity body.length (offset + length bytes.now))
     (way_reads f trail.now path.now) before after

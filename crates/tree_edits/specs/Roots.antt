@@ -3,13 +3,14 @@ use Rattle.std.specs.Prelude.{◌≡◌, ◌⊎◌, ℕ, ◌-◌, Bool, true, fa
 use Rattle.fs_types.specs.declared.fault.Fault.{Fault}
 use Rattle.plain_trees.specs.Trees.{Tree}
 use Rattle.node_format.specs.Headers.{body_header}
-use Rattle.node_format.specs.declared.place.Place.TheVariants.{Dir}
+use Rattle.node_format.specs.declared.place.Place.TheVariants.{Dir, File}
 use Rattle.block_trees.specs.Bodies.{Blocks}
 use Rattle.block_trees.specs.Chains.{is_chained}
-use Rattle.block_trees.specs.Reached.{Reached, IsHeld}
+use Rattle.block_trees.specs.Reached.{Reached, IsHeld, PlaceNames}
 use Rattle.block_trees.specs.Trees.{IsRoot, root_tree}
 use Rattle.directory.specs.Trails.{IsChangeFault}
 use Rattle.skip_list_file.specs.Writing.{HoldsIndex}
+use Rattle.skip_list_file.specs.declared.body.Body.{Body}
 
 -- a node as it is written: one of a chain of a directory, or one of a body, with 0 in its zero field and in each slot that its
 -- index does not have
@@ -23,6 +24,12 @@ pub record IsNewRoot (capacity : ℕ) (old : Blocks) (kept : ℕ → Bool) (new 
   pub held : IsHeld new kept' (Dir to)
   pub shows : root_tree capacity new to ≡ tree
   pub reached : (block : ℕ) → Reached new (to ∷ []) block → Reached old (from ∷ []) block ⊎ ((kept block ≡ false) × IsWrittenNode (new block))
+
+-- each block that a body reaches was written, and not kept before
+abbrev pub IsFreshBody : (ℕ → Bool) → Blocks → Body → Type 0
+IsFreshBody kept new x =
+    (root block : ℕ) → PlaceNames (File x.head x.length) root → Reached new (root ∷ []) block
+    → (kept block ≡ false) × IsWrittenNode (new block)
 
 -- an edit of the tree of a root was applied, in the words of the trait `Nodes`: there is a new root with the edited tree; or it was
 -- refused with its cause

@@ -10,7 +10,7 @@ ghost use Rattle.tree_edits.specs.Roots.{IsNewRoot};
 
 use crate::edit::Edit;
 use crate::entries::{make, remove, rename};
-use crate::files::{overwrite, put_empty, resize};
+use crate::files::{overwrite, put_empty, resize, write_file};
 use fs_types::Fault;
 use node_store::Nodes;
 use std::alloc::Global;
@@ -47,6 +47,9 @@ pub fn apply<N: Nodes>(
     match edit {
         Edit::MakeDirectory { path, trail } => make(alloc, nodes, root, trail, path),
         Edit::PutEmptyFile { path, trail } => put_empty(alloc, nodes, root, trail, path),
+        Edit::WriteFile { path, trail, bytes } => {
+            write_file(alloc, nodes, root, trail, path, bytes)
+        }
         Edit::Overwrite {
             path,
             trail,

@@ -19,6 +19,12 @@ pub enum Edit<'p, 't> {
         path: &'p Path,
         trail: &'t Trail,
     },
+    /// Puts a file of these bytes where nothing stands, or in the place of a file.
+    WriteFile {
+        path: &'p Path,
+        trail: &'t Trail,
+        bytes: &'p [u8],
+    },
     /// Writes bytes, at least one, from `offset` on over those of a file, which has this body.
     Overwrite {
         path: &'p Path,

@@ -1,6 +1,6 @@
 //! Files with other bytes.
 ghost use Rattle.std.specs.Prelude.{◌≡◌, ℕ, ◌+◌, ◌-◌, ◌^◌, ◌≤◌, ◌<◌, true, false, length, Some, Ok, [], IfOk, IfErr};
-ghost use Rattle.plain_trees.specs.Contents.{Entry, overwritten, resized, pwrite_need, ftruncate_need};
+ghost use Rattle.plain_trees.specs.Contents.{Entry, overwritten, resized, pwrite_need, ftruncate_need, body_need};
 ghost use Rattle.plain_trees.specs.Trees.{bytes_of_file, put};
 ghost use Rattle.fs_types.specs.declared.limits.TheConstants.{MAX_FILE_BYTES};
 ghost use Rattle.fs_types.specs.Names.{is_path};
@@ -17,7 +17,9 @@ ghost use Rattle.directory.specs.Edits.{OnlyReaches};
 ghost use Rattle.directory.specs.Lookups.{look_up};
 ghost use Rattle.directory.specs.Trails.{IsSought, IsTrail, IsChangeFault};
 ghost use Rattle.tree_edits.specs.Edits.{TakesFile, overwrite_reads, resize_reads};
-ghost use Rattle.tree_edits.specs.Roots.{IsApplied};
+ghost use Rattle.tree_edits.specs.Roots.{IsApplied, IsFreshBody};
+ghost use Rattle.node_store.specs.Frames.{Works};
+ghost use Rattle.skip_list_file.specs.Writing.{IsWritten, IsWritingFault};
 ghost use Rattle.skip_list_file.specs.Reading.{HasDigits};
 
 use directory::{Trail, put_entry};
@@ -82,6 +84,55 @@ pub(crate) fn put_empty<N: Nodes>(
 {
     let body = Body { head: 0, length: 0 };
     put_body(alloc, nodes, root, trail, path, body)
+}
+
+/// A body of these bytes, beside those that are there.
+fn write_body<N: Nodes>(alloc: Global, nodes: &mut N, bytes: &[u8]) -> Result<Body, Fault>
+    requires sound { N.is_sound nodes.old }
+    requires fits { length bytes.now ≤ MAX_FILE_BYTES }
+
+    // The new body, and that all else stays.
+    ensures written { IfOk result (λ new. IsWritten (N.limit nodes.old - body_header) (N.node nodes.new) (N.kept nodes.new) new bytes.now) }
+    ensures fresh { IfOk result (IsFreshBody (N.kept nodes.old) (N.node nodes.new)) }
+    ensures keeps { Keeps (N.kept nodes.old) (N.node nodes.old) (N.kept nodes.new) (N.node nodes.new) }
+
+    // What it costs, and why it is refused.
+    ensures reads { N.reads nodes.new ≤ N.reads nodes.old + 1 }
+    ensures writes { N.writes nodes.new ≤ N.writes nodes.old + body_need (N.limit nodes.old - body_header) (length bytes.now) }
+    ensures refused { IfErr result (λ fault. IsWritingFault fault × N.causes nodes.old nodes.new fault) }
+    ensures works { Works N.follows N.is_sound N.limit N.blocks nodes.old nodes.new }
+{
+    let none = Body { head: 0, length: 0 };
+    if bytes.is_empty() {
+        return Ok(none);
+    }
+    write_range(alloc, nodes, none, 0, bytes)
+}
+
+/// Puts a file of these bytes at a path, where nothing stands in a directory with room, or a file.
+pub(crate) fn write_file<N: Nodes>(
+    alloc: Global,
+    nodes: &mut N,
+    root: u32,
+    trail: &Trail,
+    path: &Path,
+    bytes: &[u8],
+) -> Result<u32, Fault>
+    requires sound { N.is_sound nodes.old }
+    requires held { IsHeld (N.node nodes.old) (N.kept nodes.old) (Dir root) }
+    requires rooted { IsRoot (N.limit nodes.old - body_header) (N.node nodes.old) root }
+    requires lawful { is_path path.now ≡ true }
+    requires way { IsTrail (N.node nodes.old) root path.now trail.now }
+    requires fits { (x : Found) × (look_up (N.node nodes.old) root path.now ≡ Ok x) × TakesFile x }
+    requires short { length bytes.now ≤ MAX_FILE_BYTES }
+
+    // The edited tree, and how many nodes were written and read for it.
+    ensures applied { IsApplied N.limit N.node N.kept N.follows N.causes nodes.old nodes.new root (λ tree. put tree path.now (Entry.File bytes.now)) result }
+    ensures writes { N.writes nodes.new ≤ N.writes nodes.old + (body_need (N.limit nodes.old - body_header) (length bytes.now) + path_nodes (N.node nodes.old) trail.now path.now true 0) }
+    ensures reads { N.reads nodes.new ≤ N.reads nodes.old + (1 + path_nodes (N.node nodes.old) trail.now path.now false 0) }
+{
+    let new = write_body(alloc, nodes, bytes)?;
+    put_body(alloc, nodes, root, trail, path, new)
 }
 
 /// Writes bytes, at least one, from `offset` on over those of the file at a path, which has this

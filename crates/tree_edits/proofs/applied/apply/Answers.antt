@@ -12,6 +12,29 @@ returns-in-PutEmptyFile-clause-still g c = λ none.
     let some = file_below (g.N.Nodes.node c.args.nodes.now) c.args.root c.in-PutEmptyFile.path.now editable.2 editable.3 editable.4 in
     absurd (omega arith)
 
+pub returns-in-WriteFile-clause-still : goal.returns-in-WriteFile-clause-still
+returns-in-WriteFile-clause-still g c = λ none.
+    let editable = rw c.in-WriteFile.is at c.requires.editable in
+    let zero = rw c.in-WriteFile.is at none in
+    let long = path_nodes-long (g.N.Nodes.node c.args.nodes.now) c.in-WriteFile.trail.now c.in-WriteFile.path.now true 0 in
+    let some = file_below (g.N.Nodes.node c.args.nodes.now) c.args.root c.in-WriteFile.path.now editable.3 editable.4 editable.5 in
+    absurd (omega arith)
+
+pub returns-in-WriteFile-clause-keeps : goal.returns-in-WriteFile-clause-keeps
+returns-in-WriteFile-clause-keeps g c = record {
+  same = λ b kept. g.met.N.Nodes.same_node c.args.nodes.now c.write_file.new.nodes b c.requires.sound c.write_file.ensures.applied.came kept;
+  stays = λ b kept. g.met.N.Nodes.stays_kept c.args.nodes.now c.write_file.new.nodes b c.write_file.ensures.applied.came kept;
+}
+
+pub returns-in-WriteFile-clause-why : goal.returns-in-WriteFile-clause-why
+returns-in-WriteFile-clause-why g c = c.write_file.ensures.applied.why
+
+pub returns-in-WriteFile-clause-faults : goal.returns-in-WriteFile-clause-faults
+returns-in-WriteFile-clause-faults g c = c.write_file.ensures.applied.faults
+
+pub returns-in-WriteFile-clause-follows : goal.returns-in-WriteFile-clause-follows
+returns-in-WriteFile-clause-follows g c = c.write_file.ensures.applied.came
+
 pub returns-in-SetLength-clause-still : goal.returns-in-SetLength-clause-still
 returns-in-SetLength-clause-still g c = λ none.
     let editable = rw c.in-SetLength.is at c.requires.editable in

@@ -1,0 +1,180 @@
+#!/usr/bin/env python3
+"""Writes docs/proved.md from the doc comments of public functions and the names of their clauses.
+
+  tools/write_proved.py            writes the page
+  tools/write_proved.py --check    tells whether the page is as it would be written; its status is 1 where it is not
+
+For each library of crates.txt: what its root file says of it, and each public function with the first
+paragraph of its doc comment and the names of its clauses, in their groups. Of a function that does
+nothing and whose clauses are laws each law is told with the comment of its definition.
+"""
+import glob
+import os
+import re
+import sys
+
+TOP = os.path.dirname(os.path.dirname(os.path.abspath(__file__)))
+PAGE = f"{TOP}/docs/proved.md"
+HEAD = """# What is proved, crate by crate
+
+Every function is safe on every input that its `requires` allows, and returns. Beyond that its contract says what follows: here stand the public functions of each crate, each with what its doc comment says first, and in parentheses the names of the clauses of its contract that the checker has proved. What a word of them means stands in `specs/` of the crates, and [docs/definitions.md](definitions.md) walks through these.
+
+Not proved: that memory is there where a call wants it. Not promised: which of the histories that it may find a restart finds.
+
+`tools/write_proved.py` writes this page; [docs/testing.md](testing.md) tells what only tests show.
+"""
+FUNCTION = re.compile(r"^\s*(pub )?(?:const )?fn (\w+)")
+BLOCK = re.compile(r"^(pub )?(impl|trait)\b(.*?)\{?$")
+CLAUSE = re.compile(r"^\s*ensures (?:(\w+) )?\{ ?(.*)$")
+DEFINITION = re.compile(r"^(?:abbrev |record |data )?pub (?:abbrev |record |data )?(\w+)|^pub (?:record|data) (\w+)")
+
+
+def read(path):
+    with open(path, encoding="utf-8") as text:
+        return text.read()
+
+
+def libraries():
+    """The libraries of crates.txt, in its order."""
+    for line in read(f"{TOP}/crates.txt").splitlines():
+        name = line.split(":")[0].split()[0] if line.strip() and not line.startswith("#") else ""
+        if name and os.path.isfile(f"{TOP}/crates/{name}/src/lib.rt"):
+            yield name
+
+
+def comments():
+    """The comment of each definition of specs/, by its name."""
+    told = {}
+    for path in glob.glob(f"{TOP}/crates/*/specs/**/*.antt", recursive=True):
+        above = []
+        for line in read(path).splitlines():
+            if line.startswith("-- "):
+                above.append(line[3:].strip())
+                continue
+            found = DEFINITION.match(line)
+            if found and above:
+                told.setdefault(found.group(1) or found.group(2), " ".join(above))
+            above = []
+    return told
+
+
+def exported(root):
+    """The names that a root file hands out."""
+    named = re.findall(r"^pub use ([^;]+);", root, re.M)
+    return {it for use in named for it in re.findall(r"\w+", use)}
+
+
+def said(lines, mark):
+    """The first paragraph of a comment, as one line."""
+    words = []
+    for line in lines:
+        line = line.strip()[len(mark) :].strip()
+        if not line:
+            break
+        words.append(line)
+    return re.sub(r"\[(`[^`]+`)\](?:\([^)]*\))?", r"\1", " ".join(words))
+
+
+class Function:
+    def __init__(self, owner, name, doc):
+        self.name = f"{owner}::{name}" if owner else name
+        self.doc = doc
+        self.groups = []
+        self.bare = 0
+        self.laws = []
+
+    def take(self, line):
+        """Takes a line of the contract."""
+        found = CLAUSE.match(line)
+        if found:
+            name, what = found.groups()
+            if name:
+                self.groups = self.groups or [[]]
+                self.groups[-1].append(name)
+            else:
+                self.bare += 1
+            self.laws.append((name, re.findall(r"\b[A-Z]\w*Law\b", what)))
+        elif line.strip().startswith("// ") and self.groups != [[]]:
+            self.groups.append([])
+
+    def text(self, told):
+        """The lines of the page."""
+        names = "; ".join(", ".join(f"`{it}`" for it in group) for group in self.groups if group)
+        lines = [f"- `{self.name}`: {self.doc}" + (f" ({names})" if names else "")]
+        for name, laws in self.laws:
+            for law in laws:
+                if law in told:
+                    lines.append(f"  - `{law}`" + (f" (`{name}`)" if name else "") + f": {told[law]}.")
+        return lines
+
+
+def owner_of(head):
+    """The type or trait of a block, by its first line."""
+    head = re.sub(r"<[^<>]*(?:<[^<>]*(?:<[^<>]*>[^<>]*)*>[^<>]*)*>", "", head)
+    parts = re.findall(r"[A-Za-z_]\w*", head.split(" where ")[0].split(":")[0])
+    return parts[parts.index("for") + 1] if "for" in parts else (parts[0] if parts else "")
+
+
+def functions_in(path, names):
+    """The public functions of a file whose names, or the names of whose types, are handed out."""
+    owner, in_trait, doc, current = "", False, [], None
+    for line in read(path).splitlines():
+        block = BLOCK.match(line)
+        if block:
+            owner, in_trait, doc, current = owner_of(block.group(3)), block.group(2) == "trait", [], None
+            continue
+        if line == "}":
+            owner, in_trait = "", False
+        if line.strip().startswith("///"):
+            doc.append(line)
+            continue
+        found = FUNCTION.match(line)
+        if found:
+            current = None
+            inner = line.startswith(" ")
+            public = found.group(1) or (in_trait and inner)
+            if doc and public and (owner if inner else found.group(2)) in names:
+                current = Function(owner if inner else "", found.group(2), said(doc, "///"))
+                yield current
+        elif current and line.strip() in ("{", "{}"):
+            current = None
+        elif current:
+            current.take(line)
+        if line.strip() and not line.strip().startswith("#["):
+            doc = []
+
+
+def section(name, told):
+    """The section of a library, or nothing where it hands out no function."""
+    root = read(f"{TOP}/crates/{name}/src/lib.rt")
+    names = exported(root) | {it for it in re.findall(r"^pub fn (\w+)", root, re.M)}
+    lines = []
+    for path in sorted(glob.glob(f"{TOP}/crates/{name}/src/**/*.rt", recursive=True)):
+        for function in list(functions_in(path, names)):
+            if function.groups or function.bare:
+                lines += function.text(told)
+    about = said([it for it in root.splitlines() if it.startswith("//!")], "//!")
+    return [f"## `{name}`", about, "", *lines, ""] if lines else []
+
+
+def page():
+    told = comments()
+    lines = [line for name in libraries() for line in section(name, told)]
+    parts = [line[3:].replace("`", "") for line in lines if line.startswith("## ")]
+    listed = "Sections: " + " · ".join(f"[{it}](#{it})" for it in parts) + "."
+    return "\n".join([HEAD, listed, "", *lines]).rstrip("\n") + "\n"
+
+
+def main():
+    if sys.argv[1:] == ["--check"]:
+        if read(PAGE) == page():
+            return 0
+        print("docs/proved.md is not as tools/write_proved.py writes it")
+        return 1
+    with open(PAGE, "w", encoding="utf-8") as out:
+        out.write(page())
+    return 0
+
+
+if __name__ == "__main__":
+    sys.exit(main())

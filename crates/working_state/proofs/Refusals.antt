@@ -36,6 +36,7 @@ left_fits (Some fault) o fine = fine
 -- what is accepted was not refused before anything was looked up
 unlooked_none : (m : Machine) (call : Call) → refusal m call ≡ None → unlooked_refusal m call ≡ None
 unlooked_none m (Call.Open path flags) fine = first_fits (not (are_lawful flags)) Invalid _ fine
+unlooked_none m (Call.WriteFile path bytes) fine = refl
 unlooked_none m (Call.Rename old new) fine = refl
 unlooked_none m (Call.Unlink path) fine = refl
 unlooked_none m (Call.Mkdir path) fine = first_fits (length path == 0) Exists _ fine

@@ -58,6 +58,7 @@ facts_of (Call.Close descriptor) = record plain { still = true; light = true }
 facts_of (Call.Pread descriptor offset count) = record plain { looks = true }
 facts_of (Call.Pwrite descriptor offset bytes) = record plain { light = is_nothing bytes }
 facts_of (Call.Ftruncate descriptor length) = plain
+facts_of (Call.WriteFile path bytes) = plain
 facts_of (Call.Rename old new) = plain
 facts_of (Call.Unlink path) = plain
 facts_of (Call.Mkdir path) = plain

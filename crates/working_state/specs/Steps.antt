@@ -29,6 +29,7 @@ is_light call = (facts_of call).light
 -- the refusal of a call that comes before anything is looked up
 abbrev pub unlooked_refusal : Machine → Call → Option Fault
 unlooked_refusal m (Call.Open path flags) = if not (are_lawful flags) then Some Invalid else None
+unlooked_refusal m (Call.WriteFile path bytes) = None
 unlooked_refusal m (Call.Rename old new) = None
 unlooked_refusal m (Call.Unlink path) = None
 unlooked_refusal m (Call.Mkdir path) = if length path == 0 then Some Exists else None

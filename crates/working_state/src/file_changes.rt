@@ -39,7 +39,7 @@ const MOST_BYTES: u64 = MAX_FILE_BYTES as u64;
 
 impl State {
     /// Writes bytes at an offset of an open file, and answers how many.
-    pub(crate) fn write_file<F: Flash>(
+    pub(crate) fn write_open<F: Flash>(
         &mut self,
         alloc: Global,
         flash: &mut F,

@@ -78,7 +78,7 @@ fn readable(files: &OpenFiles, descriptor: u64) -> Result<&Path, Fault>
 }
 
 /// The bytes of the file that a path below a root leads to, from `offset` on, at most `count`.
-fn read_below<F: Flash>(
+pub(crate) fn read_below<F: Flash>(
     alloc: Global,
     flash: &mut F,
     storage: &mut Storage,

@@ -69,10 +69,13 @@ impl State {
                 offset,
                 bytes,
             } => self
-                .write_file(alloc, flash, descriptor, offset, bytes)
+                .write_open(alloc, flash, descriptor, offset, bytes)
                 .map(Reply::Count),
             Request::Ftruncate { descriptor, length } => {
                 empty_reply(self.resize_file(alloc, flash, descriptor, length))
+            }
+            Request::WriteFile { path, bytes } => {
+                empty_reply(self.write_file(alloc, flash, path, bytes))
             }
             Request::Rename { old, new } => empty_reply(self.move_entry(alloc, flash, old, new)),
             Request::Unlink { path } => empty_reply(self.remove_file(alloc, flash, path)),

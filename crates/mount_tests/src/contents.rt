@@ -1,185 +1,18 @@
 //! Contents that were put on a flash: what a mount answers of them, and what is mounted of them.
 use crate::mounts::{formatted, told};
-use crate::nodes::{Content, FULL, put, put_all};
 use crate::records::FRESH;
 use flash_model::{Geometry, SimFlash};
 use fs_types::Fault;
 use std::alloc::Global;
 use std::test::Fail;
 use undofs::Fs;
+use worked_contents::{CONTENT_ROWS, Content, put, put_all};
 
 const SIZES: Geometry = Geometry {
     page: 256,
     pages: 16,
     blocks: 32,
 };
-
-/// A content, what it is refused for, else the blocks that are reached, and how many reads a
-/// verification asks for at most.
-pub(crate) type Row = (&'static str, Content, Result<&'static [u32], Fault>, u64);
-
-const DAMAGED: Result<&[u32], Fault> = Err(Fault::Damaged);
-
-pub(crate) const ROWS: [Row; 21] = [
-    (
-        "a directory below itself",
-        Content::DirectoryBelowItself,
-        DAMAGED,
-        22,
-    ),
-    (
-        "names that ascend",
-        Content::Names(b"a", b"b"),
-        Ok(&[8, 9, 10]),
-        64,
-    ),
-    (
-        "names that descend",
-        Content::Names(b"b", b"a"),
-        DAMAGED,
-        20,
-    ),
-    ("one name twice", Content::Names(b"a", b"a"), DAMAGED, 20),
-    (
-        "a directory in a body node's block",
-        Content::FolderInBody,
-        DAMAGED,
-        62,
-    ),
-    (
-        "a head of index 0",
-        Content::File {
-            head: 9,
-            length: 2,
-            index: 0,
-        },
-        Ok(&[8, 9]),
-        62,
-    ),
-    (
-        "a head of index 1",
-        Content::File {
-            head: 9,
-            length: 2,
-            index: 1,
-        },
-        DAMAGED,
-        62,
-    ),
-    (
-        "length 2 and no head",
-        Content::File {
-            head: 0,
-            length: 2,
-            index: 0,
-        },
-        DAMAGED,
-        62,
-    ),
-    (
-        "length 0 and a head",
-        Content::File {
-            head: 9,
-            length: 0,
-            index: 0,
-        },
-        DAMAGED,
-        62,
-    ),
-    (
-        "no head and no byte",
-        Content::File {
-            head: 0,
-            length: 0,
-            index: 0,
-        },
-        Ok(&[8]),
-        62,
-    ),
-    (
-        "fewer bytes than the length",
-        Content::File {
-            head: 9,
-            length: 3,
-            index: 0,
-        },
-        DAMAGED,
-        62,
-    ),
-    (
-        "more bytes than the length",
-        Content::File {
-            head: 9,
-            length: 1,
-            index: 0,
-        },
-        Ok(&[8, 9]),
-        62,
-    ),
-    (
-        "a head that is a directory",
-        Content::File {
-            head: 10,
-            length: 2,
-            index: 0,
-        },
-        DAMAGED,
-        62,
-    ),
-    (
-        "a head past the flash",
-        Content::File {
-            head: 40,
-            length: 2,
-            index: 0,
-        },
-        DAMAGED,
-        62,
-    ),
-    (
-        "a pointer to index 0",
-        Content::Chain {
-            block: 10,
-            used: FULL,
-        },
-        Ok(&[8, 9, 10, 11]),
-        82,
-    ),
-    (
-        "a pointer to index 1",
-        Content::Chain {
-            block: 9,
-            used: FULL,
-        },
-        DAMAGED,
-        82,
-    ),
-    (
-        "a pointer to the head",
-        Content::Chain {
-            block: 11,
-            used: FULL,
-        },
-        DAMAGED,
-        82,
-    ),
-    (
-        "a first node that is not full",
-        Content::Chain { block: 10, used: 5 },
-        DAMAGED,
-        82,
-    ),
-    ("files with one head", Content::SharedHead, Ok(&[8, 9]), 44),
-    (
-        "16 levels",
-        Content::Levels(16),
-        Ok(&[
-            8, 9, 10, 11, 12, 13, 14, 15, 16, 17, 18, 19, 20, 21, 22, 23, 24,
-        ]),
-        20 * 17 + 2 * 512,
-    ),
-    ("17 levels", Content::Levels(17), DAMAGED, 20 * 18 + 2 * 544),
-];
 
 /// A formatted flash with this content.
 fn with_content(alloc: Global, content: Content) -> Result<SimFlash, Fault> {
@@ -196,7 +29,7 @@ fn refusal_of(alloc: Global, content: Content) -> Result<Option<Fault>, Fault> {
 
 #[test]
 fn trees_are_looked_at_whole(rt: HostRuntime) -> Result<(), Fail> {
-    for (name, content, wanted, _) in ROWS {
+    for (name, content, wanted, _) in CONTENT_ROWS {
         assert_eq!(rt; refusal_of(rt.alloc(), content)?, wanted.err(), "{name}");
     }
     Ok(())

@@ -1,4 +1,4 @@
-//! Tests of mounted systems: worked contents of a flash, what mounts make of them, reclaiming.
+//! Tests of mounted systems: what mounts make of worked contents of a flash, refusals, reclaiming.
 #![tactic(auto)]
 
 #[cfg(test)]
@@ -6,11 +6,7 @@ mod chains;
 #[cfg(test)]
 mod contents;
 #[cfg(test)]
-mod counted;
-#[cfg(test)]
 mod mounts;
-#[cfg(test)]
-mod nodes;
 #[cfg(test)]
 mod older_format;
 #[cfg(test)]
@@ -19,5 +15,3 @@ mod reclaiming;
 mod records;
 #[cfg(test)]
 mod refusals;
-#[cfg(test)]
-mod verifications;

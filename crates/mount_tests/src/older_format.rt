@@ -1,11 +1,11 @@
 //! A flash as the program of format 1 left it after `format`, `mkdir /a` and `sync`: five pages, the
 //! others erased.
 use crate::mounts::told;
-use crate::nodes::{put, put_page};
 use flash_model::{Flash, Geometry, PageView, SimFlash};
 use fs_types::Fault;
 use std::alloc::Global;
 use std::test::Fail;
+use worked_contents::{put, put_page};
 
 const SIZES: Geometry = Geometry {
     page: 256,

@@ -1,18 +1,10 @@
-//! Tests of scripts, sessions with restarts and cuts, image files and the program.
+//! Tests of scripts, sessions with restarts and cuts, and the program on files in memory.
 #![tactic(auto)]
 
 #[cfg(test)]
 mod counted_flash;
 #[cfg(test)]
-mod gets;
-#[cfg(test)]
-mod images;
-#[cfg(test)]
 mod programs;
-#[cfg(test)]
-mod puts;
-#[cfg(test)]
-mod replaced_files;
 #[cfg(test)]
 mod retries;
 #[cfg(test)]

@@ -3,9 +3,9 @@
 ghost use Rattle.std.specs.Prelude.{◌≡◌, codes};
 ghost use Rattle.std.specs.Str.{bytes_eq};
 
-use crate::images::{erased_image, fresh_image};
 use crate::scripts::{Broken, Full};
 use host_files::{FileFault, ImageFiles, MOST_BYTES, Source, SourceKind, Sources};
+use program_calls::{Wanted, call, erased_image, first_other, fresh_image, words_of};
 use shell::tool;
 use std::alloc::{AllocError, Global};
 use std::io::{Read, Write};
@@ -119,58 +119,15 @@ impl Sources for OneFile {
     }
 }
 
-fn words_of(alloc: Global, words: &[&str]) -> Result<Vec<String>, AllocError> {
-    let mut all = Vec::new(alloc);
-    for word in words {
-        all.push(String::from_str(alloc, word)?)?;
-    }
-    Ok(all)
-}
-
-/// What a call of the program gave.
-#[derive(Drop)]
-struct Outcome {
-    status: u8,
-    out: String,
-    err: String,
-}
-
-fn call<F: ImageFiles + Sources>(
-    files: &mut F,
-    alloc: Global,
-    words: &[&str],
-    script: &str,
-) -> Result<Outcome, Fail> {
-    let words = words_of(alloc, words)?;
-    let mut reader = script.as_bytes();
-    let mut out: Vec<u8> = Vec::new(alloc);
-    let mut err: Vec<u8> = Vec::new(alloc);
-    let status = tool(files, alloc, &words, &mut reader, &mut out, &mut err);
-    Ok(Outcome {
-        status,
-        out: String::from_utf8(out)?,
-        err: String::from_utf8(err)?,
-    })
-}
-
-/// A call of the program that is tried: its words, its input, and the status, output and messages that
-/// are wanted.
-pub(crate) type Wanted<'a> = (&'a [&'a str], &'a str, (u8, &'a str, &'a str));
-
 /// Asserts what calls of the program give, one after the other.
-pub(crate) fn assert_calls<R: Abort, F: ImageFiles + Sources>(
+fn assert_calls<R: Abort>(
     rt: &R,
-    files: &mut F,
+    files: &mut OneFile,
     alloc: Global,
     calls: &[Wanted<'_>],
 ) -> Result<(), Fail> {
-    for (words, script, wanted) in calls {
-        let given = call(files, alloc, words, script)?;
-        assert_eq!(rt;
-            (given.status, given.out.as_str(), given.err.as_str()),
-            *wanted
-        );
-    }
+    let other = first_other(files, alloc, calls)?;
+    assert!(rt; other.is_none(), "{other:?}");
     Ok(())
 }
 
@@ -213,6 +170,9 @@ fn what_was_synced_is_found_again(rt: HostRuntime) -> Result<(), Fail> {
     assert_calls(&rt, &mut files, rt.alloc(), &calls)
 }
 
+/// A format of an image that cannot be written.
+const UNWRITTEN: Wanted<'_> = (&["format", "x"], "", (1, "", "uffs: cannot write x\n"));
+
 #[test]
 fn a_refused_format_leaves_the_image(rt: HostRuntime) -> Result<(), Fail> {
     let alloc = rt.alloc();
@@ -229,7 +189,7 @@ fn a_refused_format_leaves_the_image(rt: HostRuntime) -> Result<(), Fail> {
     ];
     assert_calls(&rt, &mut files, alloc, &calls)?;
     files.is_full = true;
-    assert_unwritten(&rt, &mut files, alloc, "x")?;
+    assert_calls(&rt, &mut files, alloc, &[UNWRITTEN])?;
     assert_eq!(rt; files.bytes.as_slice(), fresh_image(alloc)?.as_slice());
     Ok(())
 }
@@ -319,7 +279,7 @@ fn an_image_in_use_is_told_before_the_script_is_read(rt: HostRuntime) -> Result<
         (1, "uffs: cannot write x\n", true)
     );
     assert_eq!(rt; (script.len(), out.len()), (14, 0));
-    assert_unwritten(&rt, &mut files, rt.alloc(), "x")
+    assert_calls(&rt, &mut files, rt.alloc(), &[UNWRITTEN])
 }
 
 #[test]
@@ -594,29 +554,4 @@ fn a_tree_that_cannot_be_written_is_told(rt: HostRuntime) -> Result<(), Fail> {
     assert_eq!(rt; (status, err.as_slice()), (1, &b"uffs: output\n"[..]));
     assert_eq!(rt; out.bytes.as_slice(), b"/d".as_slice());
     Ok(())
-}
-
-/// Asserts that the words that ask something of an image have it told as one that cannot be read, or
-/// cannot be written.
-pub(crate) fn assert_cannot<R: Abort, F: ImageFiles + Sources>(
-    rt: &R,
-    files: &mut F,
-    alloc: Global,
-    what: &str,
-    verb: &str,
-    name: &str,
-) -> Result<(), Fail> {
-    let text = format!(in alloc; "uffs: cannot {what} {name}\n")?;
-    let wanted = (1, "", text.as_str());
-    assert_calls(rt, files, alloc, &[(&[verb, name], "", wanted)])
-}
-
-/// Asserts that an image is told as one that cannot be written.
-pub(crate) fn assert_unwritten<R: Abort, F: ImageFiles + Sources>(
-    rt: &R,
-    files: &mut F,
-    alloc: Global,
-    name: &str,
-) -> Result<(), Fail> {
-    assert_cannot(rt, files, alloc, "write", "format", name)
 }

@@ -1,8 +1,6 @@
 //! Verification of roots on a flash in memory: what it answers, what it marks, and how many reads of
 //! nodes it asks.
-use crate::contents::ROWS;
 use crate::counted::Counted;
-use crate::nodes::{Content, put_all};
 use allocator::Marks;
 use bad_blocks::BadBlocks;
 use flash_model::{FaultKind, Flash, Geometry, PlannedFault, SimFlash};
@@ -12,6 +10,7 @@ use node_store::{Storage, Store};
 use reclaim::verify;
 use std::alloc::Global;
 use std::test::Fail;
+use worked_contents::{CONTENT_ROWS, Content, put_all};
 
 /// Blocks of one page, so that each node is one read of the flash where no node is kept.
 const SIZES: Geometry = Geometry {
@@ -96,7 +95,7 @@ pub(crate) fn is_told(told: &Outcome, wanted: Result<&[u32], Fault>, most_reads:
 
 #[test]
 fn trees_are_verified_in_few_reads(rt: HostRuntime) -> Result<(), Fail> {
-    for (name, content, wanted, most_reads) in ROWS {
+    for (name, content, wanted, most_reads) in CONTENT_ROWS {
         let told = told_of(rt.alloc(), content)?;
         assert!(rt; is_told(&told, wanted, most_reads), "{name}");
     }

@@ -5,7 +5,7 @@ use Rattle.node_store.specs.Stores.{IsSoundStore}
 use Rattle.node_store.specs.declared.storage.Storage.{Storage}
 use Rattle.node_store.specs.declared.store.Store.{Store}
 use Rattle.flash_model.specs.declared.sim_flash.SimFlash.{SimFlash}
-use Rattle.mount_tests.proofs.verifications.told.Goals as goal
+use Rattle.verification_tests.proofs.verifications.told.Goals as goal
 
 pub verify-answer-requires-clause-sound : goal.verify-answer-requires-clause-sound
 verify-answer-requires-clause-sound c =

@@ -1,8 +1,7 @@
 //! The program on the host's files: which it replaces, with which mode and past which links, and which
 //! it refuses.
-use crate::images::fresh_image;
-use crate::programs::{Wanted, assert_calls, assert_cannot, assert_unwritten};
-use host_files::{HostFiles, ImageFiles};
+use host_files::{HostFiles, ImageFiles, Sources};
+use program_calls::{Wanted, first_other, fresh_image};
 use std::alloc::Global;
 use std::fs::{File, Permissions};
 use std::os::unix::fs::{MetadataExt, PermissionsExt, symlink};
@@ -26,6 +25,40 @@ pub(crate) fn name_in(alloc: Global, folder: &str, word: &str) -> Result<String,
     Ok(format!(in alloc; "{folder}/{word}")?)
 }
 
+/// Asserts what calls of the program give, one after the other.
+pub(crate) fn assert_calls<R: Abort + AllocGlobal, F: ImageFiles + Sources>(
+    rt: &R,
+    files: &mut F,
+    calls: &[Wanted<'_>],
+) -> Result<(), Fail> {
+    let other = first_other(files, rt.alloc(), calls)?;
+    assert!(rt; other.is_none(), "{other:?}");
+    Ok(())
+}
+
+/// Asserts that the words that ask something of an image have it told as one that cannot be read, or
+/// cannot be written.
+fn assert_cannot<R: Abort + AllocGlobal, F: ImageFiles + Sources>(
+    rt: &R,
+    files: &mut F,
+    what: &str,
+    verb: &str,
+    name: &str,
+) -> Result<(), Fail> {
+    let text = format!(in rt.alloc(); "uffs: cannot {what} {name}\n")?;
+    let wanted = (1, "", text.as_str());
+    assert_calls(rt, files, &[(&[verb, name], "", wanted)])
+}
+
+/// Asserts that an image is told as one that cannot be written.
+fn assert_unwritten<R: Abort + AllocGlobal, F: ImageFiles + Sources>(
+    rt: &R,
+    files: &mut F,
+    name: &str,
+) -> Result<(), Fail> {
+    assert_cannot(rt, files, "write", "format", name)
+}
+
 /// Asserts that a name is formatted.
 fn assert_formatted<R: Abort + Files<File = File> + AllocGlobal>(
     rt: &R,
@@ -33,7 +66,7 @@ fn assert_formatted<R: Abort + Files<File = File> + AllocGlobal>(
 ) -> Result<(), Fail> {
     let words = ["format", name];
     let calls: [Wanted<'_>; 1] = [(&words, "", (0, "", ""))];
-    assert_calls(rt, &mut HostFiles::new(rt), rt.alloc(), &calls)
+    assert_calls(rt, &mut HostFiles::new(rt), &calls)
 }
 
 /// Asserts that an image which has no directory yet is changed, and no file stands beside it then.
@@ -46,7 +79,7 @@ fn assert_changed<R: Abort + Files<File = File> + AllocGlobal>(
         (&words, "mkdir /a\nsync\n", (0, "ok\nok\n", "")),
         (&words, "ls /\n", (0, "entries 1 a/\n", "")),
     ];
-    assert_calls(rt, &mut HostFiles::new(rt), rt.alloc(), &calls)?;
+    assert_calls(rt, &mut HostFiles::new(rt), &calls)?;
     assert_missing(rt, name, ".new")
 }
 
@@ -67,24 +100,16 @@ fn assert_refused<R: Abort + Files<File = File> + AllocGlobal>(
     name: &str,
 ) -> Result<(), Fail> {
     let mut files = HostFiles::new(rt);
-    let alloc = rt.alloc();
-    assert_cannot(rt, &mut files, alloc, "write", "format", name)?;
-    assert_cannot(rt, &mut files, alloc, "write", "run", name)?;
-    assert_cannot(rt, &mut files, alloc, "read", "check", name)
+    assert_cannot(rt, &mut files, "write", "format", name)?;
+    assert_cannot(rt, &mut files, "write", "run", name)?;
+    assert_cannot(rt, &mut files, "read", "check", name)
 }
 
 #[test]
 fn a_file_is_replaced_whole(rt: HostRuntime) -> Result<(), Fail> {
     let folder = folder_of(&rt, "whole")?;
     let name = name_in(rt.alloc(), folder.as_str(), "x")?;
-    assert_cannot(
-        &rt,
-        &mut HostFiles::new(&rt),
-        rt.alloc(),
-        "read",
-        "run",
-        name.as_str(),
-    )?;
+    assert_cannot(&rt, &mut HostFiles::new(&rt), "read", "run", name.as_str())?;
     assert_formatted(&rt, name.as_str())?;
     assert_missing(&rt, name.as_str(), ".new")?;
     let fresh = fresh_image(rt.alloc())?;
@@ -131,14 +156,14 @@ fn a_file_that_may_not_be_written_is_not_replaced(rt: HostRuntime) -> Result<(),
     let name = name.as_str();
     assert_formatted(&rt, name)?;
     fs::set_permissions(&rt, name, Permissions::from_mode(0o444))?;
-    assert_unwritten(&rt, &mut HostFiles::new(&rt), rt.alloc(), name)?;
+    assert_unwritten(&rt, &mut HostFiles::new(&rt), name)?;
     let told = format!(in rt.alloc(); "uffs: cannot write {name}\n")?;
     let words = ["run", name];
     let calls: [Wanted<'_>; 2] = [
         (&words, "mkdir /a\nsync\n", (1, "ok\nok\n", told.as_str())),
         (&words, "ls /\n", (0, "entries 0\n", "")),
     ];
-    assert_calls(&rt, &mut HostFiles::new(&rt), rt.alloc(), &calls)?;
+    assert_calls(&rt, &mut HostFiles::new(&rt), &calls)?;
     assert_missing(&rt, name, ".new")?;
     let found = fs::metadata(&rt, name)?.permissions().mode();
     assert_eq!(rt; found & 0o7777, 0o444);
@@ -159,7 +184,7 @@ fn what_stands_at_the_new_name_is_removed(rt: HostRuntime) -> Result<(), Fail> {
     assert_changed(&rt, name.as_str())?;
     assert_eq!(rt; fs::read(&rt, other.as_str())?.as_slice(), &b"other"[..]);
     fs::create_dir(&rt, new_name.as_str())?;
-    assert_unwritten(&rt, &mut HostFiles::new(&rt), rt.alloc(), name.as_str())?;
+    assert_unwritten(&rt, &mut HostFiles::new(&rt), name.as_str())?;
     assert!(rt; fs::metadata(&rt, new_name.as_str())?.is_dir());
     fs::remove_dir_all(&rt, folder.as_str())?;
     Ok(())
@@ -175,14 +200,7 @@ fn a_link_means_the_file_that_it_names(rt: HostRuntime) -> Result<(), Fail> {
     let first = name_in(rt.alloc(), folder.as_str(), "link")?;
     symlink(&rt, "x", second.as_str())?;
     symlink(&rt, "below/link", first.as_str())?;
-    assert_cannot(
-        &rt,
-        &mut HostFiles::new(&rt),
-        rt.alloc(),
-        "read",
-        "run",
-        first.as_str(),
-    )?;
+    assert_cannot(&rt, &mut HostFiles::new(&rt), "read", "run", first.as_str())?;
     assert_formatted(&rt, first.as_str())?;
     assert_changed(&rt, first.as_str())?;
     for link in [first.as_str(), second.as_str()] {
@@ -227,7 +245,7 @@ fn what_is_no_plain_file_is_refused(rt: HostRuntime) -> Result<(), Fail> {
     }
     assert_missing(&rt, below.as_str(), ".new")?;
     let missing = name_in(rt.alloc(), folder.as_str(), "none/x")?;
-    assert_unwritten(&rt, &mut HostFiles::new(&rt), rt.alloc(), missing.as_str())?;
+    assert_unwritten(&rt, &mut HostFiles::new(&rt), missing.as_str())?;
     let own = name_in(rt.alloc(), folder.as_str(), "own")?;
     symlink(&rt, "own", own.as_str())?;
     assert_refused(&rt, own.as_str())?;
@@ -246,7 +264,7 @@ fn a_run_that_only_reads_needs_no_writable_folder(rt: HostRuntime) -> Result<(),
     let words = ["run", name.as_str()];
     let reply = "entries 1 a/\nok\n";
     let calls: [Wanted<'_>; 1] = [(&words, "ls /\nundo\n", (0, reply, ""))];
-    assert_calls(&rt, &mut HostFiles::new(&rt), rt.alloc(), &calls)?;
+    assert_calls(&rt, &mut HostFiles::new(&rt), &calls)?;
     fs::set_permissions(&rt, folder.as_str(), Permissions::from_mode(0o755))?;
     assert_eq!(rt; fs::metadata(&rt, name.as_str())?.ino(), before);
     fs::remove_dir_all(&rt, folder.as_str())?;
@@ -263,11 +281,11 @@ fn an_image_in_use_is_not_run_or_replaced(rt: HostRuntime) -> Result<(), Fail> {
     let mut first = HostFiles::new(&rt);
     assert!(rt; first.claim(rt.alloc(), link.as_str()).is_ok());
     let mut files = HostFiles::new(&rt);
-    assert_unwritten(&rt, &mut files, rt.alloc(), name.as_str())?;
-    assert_cannot(&rt, &mut files, rt.alloc(), "write", "run", name.as_str())?;
+    assert_unwritten(&rt, &mut files, name.as_str())?;
+    assert_cannot(&rt, &mut files, "write", "run", name.as_str())?;
     let check = ["check", name.as_str()];
     let calls: [Wanted<'_>; 1] = [(&check, "", (0, "ok\n", ""))];
-    assert_calls(&rt, &mut files, rt.alloc(), &calls)?;
+    assert_calls(&rt, &mut files, &calls)?;
     drop(first);
     assert_changed(&rt, name.as_str())?;
     fs::remove_dir_all(&rt, folder.as_str())?;

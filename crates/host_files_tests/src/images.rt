@@ -1,79 +1,11 @@
 //! Rows of image files: bytes that are written out here, and what they are read as.
-use crate::scripts::formatted;
 use flash_image::{ImageFault, decode, encode};
-use flash_model::{Flash, Geometry, PageView, SimFlash};
+use flash_model::{Flash, PageView, SimFlash};
+use program_calls::{HEADER, NODE, RECORD, SIZES, erased_image, fresh_image, padded};
 use std::alloc::{AllocError, Global};
 use std::process::Abort;
 use std::test::Fail;
-
-/// The sizes that a flash has unless told.
-const SIZES: Geometry = Geometry {
-    page: 256,
-    pages: 16,
-    blocks: 32,
-};
-
-/// The header of an image of these sizes.
-const HEADER: [u8; 20] = [
-    0x55, 0x46, 0x46, 0x53, 0x49, 0x4d, 0x47, 0x31, 0x00, 0x01, 0x00, 0x00, 0x10, 0x00, 0x00, 0x00,
-    0x20, 0x00, 0x00, 0x00,
-];
-
-/// The first bytes of page 0 of a formatted flash, after which it has 184 bytes of 0.
-const RECORD: [u8; 72] = [
-    0x55, 0x46, 0x43, 0x52, 0x01, 0x00, 0x00, 0x00, 0x00, 0x00, 0x00, 0x00, 0x00, 0x00, 0x01, 0x00,
-    0x34, 0x00, 0x00, 0x00, 0x02, 0x00, 0x00, 0x00, 0x00, 0x01, 0x00, 0x00, 0x10, 0x00, 0x00, 0x00,
-    0x20, 0x00, 0x00, 0x00, 0x08, 0x00, 0x00, 0x00, 0x00, 0x01, 0x00, 0x00, 0x00, 0x00, 0x00, 0x00,
-    0x02, 0x00, 0x00, 0x00, 0x00, 0x00, 0x00, 0x00, 0x08, 0x00, 0x00, 0x00, 0x01, 0x00, 0x00, 0x00,
-    0x00, 0x00, 0x00, 0x00, 0x08, 0x00, 0x00, 0x00,
-];
-
-/// The first bytes of page 128 of a formatted flash, after which it has 252 bytes of 0.
-const NODE: [u8; 4] = [0x55, 0x46, 0x4e, 0x45];
-
-/// A page that begins with these bytes and goes on with 0.
-fn padded(front: &[u8]) -> [u8; 256] {
-    let mut page = [0; 256];
-    for (place, byte) in page.iter_mut().zip(front) {
-        *place = *byte;
-    }
-    page
-}
-
-/// Adds so many bytes of one kind.
-fn push_many(image: &mut Vec<u8>, byte: u8, count: usize) -> Result<(), AllocError> {
-    for _ in 0..count {
-        image.push(byte)?;
-    }
-    Ok(())
-}
-
-/// The image of a formatted flash as it is written out: no block worn, page 0 and page 128 with data, all
-/// others erased.
-pub(crate) fn fresh_image(alloc: Global) -> Result<Vec<u8>, AllocError> {
-    let mut image = Vec::new(alloc);
-    image.extend_from_slice(&HEADER)?;
-    push_many(&mut image, 0, 1)?;
-    push_many(&mut image, 1, 1)?;
-    image.extend_from_slice(&padded(&RECORD))?;
-    push_many(&mut image, 0, 15)?;
-    push_many(&mut image, 0, 7 * 17)?;
-    push_many(&mut image, 0, 1)?;
-    push_many(&mut image, 1, 1)?;
-    image.extend_from_slice(&padded(&NODE))?;
-    push_many(&mut image, 0, 15)?;
-    push_many(&mut image, 0, 23 * 17)?;
-    Ok(image)
-}
-
-/// The image of a flash of 16 blocks of 16 pages of 256 bytes, all erased.
-pub(crate) fn erased_image(alloc: Global) -> Result<Vec<u8>, AllocError> {
-    let mut image = Vec::new(alloc);
-    image.extend_from_slice(&HEADER[..16])?;
-    image.extend_from_slice(&[0x10, 0x00, 0x00, 0x00])?;
-    push_many(&mut image, 0, 16 * 17)?;
-    Ok(image)
-}
+use undofs::format;
 
 /// The bytes, with the one at a place changed.
 fn with_byte(alloc: Global, bytes: &[u8], place: usize, byte: u8) -> Result<Vec<u8>, AllocError> {
@@ -103,7 +35,8 @@ fn assert_fault<R: Abort>(rt: &R, alloc: Global, bytes: &[u8], fault: ImageFault
 fn a_formatted_flash_has_the_image_written_out(rt: HostRuntime) -> Result<(), Fail> {
     let image = fresh_image(rt.alloc())?;
     assert_eq!(rt; image.len(), 1076);
-    let flash = formatted(rt.alloc(), SIZES, 8)?;
+    let mut flash = SimFlash::new(rt.alloc(), SIZES, &[])?;
+    format(rt.alloc(), &mut flash, 8)?;
     let encoded = encode(rt.alloc(), &flash)?;
     assert_eq!(rt; encoded.as_slice(), image.as_slice());
     Ok(())

@@ -1,6 +1,5 @@
 //! Folders of the host that are put into an image.
-use crate::programs::assert_calls;
-use crate::replaced_files::{folder_of, name_in};
+use crate::replaced_files::{assert_calls, folder_of, name_in};
 use host_files::{HostFiles, Source, SourceKind, Sources};
 use std::fs;
 use std::fs::{File, Permissions};
@@ -34,12 +33,7 @@ pub(crate) fn assert_given<R: Abort + Files<File = File> + AllocGlobal>(
     script: &str,
     wanted: (u8, &str, &str),
 ) -> Result<(), Fail> {
-    assert_calls(
-        rt,
-        &mut HostFiles::new(rt),
-        rt.alloc(),
-        &[(words, script, wanted)],
-    )
+    assert_calls(rt, &mut HostFiles::new(rt), &[(words, script, wanted)])
 }
 
 /// Asserts that a folder is put, and what is told of it meanwhile.

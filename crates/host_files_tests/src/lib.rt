@@ -1,0 +1,11 @@
+//! Tests of the program on the host's files, and of the bytes of images.
+#![tactic(auto)]
+
+#[cfg(test)]
+mod gets;
+#[cfg(test)]
+mod images;
+#[cfg(test)]
+mod puts;
+#[cfg(test)]
+mod replaced_files;

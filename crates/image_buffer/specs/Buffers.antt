@@ -10,7 +10,7 @@ use Rattle.mounting.specs.Formats.{FormatCause}
 use Rattle.system.specs.Mounts.{IsMountOf}
 use Rattle.system.specs.declared.systems.System.{System}
 use Rattle.script_runs.specs.Flashes.{IsNewFlash, IsDecoded, IsMade}
-use Rattle.script_runs.specs.Scripts.{EndsOnSimFlash, IsUnmounted}
+use Rattle.script_runs.specs.Scripts.{streams_at, EndsOnSimFlash, IsUnmounted}
 use Rattle.script_runs.specs.declared.scripts.ScriptFault.{ScriptFault}
 use Rattle.image_buffer.specs.Faults.{buffer_fault_of_script}
 use Rattle.image_buffer.specs.declared.buffer_fault.BufferFault.{BufferFault}
@@ -63,7 +63,7 @@ BufferCheckEnds image (Err fault) = CheckRefusal image fault
 
 -- a script was run on the flash that bytes spell, and so ended, with the flash that is left and the replies
 abbrev pub BufferPlays : List ℕ → List ℕ → Result (Unit {0}) ScriptFault → SimFlash → List ℕ → Type 0
-BufferPlays image script result end replies = (start : SimFlash) × (left : Option (List ℕ)) × IsDecoded image start × EndsOnSimFlash start end (Some script) left result (Some []) (Some replies)
+BufferPlays image script result end replies = (start : SimFlash) × (left : Option (List ℕ)) × IsDecoded image start × EndsOnSimFlash start end (streams_at (Some script) (Some [])) result (streams_at left (Some replies))
 
 -- what a script leaves that ran to its end: the image of the flash, and the replies
 abbrev pub IsPlayed : List ℕ → List ℕ → Played → Type 0

@@ -16,7 +16,7 @@ use Rattle.system.specs.declared.systems.System.{System}
 use Rattle.undofs.specs.Sessions.{Stands, world}
 use Rattle.undofs.proofs.SessionSteps.{mount_begins, serve_law}
 use Rattle.script_runs.specs.Plans.{PlanGoesOn}
-use Rattle.script_runs.specs.Scripts.{Scene, event_of, RepliesBy, Replies, CarriesOut, Ground, IsRefusedOn, SessionOn, answer_text, answer_texts, HasTaken, EndsBy, EndsOnFlash, EndsOrStops, ScriptEndsOn, AreAccepted, AreAcceptedBefore, refusal_of}
+use Rattle.script_runs.specs.Scripts.{Scene, event_of, RepliesBy, Replies, CarriesOut, Ground, IsRefusedOn, SessionOn, answer_text, answer_texts, HasTaken, streams_at, EndsBy, EndsOnFlash, EndsOrStops, ScriptEndsOn, AreAccepted, AreAcceptedBefore, refusal_of}
 use Rattle.script_runs.specs.Turns.{Gets, Seat, seat_at, world_at, scene_at, DoesBy, Does, Writes, Carried, LinesEnd}
 use Rattle.script_runs.specs.declared.scripts.Refusal.{Refusal}
 use Rattle.script_runs.specs.declared.scripts.ScriptFault.{ScriptFault}
@@ -126,7 +126,7 @@ turns stop s input left old new t done line rest written answer u running (bytes
 
 pub ends_stopped : (stop : Bool) (s : Seat) (input left old new : Option (List ℕ)) (t : Seat) (done : ℕ) (line : Line) (rest written : Option (List ℕ)) (answer : LineAnswer) (u : Seat) (refusal : Refusal)
     → IsRunning stop s input left old new t done → Gets left rest (Ok (Some line)) → Does line t answer u → Writes new written answer (Ok tt)
-    → (if stop then refusal_of answer else None) ≡ Some refusal → LinesEnd stop s input rest (Ok (Some (record { line = done + 1; refusal = refusal }))) old written u
+    → (if stop then refusal_of answer else None) ≡ Some refusal → LinesEnd stop s (streams_at input old) (Ok (Some (record { line = done + 1; refusal = refusal }))) (streams_at rest written) u
 ends_stopped stop s input left old new t done line rest written answer u refusal running (bytes, takes, is) does writes stops =
     let step : Does (line_of bytes) t answer u = subst (λ (x : Line). Does x t answer u) is does in
     let why = stopped_by stop answer refusal stops in (
@@ -145,12 +145,12 @@ ends_stopped stop s input left old new t done line rest written answer u refusal
     )
 
 pub ends_at_end : (stop : Bool) (s : Seat) (input left old new : Option (List ℕ)) (t : Seat) (done : ℕ) (rest : Option (List ℕ))
-    → IsRunning stop s input left old new t done → Gets left rest (Ok None) → LinesEnd stop s input rest (Ok None) old new t
+    → IsRunning stop s input left old new t done → Gets left rest (Ok None) → LinesEnd stop s (streams_at input old) (Ok None) (streams_at rest new) t
 ends_at_end stop s input left old new t done rest running gets =
     (running.lines, running.answers, (running.carried, running.accepted), taken_all input running.lines left rest running.taken gets.0 gets.1, running.written)
 
 pub ends_unread : (stop : Bool) (s : Seat) (input left old new : Option (List ℕ)) (t : Seat) (done : ℕ) (rest : Option (List ℕ)) (fault : ScriptFault)
-    → IsRunning stop s input left old new t done → Gets left rest (Err fault) → LinesEnd stop s input rest (Err fault) old new t
+    → IsRunning stop s input left old new t done → Gets left rest (Err fault) → LinesEnd stop s (streams_at input old) (Err fault) (streams_at rest new) t
 ends_unread stop s input left old new t done rest (ScriptFault.Mount fault) running gets = absurd gets
 ends_unread stop s input left old new t done rest ScriptFault.Read running gets =
     (running.lines, running.answers, (running.carried, λ h. accepted_before running.answers (running.accepted h)), (left, running.taken, gets), running.written)
@@ -166,7 +166,7 @@ ends_unread stop s input left old new t done rest ScriptFault.Memory running get
 
 -- so many lines were carried out that no more are taken
 pub ends_after_all : (stop : Bool) (s : Seat) (input left old new : Option (List ℕ)) (t : Seat) (done : ℕ)
-    → IsRunning stop s input left old new t done → LinesEnd stop s input left (Err ScriptFault.Read) old new t
+    → IsRunning stop s input left old new t done → LinesEnd stop s (streams_at input old) (Err ScriptFault.Read) (streams_at left new) t
 ends_after_all stop s input left old new t done running = (
   running.lines,
   running.answers,
@@ -175,12 +175,12 @@ ends_after_all stop s input left old new t done running = (
   running.written,
 )
 
-pub ends_at_once : (stop : Bool) (s : Seat) (input old : Option (List ℕ)) → LinesEnd stop s input input (Err ScriptFault.Memory) old old s
+pub ends_at_once : (stop : Bool) (s : Seat) (input old : Option (List ℕ)) → LinesEnd stop s (streams_at input old) (Err ScriptFault.Memory) (streams_at input old) s
 ends_at_once stop s input old = inl ([], [], (none_carried s, λ h. tt), inl refl, Appends-nil old)
 
 pub ends_unwritten : (stop : Bool) (s : Seat) (input left old new : Option (List ℕ)) (t : Seat) (done : ℕ) (line : Line) (rest written : Option (List ℕ)) (answer : LineAnswer) (u : Seat) (fault : ScriptFault)
     → IsRunning stop s input left old new t done → Gets left rest (Ok (Some line)) → Does line t answer u → Writes new written answer (Err fault)
-    → LinesEnd stop s input rest (Err fault) old written u
+    → LinesEnd stop s (streams_at input old) (Err fault) (streams_at rest written) u
 ends_unwritten stop s input left old new t done line rest written answer u (ScriptFault.Mount fault) running gets does writes = absurd writes
 ends_unwritten stop s input left old new t done line rest written answer u ScriptFault.Read running gets does writes = absurd writes
 ends_unwritten stop s input left old new t done line rest written answer u ScriptFault.Write running gets does writes =
@@ -206,7 +206,7 @@ ends_unwritten stop s input left old new t done line rest written answer u Scrip
 
 -- where one account of what was carried out gives another, so does the end of a script
 pub ends_map : (P Q : List (List ℕ) → List LineAnswer → Type 0) (C D : Fault → Type 0) → ((lines : List (List ℕ)) (answers : List LineAnswer) → P lines answers → Q lines answers) → ((fault : Fault) → C fault → D fault)
-    → (input left : Option (List ℕ)) (result : Result (Unit {0}) ScriptFault) (old new : Option (List ℕ)) → EndsBy P C input left result old new → EndsBy Q D input left result old new
+    → (input left : Option (List ℕ)) (result : Result (Unit {0}) ScriptFault) (old new : Option (List ℕ)) → EndsBy P C (streams_at input old) result (streams_at left new) → EndsBy Q D (streams_at input old) result (streams_at left new)
 ends_map P Q C D f g input left (Ok done) old new h = (h.0, h.1, f h.0 h.1 h.2, h.3, h.4)
 ends_map P Q C D f g input left (Err (ScriptFault.Mount fault)) old new h = (g fault h.0, h.1, h.2)
 ends_map P Q C D f g input left (Err ScriptFault.Read) old new h = (h.0, h.1, f h.0 h.1 h.2, h.3, h.4)
@@ -216,7 +216,7 @@ ends_map P Q C D f g input left (Err ScriptFault.Memory) old new (inr h) = inr (
 
 -- so it does where the script may stop
 pub stops_map : (stop : Bool) (P Q : List (List ℕ) → List LineAnswer → Type 0) (C D : Fault → Type 0) → ((lines : List (List ℕ)) (answers : List LineAnswer) → P lines answers → Q lines answers) → ((fault : Fault) → C fault → D fault)
-    → (input left : Option (List ℕ)) (result : Result (Option Stop) ScriptFault) (old new : Option (List ℕ)) → EndsOrStops stop P C input left result old new → EndsOrStops stop Q D input left result old new
+    → (input left : Option (List ℕ)) (result : Result (Option Stop) ScriptFault) (old new : Option (List ℕ)) → EndsOrStops stop P C (streams_at input old) result (streams_at left new) → EndsOrStops stop Q D (streams_at input old) result (streams_at left new)
 stops_map stop P Q C D f g input left (Ok None) old new h =
     ends_map (λ lines answers. P lines answers × (IsTrue stop → AreAccepted answers)) (λ lines answers. Q lines answers × (IsTrue stop → AreAccepted answers)) C D (λ lines answers p. (f lines answers p.0, p.1)) g input left
     (Ok tt) old new h
@@ -227,13 +227,13 @@ stops_map stop P Q C D f g input left (Err fault) old new h =
     input left (Err fault) old new h
 
 -- a script that is not to stop ends as one does
-pub lenient_end : (start end : Ground) (input left : Option (List ℕ)) (at : Option Stop) (old new : Option (List ℕ)) → ScriptEndsOn false start end input left (Ok at) old new → EndsOnFlash start end input left (Ok tt) old new
+pub lenient_end : (start end : Ground) (input left : Option (List ℕ)) (at : Option Stop) (old new : Option (List ℕ)) → ScriptEndsOn false start end (streams_at input old) (Ok at) (streams_at left new) → EndsOnFlash start end (streams_at input old) (Ok tt) (streams_at left new)
 lenient_end start end input left None old new h =
     ends_map (λ lines answers. SessionOn start end lines answers × (IsTrue false → AreAccepted answers)) (SessionOn start end) (IsRefusedOn start end) (IsRefusedOn start end) (λ lines answers p. p.0) (λ fault cause. cause) input left
     (Ok tt) old new h
 lenient_end start end input left (Some at) old new h = absurd (true≢false (sym h.0))
 
-pub lenient_failure : (start end : Ground) (input left : Option (List ℕ)) (fault : ScriptFault) (old new : Option (List ℕ)) → ScriptEndsOn false start end input left (Err fault) old new → EndsOnFlash start end input left (Err fault) old new
+pub lenient_failure : (start end : Ground) (input left : Option (List ℕ)) (fault : ScriptFault) (old new : Option (List ℕ)) → ScriptEndsOn false start end (streams_at input old) (Err fault) (streams_at left new) → EndsOnFlash start end (streams_at input old) (Err fault) (streams_at left new)
 lenient_failure start end input left fault old new h =
     ends_map (λ lines answers. SessionOn start end lines answers × (IsTrue false → AreAcceptedBefore answers)) (SessionOn start end) (IsRefusedOn start end) (IsRefusedOn start end) (λ lines answers p. p.0) (λ fault cause. cause)
     input left (Err fault) old new h
@@ -241,7 +241,7 @@ lenient_failure start end input left fault old new h =
 -- the lines of a reader on what was mounted on a flash
 pub script_ends : (stop : Bool) (start mid end : Ground) (m : System) (s : Option System) (input left : Option (List ℕ)) (result : Result (Option Stop) ScriptFault) (old new : Option (List ℕ))
     → OnlyReads start.device mid.device → IsMountOf start.device mid.device m → IsSystem mid.device m → PlanGoesOn start.device.operations start.plan mid.device.operations mid.plan
-    → LinesEnd stop (seat_at mid.device (Some m) mid.plan) input left result old new (seat_at end.device s end.plan) → ScriptEndsOn stop start end input left result old new
+    → LinesEnd stop (seat_at mid.device (Some m) mid.plan) (streams_at input old) result (streams_at left new) (seat_at end.device s end.plan) → ScriptEndsOn stop start end (streams_at input old) result (streams_at left new)
 script_ends stop start mid end m s input left result old new reads begins system plan h =
     stops_map stop (Carried (seat_at mid.device (Some m) mid.plan) (seat_at end.device s end.plan)) (SessionOn start end) (λ fault. ⊥) (IsRefusedOn start end) session (λ fault none. absurd none) input left result old new h
   where

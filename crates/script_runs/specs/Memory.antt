@@ -8,7 +8,7 @@ use Rattle.flash_model.specs.declared.geometry.Geometry.{Geometry}
 use Rattle.mounting.specs.Formats.{IsFormatted, ListsFailed, IsNumbered, FormatCause}
 use Rattle.script_runs.specs.Flashes.{IsNewFlash, IsFormatOf}
 use Rattle.script_runs.specs.Plans.{FollowsPlan}
-use Rattle.script_runs.specs.Scripts.{EndsBy, IsUnmounted, LineSession}
+use Rattle.script_runs.specs.Scripts.{Streams, EndsBy, IsUnmounted, LineSession}
 use Rattle.script.specs.declared.line_answer.LineAnswer.{LineAnswer}
 use Rattle.script_runs.specs.declared.scripts.ScriptFault.{ScriptFault}
 
@@ -32,5 +32,5 @@ NewCause sizes fault = (fault ≡ Fault.NoMemory)
     ⊎ ((start : SimFlash) × (formatted : SimFlash) × (end : SimFlash) × IsNewFlash sizes start × IsFormatOf kept_versions start formatted × IsUnmounted formatted end fault))
 
 -- how a script ends on a new flash of its own
-abbrev pub EndsInMemory : Geometry → Option (List ℕ) → Option (List ℕ) → Result (Unit {0}) ScriptFault → Option (List ℕ) → Option (List ℕ) → Type 0
-EndsInMemory sizes input left result old new = EndsBy (NewSession sizes) (NewCause sizes) input left result old new
+abbrev pub EndsInMemory : Geometry → Streams → Result (Unit {0}) ScriptFault → Streams → Type 0
+EndsInMemory sizes before result after = EndsBy (NewSession sizes) (NewCause sizes) before result after

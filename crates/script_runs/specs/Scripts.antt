@@ -94,18 +94,30 @@ HasTakenPart old lines new = (rest : Option (List ℕ)) × HasTaken old lines re
 abbrev pub HasTakenMore : Option (List ℕ) → List (List ℕ) → Option (List ℕ) → Type 0
 HasTakenMore old lines new = HasTaken old lines new ⊎ ((line : List ℕ) × HasTaken old (lines ++ line ∷ []) new)
 
+-- what is left to be read, and what was written so far, where they are known
+pub record Streams : Type 0 where
+  pub input : Option (List ℕ)
+  pub out : Option (List ℕ)
+
+abbrev pub streams_at : Option (List ℕ) → Option (List ℕ) → Streams
+streams_at input out = record { input = input; out = out }
+
 -- how a script ends, where Session says which lines were carried out with which answers, and Cause why no system was made:
 -- all of the input was read and answered; or the reader failed after these lines; or the writer failed in the last answer;
 -- or memory was wanted, before a line was carried out or before its answer was written; or there was no system for its
 -- cause, and nothing was read or written
-abbrev pub EndsBy : (List (List ℕ) → List LineAnswer → Type 0) → (Fault → Type 0) → Option (List ℕ) → Option (List ℕ) → Result (Unit {0}) ScriptFault → Option (List ℕ) → Option (List ℕ) → Type 0
-EndsBy Session Cause input left (Ok done) old new = (lines : List (List ℕ)) × (answers : List LineAnswer) × Session lines answers × HasTakenAll input lines left × Appends old new (answer_texts answers)
-EndsBy Session Cause input left (Err ScriptFault.Read) old new = (lines : List (List ℕ)) × (answers : List LineAnswer) × Session lines answers × HasTakenPart input lines left × Appends old new (answer_texts answers)
-EndsBy Session Cause input left (Err ScriptFault.Write) old new = (lines : List (List ℕ)) × (earlier : List LineAnswer) × (last : LineAnswer) × (n : ℕ) × Session lines (earlier ++ last ∷ []) × HasTaken input lines left × Appends old new (answer_texts earlier ++ take n (answer_text last))
-EndsBy Session Cause input left (Err ScriptFault.Memory) old new =
-    ((lines : List (List ℕ)) × (answers : List LineAnswer) × Session lines answers × HasTakenMore input lines left × Appends old new (answer_texts answers))
-    ⊎ ((lines : List (List ℕ)) × (earlier : List LineAnswer) × (last : LineAnswer) × Session lines (earlier ++ last ∷ []) × HasTaken input lines left × Appends old new (answer_texts earlier))
-EndsBy Session Cause input left (Err (ScriptFault.Mount fault)) old new = Cause fault × (left ≡ input) × (new ≡ old)
+abbrev pub EndsBy : (List (List ℕ) → List LineAnswer → Type 0) → (Fault → Type 0) → Streams → Result (Unit {0}) ScriptFault → Streams → Type 0
+EndsBy Session Cause before (Ok done) after =
+    (lines : List (List ℕ)) × (answers : List LineAnswer) × Session lines answers × HasTakenAll before.input lines after.input × Appends before.out after.out (answer_texts answers)
+EndsBy Session Cause before (Err ScriptFault.Read) after =
+    (lines : List (List ℕ)) × (answers : List LineAnswer) × Session lines answers × HasTakenPart before.input lines after.input × Appends before.out after.out (answer_texts answers)
+EndsBy Session Cause before (Err ScriptFault.Write) after =
+    (lines : List (List ℕ)) × (earlier : List LineAnswer) × (last : LineAnswer) × (n : ℕ) × Session lines (earlier ++ last ∷ []) × HasTaken before.input lines after.input
+    × Appends before.out after.out (answer_texts earlier ++ take n (answer_text last))
+EndsBy Session Cause before (Err ScriptFault.Memory) after =
+    ((lines : List (List ℕ)) × (answers : List LineAnswer) × Session lines answers × HasTakenMore before.input lines after.input × Appends before.out after.out (answer_texts answers))
+    ⊎ ((lines : List (List ℕ)) × (earlier : List LineAnswer) × (last : LineAnswer) × Session lines (earlier ++ last ∷ []) × HasTaken before.input lines after.input × Appends before.out after.out (answer_texts earlier))
+EndsBy Session Cause before (Err (ScriptFault.Mount fault)) after = Cause fault × (after.input ≡ before.input) × (after.out ≡ before.out)
 
 -- a flash, and the faults that are planned for it, where any can be
 pub record Ground : Type 0 where
@@ -149,8 +161,8 @@ abbrev pub IsRefusedOn : Ground → Ground → Fault → Type 0
 IsRefusedOn start end fault = IsLeft start.device end.device fault × PlanGoesOn start.device.operations start.plan end.device.operations end.plan
 
 -- how a script ends that found and leaves these flashes
-abbrev pub EndsOnFlash : Ground → Ground → Option (List ℕ) → Option (List ℕ) → Result (Unit {0}) ScriptFault → Option (List ℕ) → Option (List ℕ) → Type 0
-EndsOnFlash start end input left result old new = EndsBy (SessionOn start end) (IsRefusedOn start end) input left result old new
+abbrev pub EndsOnFlash : Ground → Ground → Streams → Result (Unit {0}) ScriptFault → Streams → Type 0
+EndsOnFlash start end before result after = EndsBy (SessionOn start end) (IsRefusedOn start end) before result after
 
 -- the same of flashes in memory
 abbrev pub LineSession : SimFlash → SimFlash → List (List ℕ) → List LineAnswer → Type 0
@@ -159,7 +171,7 @@ LineSession start end = SessionOn (ground start) (ground end)
 abbrev pub IsUnmounted : SimFlash → SimFlash → Fault → Type 0
 IsUnmounted start end fault = IsLeft (device_of start) (device_of end) fault
 
-abbrev pub EndsOnSimFlash : SimFlash → SimFlash → Option (List ℕ) → Option (List ℕ) → Result (Unit {0}) ScriptFault → Option (List ℕ) → Option (List ℕ) → Type 0
+abbrev pub EndsOnSimFlash : SimFlash → SimFlash → Streams → Result (Unit {0}) ScriptFault → Streams → Type 0
 EndsOnSimFlash start end = EndsOnFlash (ground start) (ground end)
 
 -- how an answer refuses its line
@@ -180,21 +192,21 @@ AreAcceptedBefore (answer ∷ []) = Unit {0}
 AreAcceptedBefore (answer ∷ next ∷ answers) = (refusal_of answer ≡ None) × AreAcceptedBefore (next ∷ answers)
 
 -- a script stopped at the first line that was refused, whose answer is written: the lines after it were not read
-abbrev pub StopsAt : (List (List ℕ) → List LineAnswer → Type 0) → Option (List ℕ) → Option (List ℕ) → Stop → Option (List ℕ) → Option (List ℕ) → Type 0
-StopsAt Session input left stop old new =
+abbrev pub StopsAt : (List (List ℕ) → List LineAnswer → Type 0) → Streams → Stop → Streams → Type 0
+StopsAt Session before stop after =
     (lines : List (List ℕ)) × (earlier : List LineAnswer) × (last : LineAnswer) × Session lines (earlier ++ last ∷ []) × AreAccepted earlier
-    × (refusal_of last ≡ Some stop.refusal) × (stop.line ≡ length lines) × HasTaken input lines left × Appends old new (answer_texts (earlier ++ last ∷ []))
+    × (refusal_of last ≡ Some stop.refusal) × (stop.line ≡ length lines) × HasTaken before.input lines after.input × Appends before.out after.out (answer_texts (earlier ++ last ∷ []))
 
 -- how a script ends that may stop at the first line that is refused: where it was to, no line before the last was refused
-abbrev pub EndsOrStops : Bool → (List (List ℕ) → List LineAnswer → Type 0) → (Fault → Type 0) → Option (List ℕ) → Option (List ℕ) → Result (Option Stop) ScriptFault → Option (List ℕ) → Option (List ℕ) → Type 0
-EndsOrStops stop Session Cause input left (Ok None) old new = EndsBy (λ lines answers. Session lines answers × (IsTrue stop → AreAccepted answers)) Cause input left (Ok tt) old new
-EndsOrStops stop Session Cause input left (Ok (Some at)) old new = IsTrue stop × StopsAt Session input left at old new
-EndsOrStops stop Session Cause input left (Err fault) old new = EndsBy (λ lines answers. Session lines answers × (IsTrue stop → AreAcceptedBefore answers)) Cause input left (Err fault) old new
+abbrev pub EndsOrStops : Bool → (List (List ℕ) → List LineAnswer → Type 0) → (Fault → Type 0) → Streams → Result (Option Stop) ScriptFault → Streams → Type 0
+EndsOrStops stop Session Cause before (Ok None) after = EndsBy (λ lines answers. Session lines answers × (IsTrue stop → AreAccepted answers)) Cause before (Ok tt) after
+EndsOrStops stop Session Cause before (Ok (Some at)) after = IsTrue stop × StopsAt Session before at after
+EndsOrStops stop Session Cause before (Err fault) after = EndsBy (λ lines answers. Session lines answers × (IsTrue stop → AreAcceptedBefore answers)) Cause before (Err fault) after
 
-abbrev pub ScriptEndsOn : Bool → Ground → Ground → Option (List ℕ) → Option (List ℕ) → Result (Option Stop) ScriptFault → Option (List ℕ) → Option (List ℕ) → Type 0
-ScriptEndsOn stop start end input left result old new = EndsOrStops stop (SessionOn start end) (IsRefusedOn start end) input left result old new
+abbrev pub ScriptEndsOn : Bool → Ground → Ground → Streams → Result (Option Stop) ScriptFault → Streams → Type 0
+ScriptEndsOn stop start end before result after = EndsOrStops stop (SessionOn start end) (IsRefusedOn start end) before result after
 
-abbrev pub ScriptEnds : Bool → SimFlash → SimFlash → Option (List ℕ) → Option (List ℕ) → Result (Option Stop) ScriptFault → Option (List ℕ) → Option (List ℕ) → Type 0
+abbrev pub ScriptEnds : Bool → SimFlash → SimFlash → Streams → Result (Option Stop) ScriptFault → Streams → Type 0
 ScriptEnds stop start end = ScriptEndsOn stop (ground start) (ground end)
 
 -- the events that lines ask for

@@ -14,7 +14,7 @@ use Rattle.system.specs.declared.systems.System.{System}
 use Rattle.undofs.specs.Runs.{World}
 use Rattle.undofs.specs.Sessions.{Stands, world, Serves}
 use Rattle.script_runs.specs.Plans.{PlanGoesOn}
-use Rattle.script_runs.specs.Scripts.{Scene, event_of, IsStillAnswer, CarriesOut, EndsOrStops, answer_text}
+use Rattle.script_runs.specs.Scripts.{Scene, event_of, IsStillAnswer, CarriesOut, Streams, EndsOrStops, answer_text}
 use Rattle.script_runs.specs.declared.scripts.ScriptFault.{ScriptFault}
 use Rattle.script_runs.specs.declared.scripts.Stop.{Stop}
 
@@ -64,5 +64,5 @@ Carried s t lines answers = (found : List (Past Tree)) → Stands (world_at s fo
     → (more : List (Past Tree)) × CarriesOut (scene_at s found) lines answers (scene_at t more) × Stands (world_at t more)
 
 -- how the lines of a reader end
-abbrev pub LinesEnd : Bool → Seat → Option (List ℕ) → Option (List ℕ) → Result (Option Stop) ScriptFault → Option (List ℕ) → Option (List ℕ) → Seat → Type 0
-LinesEnd stop s input left result old new t = EndsOrStops stop (Carried s t) (λ fault. ⊥) input left result old new
+abbrev pub LinesEnd : Bool → Seat → Streams → Result (Option Stop) ScriptFault → Streams → Seat → Type 0
+LinesEnd stop s before result after t = EndsOrStops stop (Carried s t) (λ fault. ⊥) before result after

@@ -1,5 +1,6 @@
 //! A script run on a flash of its own, with no image.
 ghost use Rattle.script_runs.specs.Memory.{EndsInMemory, memory_sizes};
+ghost use Rattle.script_runs.specs.Scripts.{streams_at};
 
 use crate::following::format_as_planned;
 use crate::scripts::{ScriptFault, run_script};
@@ -14,7 +15,7 @@ pub fn run_in_memory<R: Read, W: Write>(
     reader: &mut R,
     out: &mut W,
 ) -> Result<(), ScriptFault>
-    ensures { EndsInMemory memory_sizes (R.remaining reader.old) (R.remaining reader.new) result (W.contents out.old) (W.contents out.new) }
+    ensures { EndsInMemory memory_sizes (streams_at (R.remaining reader.old) (W.contents out.old)) result (streams_at (R.remaining reader.new) (W.contents out.new)) }
 {
     let mut flash = match SimFlash::new(alloc, DEFAULT_SIZES, &[]) {
         Ok(flash) => flash,

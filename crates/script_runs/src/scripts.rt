@@ -1,7 +1,7 @@
 //! A script run on a flash.
 ghost use Rattle.std.specs.Prelude.{◌≡◌, IfSome, Some, None, if◌then◌else◌};
 ghost use Rattle.system.specs.Systems.{IsSystem};
-ghost use Rattle.script_runs.specs.Scripts.{EndsOnFlash, ScriptEndsOn, ground_at, with_plan, unplanned, refusal_of};
+ghost use Rattle.script_runs.specs.Scripts.{EndsOnFlash, ScriptEndsOn, ground_at, with_plan, unplanned, streams_at, refusal_of};
 ghost use Rattle.script_runs.specs.Turns.{Gets, seat_at, Does, Writes, LinesEnd};
 
 use crate::planning::{Followed, Planning, Unplanned};
@@ -62,7 +62,7 @@ pub fn run_script<F: Planned, R: Read, W: Write>(
     writer: &mut W,
     flash: &mut F,
 ) -> Result<(), ScriptFault>
-    ensures ends { EndsOnFlash (with_plan (F.device flash.old) (F.schedule flash.old)) (with_plan (F.device flash.new) (F.schedule flash.new)) (R.remaining reader.old) (R.remaining reader.new) result (W.contents writer.old) (W.contents writer.new) }
+    ensures ends { EndsOnFlash (with_plan (F.device flash.old) (F.schedule flash.old)) (with_plan (F.device flash.new) (F.schedule flash.new)) (streams_at (R.remaining reader.old) (W.contents writer.old)) result (streams_at (R.remaining reader.new) (W.contents writer.new)) }
 {
     match run_script_until(alloc, reader, writer, flash, false) {
         Ok(_) => Ok(()),
@@ -78,7 +78,7 @@ pub fn run_script_on<F: Flash, R: Read, W: Write>(
     writer: &mut W,
     flash: &mut F,
 ) -> Result<(), ScriptFault>
-    ensures ends { EndsOnFlash (unplanned (F.device flash.old)) (unplanned (F.device flash.new)) (R.remaining reader.old) (R.remaining reader.new) result (W.contents writer.old) (W.contents writer.new) }
+    ensures ends { EndsOnFlash (unplanned (F.device flash.old)) (unplanned (F.device flash.new)) (streams_at (R.remaining reader.old) (W.contents writer.old)) result (streams_at (R.remaining reader.new) (W.contents writer.new)) }
 {
     match run_until::<F, Unplanned, R, W>(alloc, reader, writer, flash, false) {
         Ok(_) => Ok(()),
@@ -95,7 +95,7 @@ pub fn run_script_until<F: Planned, R: Read, W: Write>(
     flash: &mut F,
     stop: bool,
 ) -> Result<Option<Stop>, ScriptFault>
-    ensures ends { ScriptEndsOn stop (with_plan (F.device flash.old) (F.schedule flash.old)) (with_plan (F.device flash.new) (F.schedule flash.new)) (R.remaining reader.old) (R.remaining reader.new) result (W.contents writer.old) (W.contents writer.new) }
+    ensures ends { ScriptEndsOn stop (with_plan (F.device flash.old) (F.schedule flash.old)) (with_plan (F.device flash.new) (F.schedule flash.new)) (streams_at (R.remaining reader.old) (W.contents writer.old)) result (streams_at (R.remaining reader.new) (W.contents writer.new)) }
 {
     run_until::<F, Followed, R, W>(alloc, reader, writer, flash, stop)
 }
@@ -108,7 +108,7 @@ fn run_until<F: Flash, P: Planning<F>, R: Read, W: Write>(
     flash: &mut F,
     stop: bool,
 ) -> Result<Option<Stop>, ScriptFault>
-    ensures ends { ScriptEndsOn stop (ground_at (F.device flash.old) (P.plan flash.old)) (ground_at (F.device flash.new) (P.plan flash.new)) (R.remaining reader.old) (R.remaining reader.new) result (W.contents writer.old) (W.contents writer.new) }
+    ensures ends { ScriptEndsOn stop (ground_at (F.device flash.old) (P.plan flash.old)) (ground_at (F.device flash.new) (P.plan flash.new)) (streams_at (R.remaining reader.old) (W.contents writer.old)) result (streams_at (R.remaining reader.new) (W.contents writer.new)) }
 {
     let mut system = match P::mount(alloc, flash) {
         Ok(mounted) => Some(mounted),
@@ -129,7 +129,7 @@ fn run_lines<F: Flash, P: Planning<F>, R: Read, W: Write>(
 ) -> Result<Option<Stop>, ScriptFault>
     requires { IfSome system.old (IsSystem (F.device flash.old)) }
     ensures mounted { IfSome system.new (IsSystem (F.device flash.new)) }
-    ensures ends { LinesEnd stop (seat_at (F.device flash.old) system.old (P.plan flash.old)) (R.remaining reader.old) (R.remaining reader.new) result (W.contents writer.old) (W.contents writer.new) (seat_at (F.device flash.new) system.new (P.plan flash.new)) }
+    ensures ends { LinesEnd stop (seat_at (F.device flash.old) system.old (P.plan flash.old)) (streams_at (R.remaining reader.old) (W.contents writer.old)) result (streams_at (R.remaining reader.new) (W.contents writer.new)) (seat_at (F.device flash.new) system.new (P.plan flash.new)) }
 {
     let mut lines = match LineReader::new(alloc) {
         Ok(lines) => lines,

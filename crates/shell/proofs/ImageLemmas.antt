@@ -16,7 +16,8 @@ use Rattle.system.specs.declared.systems.System.{System}
 use Rattle.shell.specs.Failures.{of_system}
 use Rattle.host_files.specs.Files.{Held, AreBytesRead}
 use Rattle.script_runs.specs.Flashes.{IsNewFlash, AreLawful, IsDecoded, IsMade}
-use Rattle.shell.specs.Tools.{DecodeCause, IsUnclaimed, IsUnread, IsSpelledFlash, LoadCause, IsImageFile, Unsaved, SavesChange, ChangeUnsaved, FormatEnds, FormatFailure, PlaysBy, Plays, RunEnds, CheckEnds}
+use Rattle.shell.specs.Tools.{DecodeCause, IsUnclaimed, IsUnread, IsSpelledFlash, LoadCause, IsImageFile, Unsaved, SavesChange, ChangeUnsaved, FormatEnds, FormatFailure, PlaysBy, Plays, host_at, RunEnds, CheckEnds}
+use Rattle.script_runs.specs.Scripts.{streams_at}
 use Rattle.shell.specs.declared.failure.Failure.{Failure}
 
 -- a limit that is not refused
@@ -75,22 +76,22 @@ cause_unread held (Failure.System fault) cause = absurd cause
 
 -- a script is run on the flash of the bytes that are read of a file
 pub plays_front : (stop : Bool) (held : Option (List ℕ)) (bytes : List ℕ) → AreBytesRead held bytes → (input left : Option (List ℕ)) (result : Result SimFlash Failure) (old new : Option (List ℕ))
-    → PlaysBy stop (IsDecoded bytes) (DecodeCause bytes) input left result old new → Plays stop held input left result old new
+    → PlaysBy stop (IsDecoded bytes) (DecodeCause bytes) (streams_at input old) result (streams_at left new) → Plays stop held (streams_at input old) result (streams_at left new)
 plays_front stop held bytes front input left (Ok end) old new (start, decoded, ends) = (start, loaded_front held bytes front start decoded, ends)
 plays_front stop held bytes front input left (Err failure) old new (inl (cause, unread, unwritten)) = inl (cause_front held bytes front failure cause, unread, unwritten)
 plays_front stop held bytes front input left (Err failure) old new (inr (start, end, ended, decoded, ends, is)) = inr (start, end, ended, loaded_front held bytes front start decoded, ends, is)
 
 -- a run ends so whatever the files hold that were claimed, since a claim changes none
 after_claim : (stop : Bool) (name : List ℕ) (IsClaimed : List ℕ → Type 0) (held claimed saved : Held) (input left : Option (List ℕ)) (result : Result (Unit {0}) Failure) (old new : Option (List ℕ))
-    → claimed ≡ held → RunEnds stop name IsClaimed claimed saved input left result old new → RunEnds stop name IsClaimed held saved input left result old new
+    → claimed ≡ held → RunEnds stop name IsClaimed (host_at claimed input old) result (host_at saved left new) → RunEnds stop name IsClaimed (host_at held input old) result (host_at saved left new)
 after_claim stop name IsClaimed held claimed saved input left result old new same ends =
-    subst (λ (h : Held). RunEnds stop name IsClaimed h saved input left result old new) same ends
+    subst (λ (h : Held). RunEnds stop name IsClaimed (host_at h input old) result (host_at saved left new)) same ends
 
 -- what a script leaves is saved where it changed
 pub run_saved : (stop : Bool) (name : List ℕ) (IsClaimed : List ℕ → Type 0) (held claimed saved : Held) (bytes kept : List ℕ) (input left : Option (List ℕ)) (end : SimFlash) (result : Result (Unit {0}) Failure) (old new : Option (List ℕ))
-    → claimed ≡ held → IsClaimed bytes → AreBytesRead (claimed name) bytes → PlaysBy stop (IsDecoded bytes) (DecodeCause bytes) input left (Ok end) old new → kept ≡ bytes
+    → claimed ≡ held → IsClaimed bytes → AreBytesRead (claimed name) bytes → PlaysBy stop (IsDecoded bytes) (DecodeCause bytes) (streams_at input old) (Ok end) (streams_at left new) → kept ≡ bytes
     → OnOk result (SavesChange name claimed saved kept (image_of (device_of end))) → IfErr result (ChangeUnsaved name claimed saved kept (image_of (device_of end)))
-    → RunEnds stop name IsClaimed held saved input left result old new
+    → RunEnds stop name IsClaimed (host_at held input old) result (host_at saved left new)
 run_saved stop name IsClaimed held claimed saved bytes kept input left end (Ok done) old new same held_so front (start, decoded, ends) is ok err =
     after_claim stop name IsClaimed held claimed saved input left (Ok done) old new same (
       start,
@@ -112,19 +113,19 @@ run_saved stop name IsClaimed held claimed saved bytes kept input left end (Err 
 
 -- a script that does not run to its end changes no file
 pub run_broken : (stop : Bool) (name : List ℕ) (IsClaimed : List ℕ → Type 0) (held claimed : Held) (bytes : List ℕ) (input left : Option (List ℕ)) (failure : Failure) (old new : Option (List ℕ))
-    → claimed ≡ held → AreBytesRead (claimed name) bytes → PlaysBy stop (IsDecoded bytes) (DecodeCause bytes) input left (Err failure) old new
-    → RunEnds stop name IsClaimed held claimed input left (Err failure) old new
+    → claimed ≡ held → AreBytesRead (claimed name) bytes → PlaysBy stop (IsDecoded bytes) (DecodeCause bytes) (streams_at input old) (Err failure) (streams_at left new)
+    → RunEnds stop name IsClaimed (host_at held input old) (Err failure) (host_at claimed left new)
 run_broken stop name IsClaimed held claimed bytes input left failure old new same front plays =
     after_claim stop name IsClaimed held claimed claimed input left (Err failure) old new same (inl (inr (plays_front stop (claimed name) bytes front input left (Err failure) old new plays), refl))
 
 -- nor does one of which the image is not claimed, or not read
 run_unread : (stop : Bool) (name : List ℕ) (IsClaimed : List ℕ → Type 0) (held claimed : Held) (input : Option (List ℕ)) (failure : Failure) (old : Option (List ℕ))
-    → claimed ≡ held → IsUnread (claimed name) failure → RunEnds stop name IsClaimed held claimed input input (Err failure) old old
+    → claimed ≡ held → IsUnread (claimed name) failure → RunEnds stop name IsClaimed (host_at held input old) (Err failure) (host_at claimed input old)
 run_unread stop name IsClaimed held claimed input failure old same unread =
     after_claim stop name IsClaimed held claimed claimed input input (Err failure) old old same (inl (inr (inl (cause_unread (claimed name) failure unread, refl, refl)), refl))
 
 pub run_untaken : (stop : Bool) (name : List ℕ) (IsClaimed : List ℕ → Type 0) (held claimed : Held) (input : Option (List ℕ)) (failure : Failure) (old : Option (List ℕ))
-    → claimed ≡ held → IsUnclaimed failure ⊎ IsUnread (claimed name) failure → RunEnds stop name IsClaimed held claimed input input (Err failure) old old
+    → claimed ≡ held → IsUnclaimed failure ⊎ IsUnread (claimed name) failure → RunEnds stop name IsClaimed (host_at held input old) (Err failure) (host_at claimed input old)
 run_untaken stop name IsClaimed held claimed input failure old same (inl unclaimed) = inl (inl (unclaimed, refl, refl), same)
 run_untaken stop name IsClaimed held claimed input failure old same (inr unread) = run_unread stop name IsClaimed held claimed input failure old same unread
 

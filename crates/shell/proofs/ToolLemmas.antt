@@ -12,8 +12,8 @@ use Rattle.jobs.specs.declared.tasks.Job.{Job}
 use Rattle.jobs.specs.declared.tasks.Task.{Task}
 use Rattle.shell.specs.Failures.{of_script, failure_status, job_status, fault_status}
 use Rattle.host_files.specs.Files.{Held}
-use Rattle.host_files.specs.Sources.{Gathered}
-use Rattle.shell.specs.Tools.{Claimed, EndsAlone, EndsFor, MemoryEnds, MemoryBy, ToolEnds, refused_status, is_memory}
+use Rattle.script_runs.specs.Scripts.{streams_at}
+use Rattle.shell.specs.Tools.{Host, Known, streams_of, EndsAlone, EndsFor, MemoryEnds, MemoryBy, ToolEnds, refused_status, is_memory}
 use Rattle.shell.specs.declared.failure.Failure.{Failure}
 use Rattle.script_runs.specs.declared.scripts.ScriptFault.{ScriptFault}
 use Rattle.shell.proofs.MemoryWords.{memory_fault, memory_given}
@@ -102,23 +102,23 @@ said_memory job says =
     no_image job.image (says.image.none (ap has_no_image (said_command job says)))
 
 ended : (input left : Option (List ℕ)) (result : Result (Unit {0}) Failure) (status : ℕ) (old new : Option (List ℕ))
-    → MemoryEnds input left result old new → status ≡ job_status result → MemoryBy input left status old new
+    → MemoryEnds (streams_at input old) result (streams_at left new) → status ≡ job_status result → MemoryBy (streams_at input old) status (streams_at left new)
 ended input left (Ok done) status old new ends is = (Ok tt, ends, is)
 ended input left (Err failure) status old new ends is = (Err ends.0, ends.1, is ∙ ap failure_status ends.2 ∙ script_status ends.0)
 
 -- the word `memory` is understood
-pub memory_ends : (words : List (List ℕ)) (IsClaimed : Claimed) (held saved : Held) (gathered : Gathered) (input left : Option (List ℕ)) (status : ℕ) (old new : Option (List ℕ))
-    → ToolEnds words IsClaimed held saved gathered input left status old new → IsTrue (is_memory words) → MemoryBy input left status old new
-memory_ends words IsClaimed held saved gathered input left status old new (inl h) memory =
+pub memory_ends : (words : List (List ℕ)) (known : Known) (before : Host) (status : ℕ) (after : Host) → ToolEnds words known before status after → IsTrue (is_memory words)
+    → MemoryBy (streams_of before) status (streams_of after)
+memory_ends words known before status after (inl h) memory =
     let is : words ≡ codes "memory" ∷ [] = memory_words words memory in
     let says : SaysJob (Some (codes "memory", [])) h.0 = subst (λ o. SaysJob o h.0) (ap given is ∙ memory_given) h.2 in
-    let ends = subst (λ (image : Option (Bor (List ℕ))). EndsFor image h.0 IsClaimed held saved gathered input left h.1 old new) (said_memory h.0 says) h.3 in
-    let alone = subst (λ (task : Task). EndsAlone task h.0 held saved input left h.1 old new) (said_command h.0 says) ends in
-    ended input left h.1 status old new alone.0 h.4
-memory_ends words IsClaimed held saved gathered input left status old new (inr (inl one, files, unread, unwritten)) memory =
+    let ends = subst (λ (image : Option (Bor (List ℕ))). EndsFor image h.0 known before h.1 after) (said_memory h.0 says) h.3 in
+    let alone = subst (λ (task : Task). EndsAlone task h.0 before h.1 after) (said_command h.0 says) ends in
+    ended before.input after.input h.1 status before.out after.out alone.0 h.4
+memory_ends words known before status after (inr (inl one, files, unread, unwritten)) memory =
     (Err (ScriptFault.Mount Fault.NoMemory), (inl refl, unread, unwritten), one)
-memory_ends words IsClaimed held saved gathered input left status old new (inr (inr (two, inl faulty), files, unread, unwritten)) memory =
+memory_ends words known before status after (inr (inr (two, inl faulty), files, unread, unwritten)) memory =
     absurd (faulty (ap (fault_of uffs) (memory_words words memory) ∙ memory_fault))
-memory_ends words IsClaimed held saved gathered input left status old new (inr (inr (two, inr none), files, unread, unwritten)) memory =
+memory_ends words known before status after (inr (inr (two, inr none), files, unread, unwritten)) memory =
     let is : words ≡ codes "memory" ∷ [] = memory_words words memory in
     absurd (none memory_job (subst (λ o. SaysJob o memory_job) (sym (ap given is ∙ memory_given)) memory_says))

@@ -29,7 +29,7 @@ use Rattle.host_files.specs.Files.{Held, KeepsOthers, takes_away}
 use Rattle.script_runs.specs.Flashes.{IsNewFlash, IsFormatOf, IsMade}
 use Rattle.script_runs.specs.Memory.{memory_sizes, EndsInMemory}
 use Rattle.shell.specs.Puts.{PutsBy, PutCause, IsAsked, GatherCause}
-use Rattle.script_runs.specs.Scripts.{IsUnmounted, ScriptEnds}
+use Rattle.script_runs.specs.Scripts.{Streams, streams_at, IsUnmounted, ScriptEnds}
 use Rattle.host_files.specs.Sources.{Found, Gathered}
 use Rattle.shell.specs.Places.{AreOthers}
 use Rattle.host_files.specs.declared.image_files.TheConstants.{MOST_BYTES}
@@ -112,35 +112,47 @@ why_broken (Err fault) = Some (of_script fault)
 
 -- a script, which may be to stop at a refused line, is run on a flash that is found so, which gives the flash as it is left; or
 -- there is none for its cause, and nothing is read or written; or the script does not run to its end
-abbrev pub PlaysBy : Bool → (SimFlash → Type 0) → (Failure → Type 0) → Option (List ℕ) → Option (List ℕ) → Result SimFlash Failure → Option (List ℕ) → Option (List ℕ) → Type 0
-PlaysBy stop Found Cause input left (Ok end) old new = (start : SimFlash) × Found start × ScriptEnds stop start end input left (Ok None) old new
-PlaysBy stop Found Cause input left (Err failure) old new = (Cause failure × (left ≡ input) × (new ≡ old))
-    ⊎ ((start : SimFlash) × (end : SimFlash) × (ended : Result (Option Stop) ScriptFault) × Found start × ScriptEnds stop start end input left ended old new
+abbrev pub PlaysBy : Bool → (SimFlash → Type 0) → (Failure → Type 0) → Streams → Result SimFlash Failure → Streams → Type 0
+PlaysBy stop Found Cause before (Ok end) after = (start : SimFlash) × Found start × ScriptEnds stop start end before (Ok None) after
+PlaysBy stop Found Cause before (Err failure) after = (Cause failure × (after.input ≡ before.input) × (after.out ≡ before.out))
+    ⊎ ((start : SimFlash) × (end : SimFlash) × (ended : Result (Option Stop) ScriptFault) × Found start × ScriptEnds stop start end before ended after
     × (why_broken ended ≡ Some failure))
 
 -- a script is run on the flash of a file
-abbrev pub Plays : Bool → Option (List ℕ) → Option (List ℕ) → Option (List ℕ) → Result SimFlash Failure → Option (List ℕ) → Option (List ℕ) → Type 0
+abbrev pub Plays : Bool → Option (List ℕ) → Streams → Result SimFlash Failure → Streams → Type 0
 Plays stop held = PlaysBy stop (IsSpelledFlash held) (LoadCause held)
 
 -- a script is not run to its end on the flash of a file: the file is not claimed, and nothing is read or written, or the script
 -- does not run to its end
-abbrev pub BreaksOff : Bool → Option (List ℕ) → Option (List ℕ) → Option (List ℕ) → Failure → Option (List ℕ) → Option (List ℕ) → Type 0
-BreaksOff stop held input left failure old new = (IsUnclaimed failure × (left ≡ input) × (new ≡ old)) ⊎ Plays stop held input left (Err failure) old new
+abbrev pub BreaksOff : Bool → Option (List ℕ) → Streams → Failure → Streams → Type 0
+BreaksOff stop held before failure after = (IsUnclaimed failure × (after.input ≡ before.input) × (after.out ≡ before.out)) ⊎ Plays stop held before (Err failure) after
+
+-- what the program meets: the bytes of each file, what is left of its input, and what was written of its output
+pub record Host : Type 0 where
+  pub files : Held
+  pub input : Option (List ℕ)
+  pub out : Option (List ℕ)
+
+abbrev pub host_at : Held → Option (List ℕ) → Option (List ℕ) → Host
+host_at files input out = record { files = files; input = input; out = out }
+
+abbrev pub streams_of : Host → Streams
+streams_of host = streams_at host.input host.out
 
 -- a script is run on the image of a name, of which the bytes are those of the claimed file: at its end the file is the image of
 -- the flash that is left, and no file changes where it was that before, as after a script that programmed and erased nothing. Else
 -- no file changes, or the image that is left is not written, or not for good
-abbrev pub RunEnds : Bool → List ℕ → (List ℕ → Type 0) → Held → Held → Option (List ℕ) → Option (List ℕ) → Result (Unit {0}) Failure → Option (List ℕ) → Option (List ℕ) → Type 0
-RunEnds stop name IsClaimed held saved input left (Ok done) old new = (start : SimFlash) × (end : SimFlash) × IsClaimed (image_of (device_of start)) × IsSpelledFlash (held name) start
-    × ScriptEnds stop start end input left (Ok None) old new × SavesChange name held saved (image_of (device_of start)) (image_of (device_of end))
-RunEnds stop name IsClaimed held saved input left (Err failure) old new = (BreaksOff stop (held name) input left failure old new × (saved ≡ held))
-    ⊎ ((start : SimFlash) × (end : SimFlash) × IsClaimed (image_of (device_of start)) × IsSpelledFlash (held name) start × ScriptEnds stop start end input left (Ok None) old new
-    × ChangeUnsaved name held saved (image_of (device_of start)) (image_of (device_of end)) failure)
+abbrev pub RunEnds : Bool → List ℕ → (List ℕ → Type 0) → Host → Result (Unit {0}) Failure → Host → Type 0
+RunEnds stop name IsClaimed before (Ok done) after = (start : SimFlash) × (end : SimFlash) × IsClaimed (image_of (device_of start)) × IsSpelledFlash (before.files name) start
+    × ScriptEnds stop start end (streams_of before) (Ok None) (streams_of after) × SavesChange name before.files after.files (image_of (device_of start)) (image_of (device_of end))
+RunEnds stop name IsClaimed before (Err failure) after = (BreaksOff stop (before.files name) (streams_of before) failure (streams_of after) × (after.files ≡ before.files))
+    ⊎ ((start : SimFlash) × (end : SimFlash) × IsClaimed (image_of (device_of start)) × IsSpelledFlash (before.files name) start × ScriptEnds stop start end (streams_of before) (Ok None) (streams_of after)
+    × ChangeUnsaved name before.files after.files (image_of (device_of start)) (image_of (device_of end)) failure)
 
 -- the replies to a script on an image are written
 abbrev pub LookEnds : List ℕ → Option (List ℕ) → Result (Unit {0}) Failure → Option (List ℕ) → Option (List ℕ) → Type 0
-LookEnds script held (Ok done) old new = (rest : Option (List ℕ)) × (end : SimFlash) × Plays false held (Some script) rest (Ok end) old new
-LookEnds script held (Err failure) old new = (rest : Option (List ℕ)) × Plays false held (Some script) rest (Err failure) old new
+LookEnds script held (Ok done) old new = (rest : Option (List ℕ)) × (end : SimFlash) × Plays false held (streams_at (Some script) old) (Ok end) (streams_at rest new)
+LookEnds script held (Err failure) old new = (rest : Option (List ℕ)) × Plays false held (streams_at (Some script) old) (Err failure) (streams_at rest new)
 
 -- an image is mounted, with `ok` written; or it gives no flash, or is not mounted, and nothing is written; or the output fails
 abbrev pub CheckEnds : Option (List ℕ) → Result (Unit {0}) Failure → Option (List ℕ) → Option (List ℕ) → Type 0
@@ -202,9 +214,9 @@ GetEnds spelled name file held saved (Ok done) = (takes_away file name ≡ false
 GetEnds spelled name file held saved (Err failure) = (IsUnclaimed failure × (saved ≡ held)) ⊎ ((takes_away file name ≡ false) × NotGot spelled name file held saved failure)
 
 -- a script is run on a flash in memory
-abbrev pub MemoryEnds : Option (List ℕ) → Option (List ℕ) → Result (Unit {0}) Failure → Option (List ℕ) → Option (List ℕ) → Type 0
-MemoryEnds input left (Ok done) old new = EndsInMemory memory_sizes input left (Ok tt) old new
-MemoryEnds input left (Err failure) old new = (fault : ScriptFault) × EndsInMemory memory_sizes input left (Err fault) old new × (failure ≡ of_script fault)
+abbrev pub MemoryEnds : Streams → Result (Unit {0}) Failure → Streams → Type 0
+MemoryEnds before (Ok done) after = EndsInMemory memory_sizes before (Ok tt) after
+MemoryEnds before (Err failure) after = (fault : ScriptFault) × EndsInMemory memory_sizes before (Err fault) after × (failure ≡ of_script fault)
 
 -- what is printed of a refusal: its word, its number and what it means
 abbrev pub explanation : Fault → List ℕ → List ℕ
@@ -228,44 +240,57 @@ word_given None = []
 abbrev pub sizes_of : Job → Geometry
 sizes_of job = record { page = job.page; pages = job.pages; blocks = job.blocks }
 
--- the image alone is looked at: no file changes, and no input is read
-pub record OnlyLooksAtImage (held saved : Held) (input left : Option (List ℕ)) : Type 0 where
-  pub files : saved ≡ held
-  pub unread : left ≡ input
+-- no file changes, and no input is read
+pub record OnlyPrints (before after : Host) : Type 0 where
+  pub files : after.files ≡ before.files
+  pub unread : after.input ≡ before.input
+
+-- files alone are written: no input is read, and nothing is printed
+pub record OnlyWrites (before after : Host) : Type 0 where
+  pub unread : after.input ≡ before.input
+  pub unprinted : after.out ≡ before.out
 
 -- the bytes that the file of each name may have where it is claimed
 abbrev pub Claimed : Type 1
 Claimed = List ℕ → List ℕ → Type 0
 
--- how a task ends that is done on a file of this name
-abbrev pub EndsOn : Task → Job → List ℕ → Claimed → Held → Held → Gathered → Option (List ℕ) → Option (List ℕ) → Result (Unit {0}) Failure → Option (List ℕ) → Option (List ℕ) → Type 0
-EndsOn Task.Format job name IsClaimed held saved gathered input left result old new = FormatEnds (sizes_of job) job.history (held name) (saved name) result × KeepsOthers name held saved × (left ≡ input) × (new ≡ old)
-EndsOn Task.Run job name IsClaimed held saved gathered input left result old new = RunEnds job.stop name (IsClaimed name) held saved input left result old new × KeepsOthers name held saved
-EndsOn Task.Put job name IsClaimed held saved gathered input left result old new = PutEnds name (word_given job.path) (IsClaimed name) held saved (gathered (word_given job.file) name) result × KeepsOthers name held saved
-    × (left ≡ input) × (new ≡ old)
-EndsOn Task.Get job name IsClaimed held saved gathered input left result old new = GetEnds (file_spelled (word_given job.path) job.view) name (word_given job.file) held saved result
-    × KeepsOthers (word_given job.file) held saved × (left ≡ input) × (new ≡ old)
-EndsOn Task.Tree job name IsClaimed held saved gathered input left result old new = TellEnds (tree_spelled job.view) (held name) result old new × OnlyLooksAtImage held saved input left
-EndsOn Task.Diff job name IsClaimed held saved gathered input left result old new = TellEnds (differences_spelled job.view job.other) (held name) result old new × OnlyLooksAtImage held saved input left
-EndsOn Task.Versions job name IsClaimed held saved gathered input left result old new = TellEnds (Ok Inquiry.Versions) (held name) result old new × OnlyLooksAtImage held saved input left
-EndsOn Task.Check job name IsClaimed held saved gathered input left result old new = CheckEnds (held name) result old new × OnlyLooksAtImage held saved input left
-EndsOn Task.Log job name IsClaimed held saved gathered input left result old new = LookEnds (codes "log\n") (held name) result old new × OnlyLooksAtImage held saved input left
-EndsOn Task.Df job name IsClaimed held saved gathered input left result old new = LookEnds (codes "df\n") (held name) result old new × OnlyLooksAtImage held saved input left
-EndsOn Task.Memory job name IsClaimed held saved gathered input left result old new = MemoryEnds input left result old new × (saved ≡ held)
-EndsOn Task.Explain job name IsClaimed held saved gathered input left result old new = ExplainEnds job.refusal result old new × OnlyLooksAtImage held saved input left
+-- what is known of the host's files before: what each may have where it is claimed, and what stands at a name, with all below it
+pub record Known : Type 1 where
+  pub claimed : Claimed
+  pub gathered : Gathered
+
+abbrev pub known_by : Claimed → Gathered → Known
+known_by claimed gathered = record { claimed = claimed; gathered = gathered }
+
+-- how a job ends that is done on the file of this name, by its task
+abbrev pub EndsOn : Job → List ℕ → Known → Host → Result (Unit {0}) Failure → Host → Type 0
+EndsOn job name known before result after = elim (job.command) as (λ task. Type 0) [
+  | Task.Format ↦ FormatEnds (sizes_of job) job.history (before.files name) (after.files name) result × KeepsOthers name before.files after.files × OnlyWrites before after
+  | Task.Run ↦ RunEnds job.stop name (known.claimed name) before result after × KeepsOthers name before.files after.files
+  | Task.Put ↦ PutEnds name (word_given job.path) (known.claimed name) before.files after.files (known.gathered (word_given job.file) name) result × KeepsOthers name before.files after.files × OnlyWrites before after
+  | Task.Get ↦ GetEnds (file_spelled (word_given job.path) job.view) name (word_given job.file) before.files after.files result × KeepsOthers (word_given job.file) before.files after.files × OnlyWrites before after
+  | Task.Tree ↦ TellEnds (tree_spelled job.view) (before.files name) result before.out after.out × OnlyPrints before after
+  | Task.Diff ↦ TellEnds (differences_spelled job.view job.other) (before.files name) result before.out after.out × OnlyPrints before after
+  | Task.Versions ↦ TellEnds (Ok Inquiry.Versions) (before.files name) result before.out after.out × OnlyPrints before after
+  | Task.Check ↦ CheckEnds (before.files name) result before.out after.out × OnlyPrints before after
+  | Task.Log ↦ LookEnds (codes "log\n") (before.files name) result before.out after.out × OnlyPrints before after
+  | Task.Df ↦ LookEnds (codes "df\n") (before.files name) result before.out after.out × OnlyPrints before after
+  | Task.Memory ↦ MemoryEnds (streams_of before) result (streams_of after) × (after.files ≡ before.files)
+  | Task.Explain ↦ ExplainEnds job.refusal result before.out after.out × OnlyPrints before after
+]
 
 -- how a task ends that is done on no file
-abbrev pub EndsAlone : Task → Job → Held → Held → Option (List ℕ) → Option (List ℕ) → Result (Unit {0}) Failure → Option (List ℕ) → Option (List ℕ) → Type 0
-EndsAlone Task.Explain job held saved input left result old new = ExplainEnds job.refusal result old new × OnlyLooksAtImage held saved input left
-EndsAlone _ job held saved input left result old new = MemoryEnds input left result old new × (saved ≡ held)
+abbrev pub EndsAlone : Task → Job → Host → Result (Unit {0}) Failure → Host → Type 0
+EndsAlone Task.Explain job before result after = ExplainEnds job.refusal result before.out after.out × OnlyPrints before after
+EndsAlone _ job before result after = MemoryEnds (streams_of before) result (streams_of after) × (after.files ≡ before.files)
 
 -- by the file that a job names, if any
-abbrev pub EndsFor : Option (Bor (List ℕ)) → Job → Claimed → Held → Held → Gathered → Option (List ℕ) → Option (List ℕ) → Result (Unit {0}) Failure → Option (List ℕ) → Option (List ℕ) → Type 0
-EndsFor (Some name) job IsClaimed held saved gathered input left result old new = EndsOn job.command job name.now IsClaimed held saved gathered input left result old new
-EndsFor None job IsClaimed held saved gathered input left result old new = EndsAlone job.command job held saved input left result old new
+abbrev pub EndsFor : Option (Bor (List ℕ)) → Job → Known → Host → Result (Unit {0}) Failure → Host → Type 0
+EndsFor (Some name) job known before result after = EndsOn job name.now known before result after
+EndsFor None job known before result after = EndsAlone job.command job before result after
 
 -- how a job ends
-abbrev pub JobEnds : Job → Claimed → Held → Held → Gathered → Option (List ℕ) → Option (List ℕ) → Result (Unit {0}) Failure → Option (List ℕ) → Option (List ℕ) → Type 0
+abbrev pub JobEnds : Job → Known → Host → Result (Unit {0}) Failure → Host → Type 0
 JobEnds job = EndsFor job.image job
 
 -- the status of refused words, by the kind of the error: 1 where memory was wanted
@@ -279,10 +304,9 @@ AreRefused words status = (status ≡ 1) ⊎ ((status ≡ 2) × ((fault_of uffs 
 
 -- how the program ends: the job that the words ask for is done, with its status; or they are refused, no file changes, and
 -- nothing is read or written
-abbrev pub ToolEnds : List (List ℕ) → Claimed → Held → Held → Gathered → Option (List ℕ) → Option (List ℕ) → ℕ → Option (List ℕ) → Option (List ℕ) → Type 0
-ToolEnds words IsClaimed held saved gathered input left status old new =
-    ((job : Job) × (result : Result (Unit {0}) Failure) × AsksFor words job × JobEnds job IsClaimed held saved gathered input left result old new × (status ≡ job_status result))
-    ⊎ (AreRefused words status × (saved ≡ held) × (left ≡ input) × (new ≡ old))
+abbrev pub ToolEnds : List (List ℕ) → Known → Host → ℕ → Host → Type 0
+ToolEnds words known before status after = ((job : Job) × (result : Result (Unit {0}) Failure) × AsksFor words job × JobEnds job known before result after × (status ≡ job_status result))
+    ⊎ (AreRefused words status × (after.files ≡ before.files) × (after.input ≡ before.input) × (after.out ≡ before.out))
 
 -- `memory` alone
 abbrev pub is_memory : List (List ℕ) → Bool
@@ -290,5 +314,5 @@ is_memory (word ∷ []) = bytes_eq word (codes "memory")
 is_memory _ = false
 
 -- a script ended in memory, with this status
-abbrev pub MemoryBy : Option (List ℕ) → Option (List ℕ) → ℕ → Option (List ℕ) → Option (List ℕ) → Type 0
-MemoryBy input left status old new = (result : Result (Unit {0}) ScriptFault) × EndsInMemory memory_sizes input left result old new × (status ≡ status_of result)
+abbrev pub MemoryBy : Streams → ℕ → Streams → Type 0
+MemoryBy before status after = (result : Result (Unit {0}) ScriptFault) × EndsInMemory memory_sizes before result after × (status ≡ status_of result)

@@ -5,7 +5,8 @@ ghost use Rattle.flash_model.specs.Simulation.{device_of};
 ghost use Rattle.flash_image.specs.Images.{image_of};
 ghost use Rattle.host_files.specs.Files.{KeepsOthers, AreBytesRead, ReadsClaimed};
 ghost use Rattle.script_runs.specs.Flashes.{IsDecoded};
-ghost use Rattle.shell.specs.Tools.{DecodeCause, IsUnclaimed, IsUnread, IsSpelledFlash, LoadCause, IsImageFile, Unsaved, SavesChange, ChangeUnsaved, FormatEnds, PlaysBy, RunEnds, CheckEnds, LookEnds};
+ghost use Rattle.shell.specs.Tools.{DecodeCause, IsUnclaimed, IsUnread, IsSpelledFlash, LoadCause, IsImageFile, Unsaved, SavesChange, ChangeUnsaved, FormatEnds, PlaysBy, host_at, RunEnds, CheckEnds, LookEnds};
+ghost use Rattle.script_runs.specs.Scripts.{streams_at};
 
 use crate::failure::Failure;
 use crate::image_bytes::{claim, read_image, take_image, write_image};
@@ -69,7 +70,7 @@ pub fn run_image<F: ImageFiles, R: Read, W: Write>(
     out: &mut W,
 ) -> Result<(), Failure>
     ensures others { KeepsOthers name.now (F.held files.old) (F.held files.new) }
-    ensures ends { RunEnds stop name.now (ReadsClaimed F.claims F.reads name.now) (F.held files.old) (F.held files.new) (R.remaining reader.old) (R.remaining reader.new) result (W.contents out.old) (W.contents out.new) }
+    ensures ends { RunEnds stop name.now (ReadsClaimed F.claims F.reads name.now) (host_at (F.held files.old) (R.remaining reader.old) (W.contents out.old)) result (host_at (F.held files.new) (R.remaining reader.new) (W.contents out.new)) }
 {
     let bytes = match take_image(files, alloc, name) {
         Ok(bytes) => bytes,
@@ -130,7 +131,7 @@ fn play<R: Read, W: Write>(
     reader: &mut R,
     out: &mut W,
 ) -> Result<SimFlash, Failure>
-    ensures { PlaysBy stop (IsDecoded bytes.now) (DecodeCause bytes.now) (R.remaining reader.old) (R.remaining reader.new) result (W.contents out.old) (W.contents out.new) }
+    ensures { PlaysBy stop (IsDecoded bytes.now) (DecodeCause bytes.now) (streams_at (R.remaining reader.old) (W.contents out.old)) result (streams_at (R.remaining reader.new) (W.contents out.new)) }
 {
     let mut flash = match flash_of(alloc, bytes) {
         Ok(flash) => flash,

@@ -2,7 +2,8 @@
 ghost use Rattle.std.specs.Prelude.{◌≡◌, IsTrue, map, string_bytes};
 ghost use Rattle.clap.specs.Words.{kind_of};
 ghost use Rattle.host_files.specs.Files.{ReadsClaimed};
-ghost use Rattle.shell.specs.Tools.{EndsOn, JobEnds, MemoryEnds, ToolEnds, MemoryBy, sizes_of, word_given, refused_status, is_memory};
+ghost use Rattle.script_runs.specs.Scripts.{streams_at};
+ghost use Rattle.shell.specs.Tools.{known_by, host_at, EndsOn, JobEnds, MemoryEnds, ToolEnds, MemoryBy, sizes_of, word_given, refused_status, is_memory};
 
 use crate::asking::{get_file, tell_differences, tell_tree, tell_versions};
 use crate::explanations::explain;
@@ -33,9 +34,9 @@ pub fn tool<F: ImageFiles + Sources, R: Read, W: Write, E: Write>(
     out: &mut W,
     err: &mut E,
 ) -> u8
-    ensures ends { ToolEnds (map string_bytes words.now) (ReadsClaimed F.claims F.reads) (F.held files.old) (F.held files.new) (F.gathered files.old) (R.remaining reader.old) (R.remaining reader.new) result (W.contents out.old) (W.contents out.new) }
+    ensures ends { ToolEnds (map string_bytes words.now) (known_by (ReadsClaimed F.claims F.reads) (F.gathered files.old)) (host_at (F.held files.old) (R.remaining reader.old) (W.contents out.old)) result (host_at (F.held files.new) (R.remaining reader.new) (W.contents out.new)) }
     // The word `memory` is understood.
-    ensures memory { IsTrue (is_memory (map string_bytes words.now)) → MemoryBy (R.remaining reader.old) (R.remaining reader.new) result (W.contents out.old) (W.contents out.new) }
+    ensures memory { IsTrue (is_memory (map string_bytes words.now)) → MemoryBy (streams_at (R.remaining reader.old) (W.contents out.old)) result (streams_at (R.remaining reader.new) (W.contents out.new)) }
 {
     let job = match job(alloc, words) {
         Ok(job) => job,
@@ -83,7 +84,7 @@ fn carry_out<F: ImageFiles + Sources, R: Read, W: Write, E: Write>(
     out: &mut W,
     err: &mut E,
 ) -> Result<(), Failure>
-    ensures { JobEnds job.entry (ReadsClaimed F.claims F.reads) (F.held files.old) (F.held files.new) (F.gathered files.old) (R.remaining reader.old) (R.remaining reader.new) result (W.contents out.old) (W.contents out.new) }
+    ensures { JobEnds job.entry (known_by (ReadsClaimed F.claims F.reads) (F.gathered files.old)) (host_at (F.held files.old) (R.remaining reader.old) (W.contents out.old)) result (host_at (F.held files.new) (R.remaining reader.new) (W.contents out.new)) }
 {
     match job.image {
         Some(name) => do_task(files, alloc, job, name, reader, out, err),
@@ -104,7 +105,7 @@ fn do_task<F: ImageFiles + Sources, R: Read, W: Write, E: Write>(
     out: &mut W,
     err: &mut E,
 ) -> Result<(), Failure>
-    ensures { EndsOn job.entry.command job.entry name.now (ReadsClaimed F.claims F.reads) (F.held files.old) (F.held files.new) (F.gathered files.old) (R.remaining reader.old) (R.remaining reader.new) result (W.contents out.old) (W.contents out.new) }
+    ensures { EndsOn job.entry name.now (known_by (ReadsClaimed F.claims F.reads) (F.gathered files.old)) (host_at (F.held files.old) (R.remaining reader.old) (W.contents out.old)) result (host_at (F.held files.new) (R.remaining reader.new) (W.contents out.new)) }
 {
     match job.command {
         Task::Format => format_image(files, alloc, name, sizes_of(job), job.history),
@@ -162,7 +163,7 @@ fn play_in_memory<R: Read, W: Write>(
     reader: &mut R,
     out: &mut W,
 ) -> Result<(), Failure>
-    ensures { MemoryEnds (R.remaining reader.old) (R.remaining reader.new) result (W.contents out.old) (W.contents out.new) }
+    ensures { MemoryEnds (streams_at (R.remaining reader.old) (W.contents out.old)) result (streams_at (R.remaining reader.new) (W.contents out.new)) }
 {
     match run_in_memory(alloc, reader, out) {
         Ok(()) => Ok(()),

@@ -49,7 +49,7 @@ impl<'f, F: Flash> Fs<'f, F> {
     ghost use Rattle.system.specs.declared.mounts.TheConstants.{MOUNTED_NODES};
     ghost use Rattle.undofs.specs.Refusals.{RefusesMount};
     ghost use Rattle.undofs.specs.Values.{descriptor_reply, log_reply, space_reply};
-    ghost use Rattle.undofs.specs.Systems.{moment_of, without_nodes, StepsBetween, TellsNothing, KeepsAllPages, flash_name};
+    ghost use Rattle.undofs.specs.Systems.{moment_of, without_nodes, StepsBetween, TellsNothing, flash_name};
 
     /// Mounts what the newest record of a flash holds, as [`mount`] does. A refusal gives the flash
     /// back, as the reads left it: no page of it changed, and the cause is one of those of [`mount`].
@@ -165,7 +165,6 @@ impl<'f, F: Flash> Fs<'f, F> {
     /// the one it was.
     pub fn sync(&mut self, alloc: Global) -> Result<(), Fault>
         ensures step { StepsBetween self.old Call.Sync (replied empty result) self.new }
-        ensures same_flash { flash_name self.new ≡ flash_name self.old }
     {
         self.carry_out_empty(alloc, Request::Sync)
     }
@@ -174,7 +173,6 @@ impl<'f, F: Flash> Fs<'f, F> {
     /// [`Fault::InGroup`] (POSIX.1-2017 `fsync`, which speaks of one file).
     pub fn fsync(&mut self, alloc: Global, descriptor: Descriptor) -> Result<(), Fault>
         ensures step { StepsBetween self.old (Call.Fsync descriptor.number) (replied empty result) self.new }
-        ensures same_flash { flash_name self.new ≡ flash_name self.old }
     {
         self.carry_out_empty(
             alloc,
@@ -193,8 +191,6 @@ impl<'f, F: Flash> Fs<'f, F> {
         flags: OpenFlags,
     ) -> Result<Descriptor, Fault>
         ensures step { StepsBetween self.old (Call.Open path.now flags) (replied descriptor_reply result) self.new }
-        ensures pages { KeepsAllPages self.old self.new }
-        ensures same_flash { flash_name self.new ≡ flash_name self.old }
     {
         match self.carry_out(alloc, Request::Open { path, flags })? {
             Reply::Fd(number) => Ok(Descriptor { number }),
@@ -206,7 +202,6 @@ impl<'f, F: Flash> Fs<'f, F> {
     pub fn close(&mut self, descriptor: Descriptor) -> Result<(), Fault>
         ensures step { StepsBetween self.old (Call.Close descriptor.number) (replied empty result) self.new }
         ensures still { F.device self.new.flash.now ≡ F.device self.old.flash.now }
-        ensures same_flash { flash_name self.new ≡ flash_name self.old }
     {
         self.carry_out_empty(
             self.alloc,
@@ -226,8 +221,6 @@ impl<'f, F: Flash> Fs<'f, F> {
         bytes: &[u8],
     ) -> Result<u64, Fault>
         ensures step { StepsBetween self.old (Call.Pwrite descriptor.number offset bytes.now) (replied Reply.Count result) self.new }
-        ensures pages { KeepsAllPages self.old self.new }
-        ensures same_flash { flash_name self.new ≡ flash_name self.old }
     {
         let request = Request::Pwrite {
             descriptor: u64::from(descriptor.number),
@@ -249,8 +242,6 @@ impl<'f, F: Flash> Fs<'f, F> {
         length: u64,
     ) -> Result<(), Fault>
         ensures step { StepsBetween self.old (Call.Ftruncate descriptor.number length) (replied empty result) self.new }
-        ensures pages { KeepsAllPages self.old self.new }
-        ensures same_flash { flash_name self.new ≡ flash_name self.old }
     {
         self.carry_out_empty(
             alloc,
@@ -266,7 +257,6 @@ impl<'f, F: Flash> Fs<'f, F> {
     pub fn stat(&mut self, view: &View, path: &Path) -> Result<Stat, Fault>
         ensures step { StepsBetween self.old (Call.Stat view.now path.now) (replied Reply.Stat result) self.new }
         ensures pages { (p : ℕ) → (F.device self.new.flash.now).pages p ≡ (F.device self.old.flash.now).pages p }
-        ensures same_flash { flash_name self.new ≡ flash_name self.old }
     {
         match self.carry_out(self.alloc, Request::Stat { view, path })? {
             Reply::Stat(stat) => Ok(stat),
@@ -283,7 +273,6 @@ impl<'f, F: Flash> Fs<'f, F> {
     ) -> Result<Sequence<(Name, bool)>, Fault>
         ensures step { StepsBetween self.old (Call.List view.now path.now) (replied Reply.Names result) self.new }
         ensures pages { (p : ℕ) → (F.device self.new.flash.now).pages p ≡ (F.device self.old.flash.now).pages p }
-        ensures same_flash { flash_name self.new ≡ flash_name self.old }
     {
         match self.carry_out(alloc, Request::List { view, path })? {
             Reply::Names(names) => Ok(names),
@@ -303,7 +292,6 @@ impl<'f, F: Flash> Fs<'f, F> {
     ) -> Result<Bytes, Fault>
         ensures step { StepsBetween self.old (Call.ReadAt view.now path.now offset count) (replied Reply.Bytes result) self.new }
         ensures pages { (p : ℕ) → (F.device self.new.flash.now).pages p ≡ (F.device self.old.flash.now).pages p }
-        ensures same_flash { flash_name self.new ≡ flash_name self.old }
     {
         let request = Request::ReadAt {
             view,
@@ -328,7 +316,6 @@ impl<'f, F: Flash> Fs<'f, F> {
     ) -> Result<Bytes, Fault>
         ensures step { StepsBetween self.old (Call.Pread descriptor.number offset count) (replied Reply.Bytes result) self.new }
         ensures pages { (p : ℕ) → (F.device self.new.flash.now).pages p ≡ (F.device self.old.flash.now).pages p }
-        ensures same_flash { flash_name self.new ≡ flash_name self.old }
     {
         let request = Request::Pread {
             descriptor: u64::from(descriptor.number),
@@ -344,8 +331,6 @@ impl<'f, F: Flash> Fs<'f, F> {
     /// Makes an empty directory (POSIX.1-2017 `mkdir`, without a mode).
     pub fn mkdir(&mut self, alloc: Global, path: &Path) -> Result<(), Fault>
         ensures step { StepsBetween self.old (Call.Mkdir path.now) (replied empty result) self.new }
-        ensures pages { KeepsAllPages self.old self.new }
-        ensures same_flash { flash_name self.new ≡ flash_name self.old }
     {
         self.carry_out_empty(alloc, Request::Mkdir { path })
     }
@@ -353,8 +338,6 @@ impl<'f, F: Flash> Fs<'f, F> {
     /// Removes an empty directory (POSIX.1-2017 `rmdir`). [`Fault::Busy`] for the root.
     pub fn rmdir(&mut self, alloc: Global, path: &Path) -> Result<(), Fault>
         ensures step { StepsBetween self.old (Call.Rmdir path.now) (replied empty result) self.new }
-        ensures pages { KeepsAllPages self.old self.new }
-        ensures same_flash { flash_name self.new ≡ flash_name self.old }
     {
         self.carry_out_empty(alloc, Request::Rmdir { path })
     }
@@ -363,8 +346,6 @@ impl<'f, F: Flash> Fs<'f, F> {
     /// for a file that is open.
     pub fn unlink(&mut self, alloc: Global, path: &Path) -> Result<(), Fault>
         ensures step { StepsBetween self.old (Call.Unlink path.now) (replied empty result) self.new }
-        ensures pages { KeepsAllPages self.old self.new }
-        ensures same_flash { flash_name self.new ≡ flash_name self.old }
     {
         self.carry_out_empty(alloc, Request::Unlink { path })
     }
@@ -374,8 +355,6 @@ impl<'f, F: Flash> Fs<'f, F> {
     /// read-only mode too. [`Fault::Busy`] where a file that would be moved or replaced is open.
     pub fn rename(&mut self, alloc: Global, old: &Path, new: &Path) -> Result<(), Fault>
         ensures step { StepsBetween self.old (Call.Rename old.now new.now) (replied empty result) self.new }
-        ensures pages { KeepsAllPages self.old self.new }
-        ensures same_flash { flash_name self.new ≡ flash_name self.old }
     {
         self.carry_out_empty(alloc, Request::Rename { old, new })
     }
@@ -384,7 +363,6 @@ impl<'f, F: Flash> Fs<'f, F> {
     pub fn undo(&mut self) -> Result<(), Fault>
         ensures step { StepsBetween self.old Call.Undo (replied empty result) self.new }
         ensures still { F.device self.new.flash.now ≡ F.device self.old.flash.now }
-        ensures same_flash { flash_name self.new ≡ flash_name self.old }
     {
         self.carry_out_empty(self.alloc, Request::Undo)
     }
@@ -393,7 +371,6 @@ impl<'f, F: Flash> Fs<'f, F> {
     pub fn redo(&mut self) -> Result<(), Fault>
         ensures step { StepsBetween self.old Call.Redo (replied empty result) self.new }
         ensures still { F.device self.new.flash.now ≡ F.device self.old.flash.now }
-        ensures same_flash { flash_name self.new ≡ flash_name self.old }
     {
         self.carry_out_empty(self.alloc, Request::Redo)
     }
@@ -402,7 +379,6 @@ impl<'f, F: Flash> Fs<'f, F> {
     pub fn goto(&mut self, serial: u64) -> Result<(), Fault>
         ensures step { StepsBetween self.old (Call.Goto serial) (replied empty result) self.new }
         ensures still { F.device self.new.flash.now ≡ F.device self.old.flash.now }
-        ensures same_flash { flash_name self.new ≡ flash_name self.old }
     {
         self.carry_out_empty(self.alloc, Request::Goto { serial })
     }
@@ -417,7 +393,6 @@ impl<'f, F: Flash> Fs<'f, F> {
     pub fn begin(&mut self) -> Result<(), Fault>
         ensures step { StepsBetween self.old Call.Begin (replied empty result) self.new }
         ensures still { F.device self.new.flash.now ≡ F.device self.old.flash.now }
-        ensures same_flash { flash_name self.new ≡ flash_name self.old }
     {
         self.carry_out_empty(self.alloc, Request::Begin)
     }
@@ -429,7 +404,6 @@ impl<'f, F: Flash> Fs<'f, F> {
     pub fn end(&mut self) -> Result<(), Fault>
         ensures step { StepsBetween self.old Call.End (replied empty result) self.new }
         ensures still { F.device self.new.flash.now ≡ F.device self.old.flash.now }
-        ensures same_flash { flash_name self.new ≡ flash_name self.old }
     {
         self.carry_out_empty(self.alloc, Request::End)
     }
@@ -439,7 +413,6 @@ impl<'f, F: Flash> Fs<'f, F> {
     pub fn abandon(&mut self) -> Result<(), Fault>
         ensures step { StepsBetween self.old Call.Abandon (replied empty result) self.new }
         ensures still { F.device self.new.flash.now ≡ F.device self.old.flash.now }
-        ensures same_flash { flash_name self.new ≡ flash_name self.old }
     {
         self.carry_out_empty(self.alloc, Request::Abandon)
     }
@@ -448,7 +421,6 @@ impl<'f, F: Flash> Fs<'f, F> {
     pub fn rollback(&mut self, alloc: Global, name: &CpName) -> Result<(), Fault>
         ensures step { StepsBetween self.old (Call.Rollback name.now) (replied empty result) self.new }
         ensures still { F.device self.new.flash.now ≡ F.device self.old.flash.now }
-        ensures same_flash { flash_name self.new ≡ flash_name self.old }
     {
         self.carry_out_empty(alloc, Request::Rollback { name })
     }
@@ -457,7 +429,6 @@ impl<'f, F: Flash> Fs<'f, F> {
     pub fn forget(&mut self, count: u64) -> Result<(), Fault>
         ensures step { StepsBetween self.old (Call.Forget count) (replied empty result) self.new }
         ensures still { F.device self.new.flash.now ≡ F.device self.old.flash.now }
-        ensures same_flash { flash_name self.new ≡ flash_name self.old }
     {
         self.carry_out_empty(self.alloc, Request::Forget { count })
     }
@@ -466,7 +437,6 @@ impl<'f, F: Flash> Fs<'f, F> {
     pub fn checkpoint(&mut self, name: &CpName) -> Result<(), Fault>
         ensures step { StepsBetween self.old (Call.Checkpoint name.now) (replied empty result) self.new }
         ensures still { F.device self.new.flash.now ≡ F.device self.old.flash.now }
-        ensures same_flash { flash_name self.new ≡ flash_name self.old }
     {
         self.carry_out_empty(self.alloc, Request::Checkpoint { name })
     }
@@ -475,7 +445,6 @@ impl<'f, F: Flash> Fs<'f, F> {
     pub fn remove_checkpoint(&mut self, name: &CpName) -> Result<(), Fault>
         ensures step { StepsBetween self.old (Call.RemoveCheckpoint name.now) (replied empty result) self.new }
         ensures still { F.device self.new.flash.now ≡ F.device self.old.flash.now }
-        ensures same_flash { flash_name self.new ≡ flash_name self.old }
     {
         self.carry_out_empty(self.alloc, Request::RemoveCheckpoint { name })
     }
@@ -505,7 +474,6 @@ impl<'f, F: Flash> Fs<'f, F> {
     /// How much of the flash is used ([`System::df`]).
     pub fn df(&mut self, alloc: Global) -> Result<Space, Fault>
         ensures step { StepsBetween self.old Call.Df (replied space_reply result) self.new }
-        ensures same_flash { flash_name self.new ≡ flash_name self.old }
     {
         match self.carry_out(alloc, Request::Df)? {
             Reply::Df {
@@ -537,8 +505,6 @@ impl<'f, F: Flash> Fs<'f, F> {
     /// `close` and `log` do no device operation.
     pub fn call(&mut self, alloc: Global, call: &Call) -> Result<Reply, Fault>
         ensures step { StepsBetween self.old call.now result self.new }
-        ensures pages { KeepsAllPages self.old self.new }
-        ensures same_flash { flash_name self.new ≡ flash_name self.old }
     {
         self.carry_out(alloc, call.lend())
     }
@@ -546,10 +512,8 @@ impl<'f, F: Flash> Fs<'f, F> {
     /// Carries out a request, and answers its reply.
     fn carry_out(&mut self, alloc: Global, request: Request<'_>) -> Result<Reply, Fault>
         ensures step { StepsBetween self.old (call_of request.entry) result self.new }
-        ensures pages { KeepsAllPages self.old self.new }
         ensures looked { only_looks (call_of request.entry) ≡ true → (p : ℕ) → (F.device self.new.flash.now).pages p ≡ (F.device self.old.flash.now).pages p }
         ensures still { is_still (call_of request.entry) ≡ true → F.device self.new.flash.now ≡ F.device self.old.flash.now }
-        ensures same_flash { flash_name self.new ≡ flash_name self.old }
     {
         self.system.call(alloc, self.flash, request)
     }
@@ -558,9 +522,7 @@ impl<'f, F: Flash> Fs<'f, F> {
     fn carry_out_empty(&mut self, alloc: Global, request: Request<'_>) -> Result<(), Fault>
         requires { TellsNothing (call_of request) }
         ensures step { StepsBetween self.old (call_of request.entry) (replied empty result) self.new }
-        ensures pages { KeepsAllPages self.old self.new }
         ensures still { is_still (call_of request.entry) ≡ true → F.device self.new.flash.now ≡ F.device self.old.flash.now }
-        ensures same_flash { flash_name self.new ≡ flash_name self.old }
     {
         match self.carry_out(alloc, request)? {
             Reply::Empty => Ok(()),

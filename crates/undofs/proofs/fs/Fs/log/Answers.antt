@@ -17,10 +17,13 @@ returns-in_err-next g c =
     let fs = c.args.self.now in
     let d = g.F.Flash.device fs.flash.now in
     let p = err_from_is_err_and c.from_residual.result c.from_residual.ensures.1 in
-    rw (p.1, p.2) (log_step d fs.system (Err _) fs.mounted (c.in_err-next.ensures d))
+    rw (p.1, p.2) (record { step = log_step d fs.system (Err _) fs.mounted (c.in_err-next.ensures d); same_flash = refl })
 
 pub returns : goal.returns
 returns g c =
     let fs = c.args.self.now in
     let d = g.F.Flash.device fs.flash.now in
-    subst (λ (r : Reply). SystemStep d fs.system Call.Log (Ok r) d fs.system) c.in-Log.is (log_step d fs.system (Ok _) fs.mounted (c.in_ok-next.ensures d))
+    record {
+      step = subst (λ (r : Reply). SystemStep d fs.system Call.Log (Ok r) d fs.system) c.in-Log.is (log_step d fs.system (Ok _) fs.mounted (c.in_ok-next.ensures d));
+      same_flash = refl;
+    }

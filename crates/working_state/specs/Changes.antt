@@ -56,17 +56,25 @@ abbrev pub ReachesFrom : Device → Storage → ℕ → Device → ℕ → Type 
 ReachesFrom old s from new to = (block : ℕ) → Reached (node_of new) (to ∷ []) block
     → Reached (node_of old) (from ∷ []) block ⊎ ((set.contains s.ring.used block ≡ false) × IsWrittenNode (node_of new block))
 
+-- a flash, and what nodes are kept with on it
+pub record StorageMoment : Type 0 where
+  pub device : Device
+  pub storage : Storage
+
+abbrev pub storage_moment : Device → Storage → StorageMoment
+storage_moment d s = record { device = d; storage = s }
+
 -- an edit of the tree of a root was written, so many nodes at most: the new root stands, has the edited tree and
 -- reaches what the source of the edit did, or what was written in blocks that were not used; or a read or write was
 -- refused for its cause; where no node is needed, flash and storage are as they were
-pub record IsTried (old : Device) (s : Storage) (edit : Edit) (root : ℕ) (result : Result ℕ Fault) (new : Device)
-    (t : Storage) : Type 0 where
-  pub written : HasWritten old s (edit_need (capacity_of old) (node_of old) edit) new t
-  pub stands : IfOk result (IsStanding new t.ring)
-  pub shows : IfOk result (λ to. tree_on new to ≡ edited_tree old edit root)
-  pub reached : IfOk result (ReachesFrom old s (source root edit) new)
-  pub refused : IfErr result (λ fault. WorkRefuses old s edit fault new t)
-  pub still : edit_need (capacity_of old) (node_of old) edit ≡ 0 → (new ≡ old) × (t ≡ s)
+pub record IsTried (old : StorageMoment) (edit : Edit) (root : ℕ) (result : Result ℕ Fault) (new : StorageMoment)
+    : Type 0 where
+  pub written : HasWritten old.device old.storage (edit_need (capacity_of old.device) (node_of old.device) edit) new.device new.storage
+  pub stands : IfOk result (IsStanding new.device new.storage.ring)
+  pub shows : IfOk result (λ to. tree_on new.device to ≡ edited_tree old.device edit root)
+  pub reached : IfOk result (ReachesFrom old.device old.storage (source root edit) new.device)
+  pub refused : IfErr result (λ fault. WorkRefuses old.device old.storage edit fault new.device new.storage)
+  pub still : edit_need (capacity_of old.device) (node_of old.device) edit ≡ 0 → (new.device ≡ old.device) × (new.storage ≡ old.storage)
 
 -- what a change works on: a flash, the history and the change group of the system on it, and what nodes are kept with
 pub record Work : Type 0 where

@@ -4,7 +4,7 @@
 //! version.
 ghost use Rattle.std.specs.Prelude.{◌≡◌, ℕ, Some};
 ghost use Rattle.history_machine.specs.History.{working_root, history_with, group_with};
-ghost use Rattle.working_state.specs.Changes.{IsReady, CanApply, IsTried, IsChanged, LeavesSerial, work};
+ghost use Rattle.working_state.specs.Changes.{IsReady, CanApply, storage_moment, IsTried, IsChanged, LeavesSerial, work};
 ghost use Rattle.working_state.specs.Mounted.{IsStanding};
 
 use crate::checks::{check_change, check_writable};
@@ -63,7 +63,7 @@ fn try_change<F: Flash>(
     requires ready { IsReady (F.device flash.old) storage.old }
     requires stands { IsStanding (F.device flash.old) storage.old.ring root }
     requires editable { CanApply (F.device flash.old) storage.old root edit }
-    ensures { IsTried (F.device flash.old) storage.old edit.entry root result (F.device flash.new) storage.new }
+    ensures { IsTried (storage_moment (F.device flash.old) storage.old) edit.entry root result (storage_moment (F.device flash.new) storage.new) }
 {
     let mut store = Store::new(flash, storage);
     apply(alloc, &mut store, root, edit)

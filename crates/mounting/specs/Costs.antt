@@ -22,8 +22,8 @@ pub record AsksEach (old : Device) (roots : List ℕ) (new : Device) : Type 0 wh
   pub are : AreReached (node_of old) roots blocks
   pub most : new.operations ≤ old.operations + length blocks * old.geometry.pages
 
--- the device was asked for the pages of a block for each read of a verification of these roots at most: 20 reads for each
--- of some blocks that they reach, none twice, and 2 for each of their entries
+-- the device was asked for the pages of a block for each read of a verification of these roots at most: those of some blocks
+-- that they reach, none twice, and of what their nodes name
 pub record AsksToVerify (old : Device) (roots : List ℕ) (new : Device) : Type 0 where
   pub blocks : List ℕ
   pub are : AreReached (node_of old) roots blocks

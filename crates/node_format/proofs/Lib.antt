@@ -8,5 +8,6 @@ pub mod Parts
 pub mod Edited
 pub mod BodyFields
 pub mod LinkLaws
+pub mod FirstNames
 pub mod Known
 pub mod OnePass

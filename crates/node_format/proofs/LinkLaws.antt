@@ -271,7 +271,7 @@ pub record IsFilled (l : Link) : Type 0 where
   pub few : length l.items ≤ NODE_ENTRIES
   pub full : (l.next ≡ 0) ⊎ (length l.items ≡ NODE_ENTRIES)
 
-entries_counted : (count used : ℕ) (bytes : List ℕ) (items : List Item) → entries_at count used bytes ≡ Some items → (length items ≡ count) × (count ≤ NODE_ENTRIES)
+pub entries_counted : (count used : ℕ) (bytes : List ℕ) (items : List Item) → entries_at count used bytes ≡ Some items → (length items ≡ count) × (count ≤ NODE_ENTRIES)
 unfolding entries_at
 entries_counted count used bytes items e =
     let c = not_refused (ltb NODE_ENTRIES count) _ items e in

@@ -1,8 +1,9 @@
 -- One node of a directory: its entries, and the block of the node after it.
-use Rattle.std.specs.Prelude.{◌≡◌, ℕ, zero, suc, ◌==◌, ◌^◌, ◌<◌, ◌≤◌, ◌⊎◌, ◌||◌, Bool, true, false, nat_lt, Option, None, List, [], ◌++◌, length, drop, codes, if◌then◌else◌}
+use Rattle.std.specs.Prelude.{◌≡◌, ℕ, zero, suc, ◌==◌, ◌^◌, ◌<◌, ◌≤◌, ◌⊎◌, ◌||◌, Bool, true, false, nat_lt, Option, None, List, [], ◌++◌, length, drop, codes, slice_get, if◌then◌else◌}
 use Rattle.std.specs.Option.{option_map, option_map_or}
 use Rattle.byteorder.specs.Endian.{little_bytes}
 use Rattle.fs_types.specs.declared.limits.TheConstants.{NODE_ENTRIES}
+use Rattle.fs_types.specs.Names.{Name}
 use Rattle.node_format.specs.Headers.{field, directory_header, directory_magic, chain_magic}
 use Rattle.node_format.specs.Items.{Item, are_entries}
 use Rattle.node_format.specs.Directories.{item_at, entries_at, items_bytes}
@@ -15,6 +16,10 @@ pub record Link : Type 0 where
 
 abbrev pub link : Bool → ℕ → List Item → Link
 link chained next items = record { chained = chained; items = items; next = next }
+
+-- the name of the first entry of a node of a chain; none where it has no entry, or stands alone
+abbrev pub first_of : Link → Option Name
+first_of link = if link.chained then option_map (λ item. item.name) (slice_get link.items 0) else None
 
 -- a node that another comes after is full
 abbrev pub may_go_on : ℕ → ℕ → Bool

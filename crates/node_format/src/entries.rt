@@ -1,14 +1,15 @@
 //! One node of a directory: its entries, and the block of the node after it.
-ghost use Rattle.std.specs.Prelude.{◌≡◌, ℕ, ◌≤◌, ◌⊎◌, [], length, drop, true, Some, IfOk, IfSome};
+ghost use Rattle.std.specs.Prelude.{◌≡◌, ℕ, ◌≤◌, ◌⊎◌, ◌&&◌, ◌==◌, nat_le, nat_lt, List, [], length, min, take, drop, true, Some, IfOk, IfSome};
 ghost use Rattle.std.specs.Option.{option_map, option_and_then};
 ghost use Rattle.fs_types.specs.declared.limits.TheConstants.{NODE_ENTRIES};
-ghost use Rattle.node_format.specs.Headers.{IsNode, directory_header};
+ghost use Rattle.node_format.specs.Headers.{IsNode, directory_header, chain_magic, field};
 ghost use Rattle.node_format.specs.Items.{named_place};
 ghost use Rattle.node_format.specs.Directories.{entries_at};
 ghost use Rattle.node_format.specs.Edits.{IsSplit};
 ghost use Rattle.node_format.specs.Links.{Link, IsLink, link, link_at, chain_bytes};
 ghost use Rattle.node_format.specs.Links as spec;
 
+use crate::entry::entry_of;
 use crate::entry_list::{EntryList, entries_of};
 use crate::headers::{CHAIN_MAGIC, DIRECTORY_MAGIC, MOST_ENTRIES};
 use crate::split::{Split, split_entries};
@@ -148,6 +149,27 @@ fn read(bytes: &[u8]) -> Option<Entries<'_>>
         list,
         next: header.next,
     })
+}
+
+/// Whether a node of a chain that has entries begins so.
+fn begins_entries(front: &[u8]) -> bool
+    ensures exact { result ≡ (nat_le 16 (length front.now) && (field front.now 0 == chain_magic && nat_lt 0 (field front.now 4))) }
+    ensures long { result ≡ true → 16 ≤ length front.now }
+{
+    front.len() >= 16 && u32_at(front, 0) == CHAIN_MAGIC && u32_at(front, 4) > 0
+}
+
+/// The name of the first entry of the node of a chain that begins with these bytes; None where it has no
+/// entry, or stands alone. 90 bytes of the node, or all, tell it.
+pub fn first_name(front: &[u8]) -> Option<&[u8]>
+    ensures { (bytes : List ℕ) (l : Link) → take (length bytes) front.now ≡ take (length front.now) bytes → min 90 (length bytes) ≤ length front.now
+        → link_at bytes ≡ Some l → option_map (λ name. name.now) result ≡ spec.first_of l }
+{
+    if !begins_entries(front) {
+        return None;
+    }
+    let (entry, _) = entry_of(&front[16..])?;
+    Some(entry.name())
 }
 
 /// The bytes of a directory without entries: the only node of a chain.

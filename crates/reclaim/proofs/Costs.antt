@@ -7,21 +7,18 @@ use Rattle.std.proofs.lemmas.List.{take_more}
 use Rattle.std.proofs.lemmas.List.Sums.{sum_by-cons, sum_by_push, sum_by-take-le}
 use Rattle.node_format.specs.Items.{Item}
 use Rattle.node_format.specs.Links.{Link}
-use Rattle.node_format.proofs.LinkLaws.{IsFilled}
 use Rattle.node_format.specs.declared.place.Place.{Place}
 use Rattle.node_format.specs.declared.place.Place.TheVariants.{Dir}
 use Rattle.block_trees.specs.Bodies.{Blocks}
-use Rattle.block_trees.specs.Chains.{link_of, next_of, link_items, most_after}
+use Rattle.block_trees.specs.Chains.{link_of, next_of, link_items}
 use Rattle.block_trees.specs.Reached.{Reached, PlaceNames, IsFirst, IsNamed}
 use Rattle.block_trees.proofs.Chained.{among_chain}
-use Rattle.block_trees.proofs.ChainCounts.{linked_filled}
 use Rattle.directory.specs.Depths.{HasDirectories, names_directory, is_directory_at}
 use Rattle.directory.proofs.Levels.{any_contains, directory_is}
-use Rattle.reclaim.specs.Looks.{reads_after, look_reads}
+use Rattle.reclaim.specs.Looks.{look_reads}
 use Rattle.reclaim.specs.Sound.{HoldsLink, IsSoundNode, IsSoundPlace}
 use Rattle.reclaim.specs.Passes.{Pass, AreReached, HasRead, IsPass, IsFinished, Begins}
-use Rattle.reclaim.specs.Verified.{HasCost}
-use Rattle.reclaim.proofs.Marking.{begins_length}
+use Rattle.reclaim.specs.Verified.{HasCost, HasLookedOnce, depth_reads}
 
 -- ---- sums
 
@@ -33,54 +30,25 @@ sum_more f xs i below = ap (sum_by f) (take_more xs i 0 below) ∙ sum_by_push f
 pub sum_within : (f : ℕ → ℕ) (xs : List ℕ) (i : ℕ) → i < length xs → sum_by f (take i xs) + f (slice_index xs i) ≤ sum_by f xs
 sum_within f xs i below = omega (arith, sum_more f xs i below, sum_by-take-le f xs (i + 1))
 
--- 2 more for each
-sum_two : (g : ℕ → ℕ) (xs : List ℕ) → sum_by (λ b. 20 + g b) xs ≡ 2 * length xs + sum_by (λ b. 18 + g b) xs
-sum_two g [] = refl
-sum_two g (x ∷ xs) = omega (arith, sum_by-cons (λ b. 20 + g b) x xs, sum_by-cons (λ b. 18 + g b) x xs, sum_two g xs)
+-- one sum and another
+sum_plus : (g h : ℕ → ℕ) (xs : List ℕ) → sum_by (λ b. g b + h b) xs ≡ sum_by g xs + sum_by h xs
+sum_plus g h [] = refl
+sum_plus g h (x ∷ xs) = omega (arith, sum_by-cons (λ b. g b + h b) x xs, sum_by-cons g x xs, sum_by-cons h x xs, sum_plus g h xs)
 
 -- ---- the looks and the levels
-
-pub look_cost : (f g : Blocks) (b before after : ℕ) → g ≡ f → after ≤ before + look_reads (g b) → after ≤ before + look_reads (f b)
-look_cost f g b before after same most = subst (λ (h : Blocks). after ≤ before + look_reads (h b)) same most
 
 -- whether a block holds a node of a directory
 abbrev pub holds_link : Blocks → ℕ → Bool
 holds_link f b = is_some (link_of (f b))
 
--- the nodes after one are no more than its entries
-few_after : (l : Link) → IsFilled l → reads_after l.next ≤ length l.items
-few_after l filled = elim filled.full [ inl last ↦ none last | inr all ↦ omega (arith, all, at_most (eqb l.next 0)) ]
+-- 17 levels that have nodes of directories alone
+levels : (f : Blocks) (xs : List ℕ) → 17 * length (filter (holds_link f) xs) ≡ sum_by (λ b. depth_reads (f b)) xs
+levels f [] = refl
+levels f (x ∷ xs) = omega (arith, sum_by-cons (λ b. depth_reads (f b)) x xs, on (link_of (f x)), levels f xs)
   where
-    none : l.next ≡ 0 → reads_after l.next ≤ length l.items
-    none last = rw last (omega arith)
-
-    at_most : (t : Bool) → cond t 0 most_after ≤ most_after
-    at_most true = omega arith
-    at_most false = omega arith
-
--- the reads of a look at one node, and of 17 levels where it is one of a directory
-one_node : (node : Option (List ℕ)) → look_reads node + (option_map_or (λ _. 17) (link_of node) 0) ≤ 18 + 2 * length (link_items node)
-one_node node = on (link_of node) refl
-  where
-    on : (o : Option Link) → link_of node ≡ o
-        → 1 + option_map_or (λ l. length l.items) o 13 + reads_after (option_map_or (λ l. l.next) o 0) + option_map_or (λ _. 17) o 0 ≤ 18 + 2 * length (option_map_or (λ l. l.items) o [])
-    on None is = omega arith
-    on (Some l) is = omega (arith, few_after l (linked_filled node l is))
-
--- a look at each block, and 17 levels that have nodes of directories alone
-pub looks_and_levels : (f : Blocks) (xs : List ℕ) → sum_by (λ b. look_reads (f b)) xs + 17 * length (filter (holds_link f) xs) ≤ sum_by (λ b. 18 + 2 * length (link_items (f b))) xs
-looks_and_levels f [] = omega arith
-looks_and_levels f (x ∷ xs) = omega (arith, one, all, levels (link_of (f x)), one_node (f x), looks_and_levels f xs)
-  where
-    one : sum_by (λ b. look_reads (f b)) (x ∷ xs) ≡ look_reads (f x) + sum_by (λ b. look_reads (f b)) xs
-    one = sum_by-cons (λ b. look_reads (f b)) x xs
-
-    all : sum_by (λ b. 18 + 2 * length (link_items (f b))) (x ∷ xs) ≡ (18 + 2 * length (link_items (f x))) + sum_by (λ b. 18 + 2 * length (link_items (f b))) xs
-    all = sum_by-cons (λ b. 18 + 2 * length (link_items (f b))) x xs
-
-    levels : (o : Option Link) → 17 * length (cond (is_some o) (x ∷ filter (holds_link f) xs) (filter (holds_link f) xs)) ≡ option_map_or (λ _. 17) o 0 + 17 * length (filter (holds_link f) xs)
-    levels None = omega arith
-    levels (Some l) = omega arith
+    on : (o : Option Link) → 17 * length (cond (is_some o) (x ∷ filter (holds_link f) xs) (filter (holds_link f) xs)) ≡ option_map_or (λ _. 17) o 0 + 17 * length (filter (holds_link f) xs)
+    on None = omega arith
+    on (Some l) = omega arith
 
 -- what passes a test is in the list of those that do
 filter_has : (p : ℕ → Bool) (xs : List ℕ) (x : ℕ) → Contains xs x → p x ≡ true → Contains (filter p xs) x
@@ -133,7 +101,7 @@ held_items node item h = on (link_of node) refl h
     on (Some l) is h = (l, is, h)
 
 -- the node after one of a directory is one
-next_held : (capacity : ℕ) (f : Blocks) (b : ℕ) → IsSoundNode capacity f b → HoldsLink f b → 0 < next_of (f b) → HoldsLink f (next_of (f b))
+pub next_held : (capacity : ℕ) (f : Blocks) (b : ℕ) → IsSoundNode capacity f b → HoldsLink f b → 0 < next_of (f b) → HoldsLink f (next_of (f b))
 next_held capacity f b sound (l, is) some =
     let own = sound.directory (l, is) in
     let here = among_chain f b own.0 own.1 b (0, omega arith, refl) in
@@ -186,60 +154,59 @@ has_read f old p before after pass same begins most = record {
 
 -- ---- what verification costs
 
-pub free : (f : Blocks) (roots : List ℕ) (before after : ℕ) → after ≡ before → HasCost f roots before after
-free f roots before after same = record {
+-- no reads
+pub none_read : (f : Blocks) (roots : List ℕ) (before : ℕ) → HasCost f roots before before
+none_read f roots before = record {
   blocks = [];
   are = record { distinct = λ i j less below same. omega arith; reached = λ b h. absurd (omega (arith, h.1)) };
   most = omega arith;
 }
 
--- two reads for each of some blocks
-pub few_reads : (f : Blocks) (roots blocks : List ℕ) (before after : ℕ) → AreReached f roots blocks → after ≤ before + 2 * length blocks → HasCost f roots before after
-few_reads f roots blocks before after are most = record {
-  blocks = blocks;
-  are = are;
-  most = omega (arith, sum_two (λ b. 2 * length (link_items (f b))) blocks, most);
+-- no node was looked at
+pub none_looked : (f : Blocks) (roots : List ℕ) (before : ℕ) → HasLookedOnce f roots before before
+none_looked f roots before = record {
+  blocks = [];
+  are = record { distinct = λ i j less below same. omega arith; reached = λ b h. absurd (omega (arith, h.1)) };
+  most = omega arith;
 }
 
--- no reads
-pub none_read : (f : Blocks) (roots : List ℕ) (before : ℕ) → HasCost f roots before before
-none_read f roots before = few_reads f roots [] before before (search rules) (omega arith)
-
--- and those of looks and levels
-pub all_reads : (f : Blocks) (roots blocks : List ℕ) (before after : ℕ) → AreReached f roots blocks
-    → after ≤ before + 2 * length blocks + sum_by (λ b. 18 + 2 * length (link_items (f b))) blocks → HasCost f roots before after
-all_reads f roots blocks before after are most = record {
-  blocks = blocks;
-  are = are;
-  most = omega (arith, sum_two (λ b. 2 * length (link_items (f b))) blocks, most);
+-- so many of the marked blocks were, and one more
+pub looked_once : (f : Blocks) (p : Pass) (before after : ℕ) → IsPass f p → p.next < length p.order → after ≤ before + (sum_by (λ b. 1 + look_reads (f b)) (take p.next p.order) + (1 + look_reads (f (slice_index p.order p.next))))
+    → HasLookedOnce f p.roots before after
+looked_once f p before after pass left most = record {
+  blocks = p.order;
+  are = record { distinct = pass.distinct; reached = pass.reached };
+  most = omega (arith, most, sum_within (λ b. 1 + look_reads (f b)) p.order p.next left);
 }
 
--- ---- the parts of verification
+-- all were
+pub looked_all : (f : Blocks) (p : Pass) (before after : ℕ) → IsPass f p → after ≤ before + sum_by (λ b. 1 + look_reads (f b)) (take p.next p.order) → HasLookedOnce f p.roots before after
+looked_all f p before after pass most = record {
+  blocks = p.order;
+  are = record { distinct = pass.distinct; reached = pass.reached };
+  most = omega (arith, most, sum_by-take-le (λ b. 1 + look_reads (f b)) p.order p.next);
+}
 
-pub pass_reached : (f : Blocks) (roots : List ℕ) (p : Pass) → IsPass f p → p.roots ≡ roots → AreReached f roots p.order
-pass_reached f roots p pass same = record { distinct = pass.distinct; reached = λ b h. subst (λ (l : List ℕ). Reached f l b) same (pass.reached b h) }
+-- no depth was asked
+pub looked_cost : (f : Blocks) (roots own : List ℕ) (before after : ℕ) → own ≡ roots → HasLookedOnce f own before after → HasCost f roots before after
+looked_cost f roots own before after same looked = record {
+  blocks = looked.blocks;
+  are = subst (λ (l : List ℕ). AreReached f l looked.blocks) same looked.are;
+  most = omega (arith, looked.most, sum_plus (λ b. 1 + look_reads (f b)) (λ b. depth_reads (f b)) looked.blocks);
+}
 
--- the roots were looked at
-pub root_reads : (f : Blocks) (roots marked : List ℕ) (p : Pass) (before after : ℕ) → IsPass f p → p.roots ≡ roots → marked ≡ p.order → after ≤ before + length marked → HasCost f roots before after
-root_reads f roots marked p before after pass same listed most =
-    few_reads f roots p.order before after (pass_reached f roots p pass same) (let size : length marked ≡ length p.order = ap length listed in omega arith)
+-- and the depths were, of the nodes of directories among all blocks that the roots reach
+pub depth_cost : (f : Blocks) (roots : List ℕ) (p : Pass) (before mid after : ℕ) → IsPass f p → p.roots ≡ roots → mid ≤ before + sum_by (λ b. 1 + look_reads (f b)) p.order
+    → after ≤ mid + 17 * length (filter (holds_link f) p.order) → HasCost f roots before after
+depth_cost f roots p before mid after pass same looked deep = record {
+  blocks = p.order;
+  are = subst (λ (l : List ℕ). AreReached f l p.order) same (record { distinct = pass.distinct; reached = pass.reached });
+  most = omega (arith, looked, deep, levels f p.order, sum_plus (λ b. 1 + look_reads (f b)) (λ b. depth_reads (f b)) p.order);
+}
 
--- and a pass was broken off
-pub pass_reads : (f g : Blocks) (roots marked : List ℕ) (p : Pass) (before mid after : ℕ) → g ≡ f → p.roots ≡ roots → marked ≡ p.order → p.next ≡ 0 → mid ≤ before + length marked → HasRead g p mid after
-    → HasCost f roots before after
-pass_reads f g roots marked p before mid after same own listed begun most read =
-    few_reads f roots read.seen before after
-    (record { distinct = read.are.distinct; reached = λ b h. subst (λ (h : Blocks). Reached h roots b) same (subst (λ (l : List ℕ). Reached g l b) own (read.are.reached b h)) })
-    (let size : length marked ≡ length p.order = ap length listed in omega (arith, begins_length p.order read.seen read.begins, read.most))
-
--- and the marked blocks were looked at
-pub tree_reads : (f g : Blocks) (roots first marked : List ℕ) (old p : Pass) (before mid next after : ℕ) → g ≡ f → IsPass g p → IsFinished p → p.roots ≡ roots → first ≡ old.order → marked ≡ p.order
-    → Begins old.order p.order → old.next ≡ 0 → mid ≤ before + length first → next + old.next ≡ mid + p.next → after ≤ next + sum_by (λ b. 18 + 2 * length (link_items (g b))) marked
-    → HasCost f roots before after
-tree_reads f g roots first marked old p before mid next after same pass end own listed all begins begun most read last =
-    let size : length first ≡ length old.order = ap length listed in
-    let count : p.next ≡ length p.order = end in
-    let sum : sum_by (λ b. 18 + 2 * length (link_items (g b))) marked ≡ sum_by (λ b. 18 + 2 * length (link_items (f b))) p.order =
-    (λ i. sum_by (λ b. 18 + 2 * length (link_items (same i b))) (all i)) in
-    all_reads f roots p.order before after (subst (λ (h : Blocks). AreReached h roots p.order) same (pass_reached g roots p pass own))
-    (omega (arith, begins_length old.order p.order begins, last, sum, read, most, size, count))
+-- the marked blocks were looked at so far, and one more was
+pub looked_one : (f h : Blocks) (p : Pass) (roots : List ℕ) (block before mid after : ℕ) → h ≡ f → IsPass f p → p.roots ≡ roots → p.next < length p.order → block ≡ slice_index p.order p.next
+    → mid ≤ before + sum_by (λ b. 1 + look_reads (f b)) (take p.next p.order) → after ≤ mid + (1 + look_reads (h block)) → HasLookedOnce f roots before after
+looked_one f h p roots block before mid after same pass own left at so_far one =
+    let here : after ≤ mid + (1 + look_reads (f (slice_index p.order p.next))) = subst (λ (k : ℕ). after ≤ mid + (1 + look_reads (f k))) at (subst (λ (g : Blocks). after ≤ mid + (1 + look_reads (g block))) same one) in
+    subst (λ (l : List ℕ). HasLookedOnce f l before after) own (looked_once f p before after pass left (omega (arith, so_far, here)))

@@ -13,7 +13,7 @@ use Rattle.block_trees.specs.Bodies.{Blocks}
 use Rattle.block_trees.specs.Chains.{link_of, is_later, entries_after, most_after}
 use Rattle.block_trees.proofs.Chains.{by_test, same_items, first_parts, first_law}
 use Rattle.block_trees.proofs.ChainCounts.{linked_filled}
-use Rattle.reclaim.specs.Looks.{last_name, are_after, may_follow, edge_of, edge_at, edge_after}
+use Rattle.reclaim.specs.Looks.{last_name, are_after, may_follow, edge_of}
 use Rattle.reclaim.specs.Sound.{IsDirectoryAt}
 use Rattle.fields.proofs.Found.{some_is}
 
@@ -58,8 +58,12 @@ last_parted (item ∷ front) back some order = parted [] item front back order
 
 -- ---- the nodes after one
 
+-- what a node says that comes after another with this last name; none where it may not
+abbrev pub edge_after : Name → Option Link → Option (Name × ℕ)
+edge_after name link = cond (may_follow name link) (option_map edge_of link) None
+
 -- the nodes from a block on make an end, after a name
-pub goes_on : ℕ → Blocks → Name × ℕ → Bool
+unfoldable pub goes_on : ℕ → Blocks → Name × ℕ → Bool
 goes_on zero f edge = eqb edge.1 0
 goes_on (suc n) f edge = cond (eqb edge.1 0) true (option_map_or (goes_on n f) (edge_after edge.0 (link_of (f edge.1))) false)
 
@@ -184,46 +188,7 @@ begun_exact f block l is = (λ t. to ((end_exact most_after f (edge_of l)).0 t),
         elim filled.full [ inl none ↦ inr (none_after most_after f p.more (subst (λ (k : ℕ). entries_after most_after f k ≡ Some p.more) none rest)) | inr full ↦ inl (omega (arith, full)) ] in
         (p.more, rest, (ascending_parts l.items p.more all).back_ascends, last l.items p.more held all)
 
--- ---- one node after the other
-
 -- a look at the node after
-one_look : (n : ℕ) (f : Blocks) (edge : Name × ℕ) → edge.1 ≢ 0 → goes_on (suc n) f edge ≡ option_map_or (goes_on n f) (edge_after edge.0 (link_of (f edge.1))) false
+pub one_look : (n : ℕ) (f : Blocks) (edge : Name × ℕ) → edge.1 ≢ 0 → goes_on (suc n) f edge ≡ option_map_or (goes_on n f) (edge_after edge.0 (link_of (f edge.1))) false
 unfolding goes_on
 one_look n f edge some = let differs : eqb edge.1 0 ≡ false = grind arith in rw differs refl
-
--- so many nodes are left at node i of them all
-one_left : (i : ℕ) → 1 ≤ i → i < suc most_after → suc most_after - i ≡ suc (suc most_after - (i + 1))
-one_left i past below = omega arith
-
-module _ (f f' : Blocks) (first edge : Name × ℕ) (i : ℕ) (same : f' ≡ f) (so_far : goes_on (suc most_after - i) f edge ≡ goes_on most_after f first) where
-  pub goes_further : (next : Name × ℕ) (found : Option (Name × ℕ)) → 1 ≤ i → i < suc most_after → edge.1 ≢ 0 → found ≡ edge_after edge.0 (link_of (f' edge.1)) → found ≡ Some next
-      → goes_on (suc most_after - (i + 1)) f next ≡ goes_on most_after f first
-  goes_further next found past below some is follows =
-      let here : edge_after edge.0 (link_of (f edge.1)) ≡ Some next = subst (λ (h : Blocks). edge_after edge.0 (link_of (h edge.1)) ≡ Some next) same (sym is ∙ follows) in
-      sym (ap (λ (n : ℕ). goes_on n f edge) (one_left i past below) ∙ one_look (suc most_after - (i + 1)) f edge some
-      ∙ ap (λ (o : Option (Name × ℕ)). option_map_or (goes_on (suc most_after - (i + 1)) f) o false) here) ∙ so_far
-
-  pub goes_nowhere : (found : Option (Name × ℕ)) → 1 ≤ i → i < suc most_after → edge.1 ≢ 0 → found ≡ edge_after edge.0 (link_of (f' edge.1)) → found ≡ None → goes_on most_after f first ≡ false
-  goes_nowhere found past below some is none =
-      let here : edge_after edge.0 (link_of (f edge.1)) ≡ None = subst (λ (h : Blocks). edge_after edge.0 (link_of (h edge.1)) ≡ None) same (sym is ∙ none) in
-      sym so_far ∙ ap (λ (n : ℕ). goes_on n f edge) (one_left i past below) ∙ one_look (suc most_after - (i + 1)) f edge some
-      ∙ ap (λ (o : Option (Name × ℕ)). option_map_or (goes_on (suc most_after - (i + 1)) f) o false) here
-
-  pub goes_to_end : edge.1 ≡ 0 → goes_on most_after f first ≡ true
-  goes_to_end none = sym so_far ∙ (ends (suc most_after - i) f edge (eq-eqb edge.1 0 none)).0
-
-  pub goes_no_more : suc most_after ≤ i → goes_on most_after f first ≡ eqb edge.1 0
-  unfolding goes_on
-  goes_no_more past = let none : suc most_after - i ≡ 0 = omega arith in sym so_far ∙ ap (λ (n : ℕ). goes_on n f edge) none
-
--- what a node says, and whether a directory begins with it
-pub said_exact : (f : Blocks) (block : ℕ) (first : Name × ℕ) (good : Bool) → edge_at (f block) ≡ Some first → goes_on most_after f first ≡ good → IsTrue good ↔ IsDirectoryAt f block
-said_exact f block first good says is = on (link_of (f block)) refl says
-  where
-    on : (o : Option Link) → link_of (f block) ≡ o → option_map edge_of o ≡ Some first → IsTrue good ↔ IsDirectoryAt f block
-    on None none says = absurd cc
-    on (Some l) here says =
-        let same : edge_of l ≡ first = some_is (edge_of l) first says in
-        let all : goes_on most_after f (edge_of l) ≡ good = ap (goes_on most_after f) same ∙ is in
-        let exact = begun_exact f block l here in
-        (λ t. exact.0 (all ∙ t), λ h. sym all ∙ exact.1 h)

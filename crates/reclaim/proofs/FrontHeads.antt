@@ -16,8 +16,8 @@ use Rattle.block_trees.specs.Bodies.{Blocks, index_of, pointer_of, data_of}
 use Rattle.block_trees.specs.Chains.{link_of, link_items}
 use Rattle.block_trees.specs.Reached.{PlaceNames, BodyNames}
 use Rattle.block_trees.proofs.Entries.{directory_no_index}
-use Rattle.reclaim.specs.Looks.{body_of, ArePartsOf, HoldsNodes, LeadsToNodes, SlotsHold, IsAllowed}
-use Rattle.reclaim.specs.Sound.{HoldsSlot, AreSoundNames}
+use Rattle.reclaim.specs.Looks.{body_of, NamesNodes, LeadToNodes, SlotsHold}
+use Rattle.reclaim.specs.Sound.{HoldsSlot}
 use Rattle.reclaim.proofs.FrontNames.{size_is, body_long, front_pointer}
 
 -- each node has a header of 16 bytes
@@ -104,50 +104,20 @@ brought_slot page block front node x next b less = (
   λ h. record { index = h.index; is_body = brought_index page block front node b ∙ h.is_body; names = brought_pointer page block front node h.index x b h.is_body less ∙ h.names },
 )
 
--- a body node has no entries
-pub no_places : (node : Option (List ℕ)) (index : ℕ) → index_of node ≡ Some index → map (λ (item : Item). item.place) (link_items node) ≡ []
-no_places node index has = on (link_of node) refl
-  where
-    on : (o : Option Link) → link_of node ≡ o → map (λ (item : Item). item.place) (option_map_or (λ (l : Link). l.items) o []) ≡ []
-    on None none = refl
-    on (Some l) some = absurd (true≢false (ap is_some (sym has ∙ directory_no_index node l some)))
-
--- the parts of a body node
-pub brought_parts : (page block : ℕ) (front : List ℕ) (node : Option (List ℕ)) (index : ℕ) (pointers : List ℕ) → IsBrought page block front node → index_of node ≡ Some index
-    → length pointers ≡ SLOTS → ((x : ℕ) → x < SLOTS → slice_index pointers x ≡ pointer_of (Some front) x) → ArePartsOf node [] pointers (index_of (Some front))
-brought_parts page block front node index pointers b own count each = record {
-  places_are = sym (no_places node index own);
-  count = count;
-  pointers_are = λ x less. each x less ∙ brought_pointer page block front node index x b own less;
-  index_is = brought_index page block front node b;
-}
-
 -- what holds of the blocks that a node names
 
-pub slots_hold : (f : Blocks) (block : ℕ) (pointers : List ℕ) (i : ℕ) → HoldsNodes f block → index_of (f block) ≡ Some i
-    → ((x : ℕ) → x < SLOTS → slice_index pointers x ≡ pointer_of (f block) x) → SlotsHold f (slice_index pointers) i
-slots_hold f block pointers i holds is each x has none =
-    let names : BodyNames (index_of (f block)) (pointer_of (f block)) (pointer_of (f block) x) = subst (λ (o : Option ℕ). BodyNames o (pointer_of (f block)) (pointer_of (f block) x)) (sym is) (x, has, refl) in
-    holds.named (pointer_of (f block) x) (inr (inl names)) (ap f (sym (each x has.0)) ∙ none)
+pub slots_hold : (f : Blocks) (node : Option (List ℕ)) (pointers : List ℕ) (i : ℕ) → NamesNodes f node → index_of node ≡ Some i
+    → ((x : ℕ) → x < SLOTS → slice_index pointers x ≡ pointer_of node x) → SlotsHold f (slice_index pointers) i
+slots_hold f node pointers i holds is each x has none =
+    let names : BodyNames (index_of node) (pointer_of node) (pointer_of node x) = subst (λ (o : Option ℕ). BodyNames o (pointer_of node) (pointer_of node x)) (sym is) (x, has, refl) in
+    holds (pointer_of node x) (inr (inl names)) (ap f (sym (each x has.0)) ∙ none)
 
 item_of : (items : List Item) (at : Place) → Contains (map (λ (item : Item). item.place) items) at → (item : Item) × Contains items item × (item.place ≡ at)
 item_of [] at (k, lt, is) = absurd (omega arith)
 item_of (x ∷ xs) at (zero, lt, is) = (x, (0, omega arith, refl), is)
 item_of (x ∷ xs) at (suc k, lt, is) = let rest = item_of xs at (k, omega arith, is) in (rest.0, Contains-append_right (x ∷ []) xs rest.0 rest.1, rest.2)
 
-pub places_lead : (f : Blocks) (block : ℕ) (places : List Place) → HoldsNodes f block → places ≡ map (λ (item : Item). item.place) (link_items (f block))
-    → (at : Place) → Contains places at → LeadsToNodes f at
-places_lead f block places holds are at has c names =
-    let found = item_of (link_items (f block)) at (subst (λ (l : List Place). Contains l at) are has) in
-    holds.named c (inl (found.0, found.1, subst (λ (p : Place). PlaceNames p c) (sym found.2) names))
-
--- a body node is allowed where what its slots name is sound
-pub body_allowed : (capacity : ℕ) (f : Blocks) (plain : Bool) (block index : ℕ) (good : Bool) → index_of (f block) ≡ Some index → (IsTrue good ↔ AreSoundNames capacity f (f block))
-    → IsTrue good ↔ IsAllowed capacity f plain block
-body_allowed capacity f plain block index good has exact = (
-  λ t. (record { names = exact.0 t; directory = λ (l, is). absurd (no_link l is) }, λ _ l is. absurd (no_link l is)),
-  λ h. exact.1 h.0.names,
-)
-  where
-    no_link : (l : Link) → link_of (f block) ≡ Some l → ⊥
-    no_link l is = true≢false (ap is_some (sym has ∙ directory_no_index (f block) l is))
+pub places_lead : (f : Blocks) (node : Option (List ℕ)) (places : List Place) → NamesNodes f node → places ≡ map (λ (item : Item). item.place) (link_items node) → LeadToNodes f places
+places_lead f node places holds are at has c names =
+    let found = item_of (link_items node) at (subst (λ (l : List Place). Contains l at) are has) in
+    holds c (inl (found.0, found.1, subst (λ (p : Place). PlaceNames p c) (sym found.2) names))

@@ -10,3 +10,8 @@ pub mod Costs
 pub mod FrontNames
 pub mod FrontHeads
 pub mod KnownPasses
+pub mod Tables
+pub mod Linked
+pub mod Looked
+pub mod Follows
+pub mod Telling

@@ -12,7 +12,8 @@ use Rattle.block_trees.specs.Bodies.{index_of, pointer_of}
 use Rattle.block_trees.specs.Chains.{link_items, next_of}
 use Rattle.block_trees.specs.Reached.{PlaceNames, BodyNames, Names}
 use Rattle.reclaim.specs.Kinds.{FileNames, NamesBody}
-use Rattle.reclaim.specs.Naming.{place_names, item_names, place_heads, item_heads, next_names, has_slot, slots_named, body_named}
+use Rattle.reclaim.specs.Naming.{place_names, item_names, place_heads, item_heads, place_directories, item_directories, next_names, has_slot, slots_named, body_named}
+use Rattle.reclaim.specs.Tables.{NamesDirectory}
 use Rattle.node_format.specs.BodyNodes.{Divides}
 use Rattle.node_format.specs.declared.headers.TheConstants.{SLOTS}
 
@@ -249,3 +250,33 @@ bodies_all bytes list is b = (
     from : NamesBody (Some bytes) b → Contains (heads ++ slots) b
     from (inl (item, within, names)) = Contains-append_left heads slots b (heads_from (link_items (Some bytes)) item b within names)
     from (inr h) = Contains-append_right heads slots b (body_from (index_of (Some bytes)) (pointer_of (Some bytes)) b h)
+
+-- ---- the directories alone
+
+directory_to : (place : Place) (b : ℕ) → Contains (place_directories place) b → place ≡ Dir b
+directory_to (Dir block) b h = ap (λ (k : ℕ). Dir k) (in_one block b h)
+directory_to (File head size) b h = absurd (in_none b h)
+
+directory_from : (place : Place) (b : ℕ) → place ≡ Dir b → Contains (place_directories place) b
+directory_from place b is = subst (λ (p : Place). Contains (place_directories p) b) (sym is) (own_in b b refl)
+
+directories_to : (items : List Item) (b : ℕ) → Contains (flat_map item_directories items) b → (item : Item) × Contains items item × (item.place ≡ Dir b)
+directories_to [] b h = absurd (in_none b h)
+directories_to (item ∷ items) b h = either (Contains-append_cases (item_directories item) (flat_map item_directories items) b h) (directories_to items b)
+  where
+    either : Contains (item_directories item) b ⊎ Contains (flat_map item_directories items) b → (Contains (flat_map item_directories items) b → (i : Item) × Contains items i × (i.place ≡ Dir b)) → (i : Item) × Contains (item ∷ items) i × (i.place ≡ Dir b)
+    either (inl first) again = (item, head_in item items, directory_to item.place b first)
+    either (inr later) again = let found = again later in (found.0, tail_in item found.0 items found.1, found.2)
+
+directories_from : (items : List Item) (item : Item) (b : ℕ) → Contains items item → item.place ≡ Dir b → Contains (flat_map item_directories items) b
+directories_from [] item b (k, lt, is) names = absurd (omega arith)
+directories_from (first ∷ items) item b (zero, lt, is) names =
+    Contains-append_left (item_directories first) (flat_map item_directories items) b (directory_from first.place b (ap (λ (i : Item). i.place) is ∙ names))
+directories_from (first ∷ items) item b (suc k, lt, is) names =
+    Contains-append_right (item_directories first) (flat_map item_directories items) b (directories_from items item b (k, omega arith, is) names)
+
+pub directories_all : (node : Option (List ℕ)) (list : List ℕ) → list ≡ flat_map item_directories (link_items node) → (b : ℕ) → Contains list b ↔ NamesDirectory node b
+directories_all node list is b = (
+  λ h. directories_to (link_items node) b (subst (λ (xs : List ℕ). Contains xs b) is h),
+  λ (item, within, names). subst (λ (xs : List ℕ). Contains xs b) (sym is) (directories_from (link_items node) item b within names),
+)

@@ -4,3 +4,4 @@ pub mod Passes
 pub mod Sound
 pub mod Verified
 pub mod Kinds
+pub mod Tables

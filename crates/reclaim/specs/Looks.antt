@@ -1,5 +1,5 @@
 -- What a look at a block brings.
-use Rattle.std.specs.Prelude.{◌≡◌, ◌≢◌, ℕ, suc, ◌+◌, ◌*◌, ◌<◌, ◌==◌, ◌&&◌, Bool, true, false, Option, Some, None, List, [], ◌∷◌, length, map, slice_index, if◌then◌else◌}
+use Rattle.std.specs.Prelude.{◌≡◌, ◌≢◌, ℕ, suc, ◌+◌, ◌*◌, ◌<◌, ◌==◌, ◌&&◌, Bool, true, false, Option, Some, None, List, [], ◌∷◌, length, map, slice_index, Contains, if◌then◌else◌}
 use Rattle.std.specs.Option.{option_map, option_map_or}
 use Rattle.fs_types.specs.declared.limits.TheConstants.{MAX_FILE_BYTES}
 use Rattle.fs_types.specs.Names.{Name}
@@ -9,23 +9,28 @@ use Rattle.node_format.specs.declared.place.Place.{Place}
 use Rattle.block_trees.specs.Bodies.{Blocks, index_of, data_of, pointer_of}
 use Rattle.block_trees.specs.Reached.{PlaceNames, Names}
 use Rattle.node_format.specs.BodyNodes.{HasSlot}
-use Rattle.block_trees.specs.Chains.{link_of, next_of, link_items, is_later, most_after}
+use Rattle.block_trees.specs.Chains.{link_of, next_of, link_items, is_later}
 use Rattle.reclaim.specs.Naming.{has_slot}
-use Rattle.reclaim.specs.Sound.{HoldsSlot, IsSoundBody, IsSoundNode, IsPlainNode}
+use Rattle.reclaim.specs.Sound.{HoldsLink, HoldsSlot, IsHead, IsSoundBody, IsPlainNode}
+use Rattle.reclaim.specs.declared.looks.Parts.{Parts}
+use Rattle.node_format.specs.declared.place.Place.TheVariants.{Dir, File}
 use Rattle.node_format.specs.declared.headers.TheConstants.{SLOTS}
 
 -- a place leads to blocks that hold nodes
 abbrev pub LeadsToNodes : Blocks → Place → Type 0
 LeadsToNodes f at = (c : ℕ) → PlaceNames at c → f c ≢ None
 
+-- and so do places of a list
+abbrev pub LeadToNodes : Blocks → List Place → Type 0
+LeadToNodes f places = (place : Place) → Contains places place → LeadsToNodes f place
+
 -- the slots that an index has name blocks that hold nodes
 abbrev pub SlotsHold : Blocks → (ℕ → ℕ) → ℕ → Type 0
 SlotsHold f pointer index = (x : ℕ) → HasSlot index x → f (pointer x) ≢ None
 
--- a block holds a node, and each block that this names does
-pub record HoldsNodes (f : Blocks) (block : ℕ) : Type 0 where
-  pub own : f block ≢ None
-  pub named : (c : ℕ) → Names (f block) c → f c ≢ None
+-- each block that a node names holds a node
+abbrev pub NamesNodes : Blocks → Option (List ℕ) → Type 0
+NamesNodes f node = (c : ℕ) → Names node c → f c ≢ None
 
 -- the index of a body node, and how many data bytes it has
 abbrev pub body_of : Option (List ℕ) → Option (ℕ × ℕ)
@@ -54,9 +59,13 @@ abbrev pub may_follow : Name → Option Link → Bool
 may_follow name None = false
 may_follow name (Some link) = is_later link && are_after name link.items
 
--- what a node says that comes after another with this last name; none where it may not
-abbrev pub edge_after : Name → Option Link → Option (Name × ℕ)
-edge_after name link = if may_follow name link then option_map edge_of link else None
+-- the node after a node of a directory is one of a directory
+abbrev pub NextHoldsLink : Blocks → Option (List ℕ) → Type 0
+NextHoldsLink f node = (l : Link) → link_of node ≡ Some l → l.next ≢ 0 → HoldsLink f l.next
+
+-- where it is, it comes after that one
+abbrev pub IsFollowed : Blocks → Option (List ℕ) → Type 0
+IsFollowed f node = (l m : Link) → link_of node ≡ Some l → l.next ≢ 0 → link_of (f l.next) ≡ Some m → may_follow (last_name [] l.items) (Some m) ≡ true
 
 -- whether the node is one of a chain
 abbrev pub is_chained : Option (List ℕ) → Bool
@@ -66,13 +75,13 @@ is_chained node = option_map_or (λ link. link.chained) (link_of node) false
 abbrev pub name_reads : Option (List ℕ) → ℕ
 name_reads node = option_map_or (λ link. length link.items) (link_of node) 13
 
--- the most reads of the nodes after one
-abbrev pub reads_after : ℕ → ℕ
-reads_after next = if next == 0 then 0 else most_after
+-- the reads for the node after one
+abbrev pub link_reads : ℕ → ℕ
+link_reads next = if next == 0 then 0 else 1
 
--- the most reads of a look at a node: of itself, of what it names, and of the nodes after it
+-- the most reads of a look at a node that was read: of what it names, and of the node after it
 abbrev pub look_reads : Option (List ℕ) → ℕ
-look_reads node = 1 + name_reads node + reads_after (next_of node)
+look_reads node = name_reads node + link_reads (next_of node)
 
 -- the pointers of an index are stepped at the slots below n
 abbrev pub AreSteppedTo : Blocks → (ℕ → ℕ) → ℕ → ℕ → Type 0
@@ -89,6 +98,25 @@ pub record ArePartsOf (node : Option (List ℕ)) (places : List Place) (pointers
 abbrev pub IsSoundAt : ℕ → Blocks → (ℕ → ℕ) → ℕ → Type 0
 IsSoundAt capacity f pointer index = (index * capacity < MAX_FILE_BYTES) × IsSoundBody capacity f pointer index
 
--- the node in a block is sound, and where no chains are allowed it is none of a chain
-abbrev pub IsAllowed : ℕ → Blocks → Bool → ℕ → Type 0
-IsAllowed capacity f plain block = IsSoundNode capacity f block × (plain ≡ true → IsPlainNode (f block))
+-- a place of a file leads to the head of its file
+abbrev pub IsSoundFile : ℕ → Blocks → Place → Type 0
+IsSoundFile capacity f (Dir block) = Unit {0}
+IsSoundFile capacity f (File head size) = IsHead capacity f head size
+
+-- the files of a node are sound, and so are a body node's pointers; its index is one that a file can have
+pub record AreSoundParts (capacity : ℕ) (f : Blocks) (node : Option (List ℕ)) : Type 0 where
+  pub entries : (l : Link) → link_of node ≡ Some l → (item : Item) → Contains l.items item → IsSoundFile capacity f item.place
+  pub pointers : (index : ℕ) → index_of node ≡ Some index → IsSoundBody capacity f (pointer_of node) index
+  pub short : (index : ℕ) → index_of node ≡ Some index → index * capacity < MAX_FILE_BYTES
+
+-- what a look at a node finds where all is well: where no chains are allowed it is none of a chain
+pub record IsLooked (capacity : ℕ) (f : Blocks) (plain : Bool) (node : Option (List ℕ)) : Type 0 where
+  pub parts : AreSoundParts capacity f node
+  pub followed : IsFollowed f node
+  pub alone : plain ≡ true → IsPlainNode node
+
+-- these are the parts of a node
+pub record Says (node : Option (List ℕ)) (parts : Parts) : Type 0 where
+  pub named : ArePartsOf node parts.places.items parts.pointers.items parts.index
+  pub edge : option_map (λ e. (e.last.items, e.next)) parts.edge ≡ edge_at node
+  pub chained : parts.is_chained ≡ is_chained node

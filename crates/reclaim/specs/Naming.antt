@@ -23,6 +23,14 @@ place_heads (File head (suc n)) = head ∷ []
 abbrev pub item_heads : Item → List ℕ
 item_heads item = place_heads item.place
 
+-- a directory's block alone
+abbrev pub place_directories : Place → List ℕ
+place_directories (Dir block) = block ∷ []
+place_directories (File head size) = []
+
+abbrev pub item_directories : Item → List ℕ
+item_directories item = place_directories item.place
+
 -- the block of the node after a node of a directory; 0 names none
 abbrev pub next_names : ℕ → List ℕ
 next_names next = if next == 0 then [] else next ∷ []

@@ -1,19 +1,29 @@
 -- Roots that have trees, and what it costs to find out.
-use Rattle.std.specs.Prelude.{ℕ, ◌+◌, ◌*◌, ◌-◌, ◌≤◌, List, length, Contains}
+use Rattle.std.specs.Prelude.{◌≡◌, ℕ, ◌+◌, ◌-◌, ◌≤◌, Bool, true, Option, List, All, Contains}
+use Rattle.std.specs.Option.{option_map_or}
 use Rattle.std.specs.List.{sum_by}
 use Rattle.block_trees.specs.Bodies.{Blocks}
-use Rattle.block_trees.specs.Chains.{link_items}
+use Rattle.block_trees.specs.Chains.{link_of}
 use Rattle.block_trees.specs.Trees.{IsRoot}
-use Rattle.reclaim.specs.Passes.{AreReached}
+use Rattle.reclaim.specs.Looks.{look_reads, NamesNodes, NextHoldsLink, IsLooked}
+use Rattle.reclaim.specs.Passes.{Pass, AreReached}
+use Rattle.block_trees.specs.Reached.{Reached}
+use Rattle.reclaim.specs.Sound.{HoldsLink, IsSoundNode, IsPlain}
+use Rattle.reclaim.specs.Tables.{HasSeen}
 use Rattle.node_format.specs.Headers.{body_header}
 
 -- each root has a tree with linked bodies, on blocks of so many bytes
 abbrev pub AreRoots : ℕ → Blocks → List ℕ → Type 0
 AreRoots limit f roots = (root : ℕ) → Contains roots root → IsRoot (limit - body_header) f root
 
--- 20 reads for each of these blocks, and 2 for each entry of its node
+-- the most reads of the walk of depths for a node: one at each level, of a directory's alone
+abbrev pub depth_reads : Option (List ℕ) → ℕ
+depth_reads node = option_map_or (λ _. 17) (link_of node) 0
+
+-- each node is read once; one first page is read for each entry of a directory, or 13 for a body's node, and one for the node
+-- after a directory's; beside that those of the depths
 abbrev pub most_reads : Blocks → List ℕ → ℕ
-most_reads f blocks = sum_by (λ b. 20 + 2 * length (link_items (f b))) blocks
+most_reads f blocks = sum_by (λ b. (1 + look_reads (f b)) + depth_reads (f b)) blocks
 
 -- so many reads came, at most those of some blocks that the roots reach, none twice: a list that there is whatever the
 -- flash holds, and that has all reached blocks at most
@@ -21,3 +31,24 @@ pub record HasCost (f : Blocks) (roots : List ℕ) (before after : ℕ) : Type 0
   pub blocks : List ℕ
   pub are : AreReached f roots blocks
   pub most : after ≤ before + most_reads f blocks
+
+-- the same without the depths
+pub record HasLookedOnce (f : Blocks) (roots : List ℕ) (before after : ℕ) : Type 0 where
+  pub blocks : List ℕ
+  pub are : AreReached f roots blocks
+  pub most : after ≤ before + sum_by (λ b. 1 + look_reads (f b)) blocks
+
+-- a look found each block that was read sound, where the blocks that it names hold nodes and the one after it one of a directory
+abbrev pub AreLooked : ℕ → Blocks → Bool → Pass → Type 0
+AreLooked capacity f plain p = (b : ℕ) → HasSeen p b → NamesNodes f (f b) → NextHoldsLink f (f b) → IsLooked capacity f plain (f b)
+
+-- the roots have trees, without a chain where only plain directories are allowed
+abbrev pub AreAllowed : ℕ → Blocks → List ℕ → Bool → Type 0
+AreAllowed limit f roots plain = AreRoots limit f roots × (plain ≡ true → IsPlain f roots)
+
+-- all that the roots reach is sound but for the depths, and the roots are directories; no chain is reached where only plain directories
+-- are allowed
+pub record AreWhole (limit : ℕ) (f : Blocks) (roots : List ℕ) (plain : Bool) : Type 0 where
+  pub nodes : (b : ℕ) → Reached f roots b → IsSoundNode (limit - body_header) f b
+  pub directories : All (HoldsLink f) roots
+  pub alone : plain ≡ true → IsPlain f roots

@@ -1,17 +1,19 @@
 //! The nodes of a directory, one after the other.
-ghost use Rattle.std.specs.Prelude.{◌≡◌, ◌↔◌, ℕ, ◌+◌, ◌≤◌, ◌&&◌, nat_lt, IsTrue, [], List, length, Option, Some, IfOk, IfErr};
+ghost use Rattle.std.specs.Prelude.{◌≡◌, ◌≢◌, ℕ, ◌+◌, ◌≤◌, true, [], List, length, Some, IfOk, IfErr};
 ghost use Rattle.std.specs.Option.{option_map};
-ghost use Rattle.block_trees.specs.Chains.{link_of, next_of};
+ghost use Rattle.node_format.specs.Links.{Link, link_at};
+ghost use Rattle.block_trees.specs.Chains.{link_of};
+ghost use Rattle.node_store.specs.Fronts.{IsFront};
 ghost use Rattle.node_store.specs.Faults.{IsLookFault};
 ghost use Rattle.node_store.specs.Frames.{OnlyLooks};
 ghost use Rattle.reclaim.specs.Looks as spec;
-ghost use Rattle.reclaim.specs.Sound.{HoldsLink, IsDirectoryAt};
 ghost use Rattle.fs_types.specs.declared.limits.TheConstants.{MAX_NAME_BYTES};
 
+use crate::fronts::brings_front;
 use arrayvec::ArrayVec;
-use fs_types::{CHAIN_NODES, Fault, MAX_NAME_BYTES};
-use node_format::{Entries, EntryList};
-use node_store::{Nodes, brings};
+use fs_types::{Fault, MAX_NAME_BYTES};
+use node_format::{Entries, EntryList, first_name};
+use node_store::Nodes;
 
 /// What a node of a directory says to the node after it: its last name, none where it has no entry,
 /// and the block of that node, 0 where none comes.
@@ -54,6 +56,16 @@ pub fn edge_in(bytes: &[u8]) -> Option<Edge>
     })
 }
 
+/// The block of the node after the one that says this; None where that is no node of a directory.
+pub fn next_in(edge: &Option<Edge>) -> Option<u32>
+    ensures { result ≡ option_map (λ e. e.next) edge.now }
+{
+    match edge {
+        Some(edge) => Some(edge.next),
+        None => None,
+    }
+}
+
 /// Whether the node of some bytes is one of a chain.
 pub fn is_chained(bytes: &[u8]) -> bool
     ensures { result ≡ spec.is_chained (Some bytes.now) }
@@ -64,81 +76,32 @@ pub fn is_chained(bytes: &[u8]) -> bool
     node.is_chained()
 }
 
-/// Whether there are entries, and they come after a name.
-fn come_after(entries: EntryList<'_>, name: &[u8]) -> bool
-    ensures { result ≡ (nat_lt 0 (length entries.entry) && spec.are_after name.now entries.entry) }
+/// Whether the node of a directory that begins so may come after one with this last name.
+fn comes_after(front: &[u8], name: &[u8]) -> bool
+    ensures { (page : ℕ) (bytes : List ℕ) (l : Link) → 256 ≤ page → IsFront page front.now bytes → link_at bytes ≡ Some l → result ≡ spec.may_follow name.now (Some l) }
 {
-    let mut entries = entries;
-    let Some(first) = entries.next() else {
+    let Some(first) = first_name(front) else {
         return false;
     };
-    name.cmp(first.name()).is_lt()
+    name.cmp(first).is_lt()
 }
 
-/// Whether the node of some bytes may come after one with this last name.
-fn may_follow(bytes: &[u8], name: &[u8]) -> bool
-    ensures { result ≡ spec.may_follow name.now (link_of (Some bytes.now)) }
-{
-    let Some(node) = Entries::of(bytes) else {
-        return false;
-    };
-    node.is_chained() && come_after(node.list(), name)
-}
-
-/// What the node after one says; None where that block holds none, or one that may not come after it.
-fn read_after<N: Nodes>(nodes: &mut N, edge: &Edge) -> Result<Option<Edge>, Fault>
+/// Whether the node that one says comes after it may do so, where it is one of a directory; true where
+/// none comes. Its first page tells.
+pub fn may_go_on<N: Nodes>(nodes: &mut N, edge: &Edge) -> Result<bool, Fault>
     requires { N.is_sound nodes.old }
-    ensures exact { IfOk result (λ found. option_map (λ e. (e.last.items, e.next)) found ≡ spec.edge_after edge.now.last.items (link_of (N.node nodes.old edge.now.next))) }
+    ensures exact { IfOk result (λ good. (edge.now.next ≢ 0 → (l : Link) → link_of (N.node nodes.old edge.now.next) ≡ Some l → good ≡ spec.may_follow edge.now.last.items (Some l)) × (edge.now.next ≡ 0 → good ≡ true)) }
     ensures why { IfErr result (λ fault. N.causes nodes.old nodes.new fault) }
     ensures faults { IfErr result IsLookFault }
     ensures looks { OnlyLooks N.node N.kept N.writes N.follows N.is_sound N.limit N.blocks nodes.old nodes.new }
-    ensures reads { N.reads nodes.new ≡ N.reads nodes.old + 1 }
+    ensures reads { N.reads nodes.new ≤ N.reads nodes.old + spec.link_reads edge.now.next }
 {
-    let brought = brings(nodes, edge.next)?;
+    if edge.next == 0 {
+        return Ok(true);
+    }
+    let brought = brings_front(nodes, edge.next)?;
     if !brought {
-        return Ok(None);
+        return Ok(false);
     }
-    let bytes = nodes.lent();
-    if !may_follow(bytes, edge.last.as_slice()) {
-        return Ok(None);
-    }
-    Ok(edge_in(bytes))
-}
-
-/// Whether a directory begins with the node that says this.
-fn is_directory_from<N: Nodes>(nodes: &mut N, edge: Edge) -> Result<bool, Fault>
-    requires { N.is_sound nodes.old }
-    ensures exact { IfOk result (λ good. (block : ℕ) → spec.edge_at (N.node nodes.old block) ≡ Some (edge.last.items, edge.next) → IsTrue good ↔ IsDirectoryAt (N.node nodes.old) block) }
-    ensures why { IfErr result (λ fault. N.causes nodes.old nodes.new fault) }
-    ensures faults { IfErr result IsLookFault }
-    ensures looks { OnlyLooks N.node N.kept N.writes N.follows N.is_sound N.limit N.blocks nodes.old nodes.new }
-    ensures reads { N.reads nodes.new ≤ N.reads nodes.old + spec.reads_after edge.next }
-{
-    let mut edge = edge;
-    for node in 1..CHAIN_NODES {
-        if edge.next == 0 {
-            return Ok(true);
-        }
-        let found = read_after(nodes, &edge)?;
-        let Some(after) = found else {
-            return Ok(false);
-        };
-        edge = after;
-    }
-    Ok(edge.next == 0)
-}
-
-/// Whether a directory begins with the node that says this, where it is one of a directory.
-pub fn begins_directory<N: Nodes>(nodes: &mut N, edge: Option<Edge>) -> Result<bool, Fault>
-    requires { N.is_sound nodes.old }
-    ensures exact { IfOk result (λ good. (block : ℕ) → spec.edge_at (N.node nodes.old block) ≡ option_map (λ e. (e.last.items, e.next)) edge → IsTrue good ↔ (HoldsLink (N.node nodes.old) block → IsDirectoryAt (N.node nodes.old) block)) }
-    ensures why { IfErr result (λ fault. N.causes nodes.old nodes.new fault) }
-    ensures faults { IfErr result IsLookFault }
-    ensures looks { OnlyLooks N.node N.kept N.writes N.follows N.is_sound N.limit N.blocks nodes.old nodes.new }
-    ensures reads { (node : Option (List ℕ)) → spec.edge_at node ≡ option_map (λ e. (e.last.items, e.next)) edge → N.reads nodes.new ≤ N.reads nodes.old + spec.reads_after (next_of node) }
-{
-    match edge {
-        Some(edge) => is_directory_from(nodes, edge),
-        None => Ok(true),
-    }
+    Ok(comes_after(nodes.fronted(), edge.last.as_slice()))
 }

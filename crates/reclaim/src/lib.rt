@@ -2,12 +2,14 @@
 #![tactic(auto)]
 
 mod edge;
+mod fronts;
 mod laws;
 mod looks;
 mod named;
 mod pass;
 mod reading;
 mod slots;
+mod table;
 mod verification;
 
 pub use laws::{frame_law, pass_laws, sound_laws};

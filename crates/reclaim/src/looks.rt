@@ -7,55 +7,19 @@ ghost use Rattle.node_format.specs.declared.place.Place.{Place};
 ghost use Rattle.node_format.specs.declared.place.Place.TheVariants.{Dir, File};
 ghost use Rattle.node_format.specs.declared.headers.TheConstants.{SLOTS};
 ghost use Rattle.block_trees.specs.Bodies.{index_of, pointer_of};
-ghost use Rattle.block_trees.specs.Chains.{link_items};
-ghost use Rattle.reclaim.specs.Sound.{HoldsLink, IsHead, IsSoundPlace, HoldsSlot, IsSoundBody, AreSoundNames};
+ghost use Rattle.block_trees.specs.Chains.{link_items, next_of};
+ghost use Rattle.reclaim.specs.Sound.{IsHead, HoldsSlot, IsSoundBody};
 ghost use Rattle.reclaim.specs.Looks as spec;
 ghost use Rattle.node_store.specs.Faults.{IsLookFault};
 ghost use Rattle.node_store.specs.Frames.{OnlyLooks};
-ghost use Rattle.node_store.specs.Fronts.{IsFront};
-ghost use Rattle.reclaim.specs.Kinds.{HoldsBodyNode};
 
-use crate::edge::{Edge, begins_directory, edge_in, is_chained};
+use crate::edge::{Edge, edge_in, is_chained, may_go_on};
+use crate::fronts::brings_front;
 use crate::slots::{has_pointer, index_in, pointer_in, used_in};
 use fs_types::{Fault, MAX_FILE_BYTES};
 use node_format::{Entries, EntryList, Place, SLOTS};
-use node_store::{Nodes, brings};
+use node_store::Nodes;
 use std::alloc::{AllocError, Global};
-
-/// Whether a block holds a node of a directory.
-pub fn holds_link<N: Nodes>(nodes: &mut N, block: u32) -> Result<bool, Fault>
-    requires { N.is_sound nodes.old }
-    ensures exact { IfOk result (λ found. IsTrue found ↔ HoldsLink (N.node nodes.old) block) }
-    ensures why { IfErr result (λ fault. N.causes nodes.old nodes.new fault) }
-    ensures faults { IfErr result IsLookFault }
-    ensures looks { OnlyLooks N.node N.kept N.writes N.follows N.is_sound N.limit N.blocks nodes.old nodes.new }
-    ensures reads { N.reads nodes.new ≡ N.reads nodes.old + 1 }
-{
-    let brought = brings(nodes, block)?;
-    if !brought {
-        return Ok(false);
-    }
-    Ok(Entries::of(nodes.lent()).is_some())
-}
-
-/// Brings the beginning of a node, for `fronted` to lend.
-fn bring_front<N: Nodes>(nodes: &mut N, block: u32) -> Result<(), Fault>
-    requires sound { N.is_sound nodes.old }
-    requires there { N.node nodes.old block ≢ None }
-
-    // What is brought.
-    ensures begins { OnOk result ((bytes : List ℕ) → N.node nodes.old block ≡ Some bytes → IsFront (N.page nodes.old) (N.beginning nodes.new) bytes) }
-    ensures lends { OnOk result (N.lends_front nodes.new) }
-
-    // Why not, and what is read.
-    ensures why { IfErr result (λ fault. N.causes nodes.old nodes.new fault) }
-    ensures faults { IfErr result IsLookFault }
-    ensures looks { OnlyLooks N.node N.kept N.writes N.follows N.is_sound N.limit N.blocks nodes.old nodes.new }
-    ensures reads { N.reads nodes.new ≡ N.reads nodes.old + 1 }
-{
-    nodes.front(block)?;
-    Ok(())
-}
 
 /// The index of the body node with this beginning, and how many data bytes it has. None where it is of
 /// no body node.
@@ -67,17 +31,19 @@ fn body_in(front: &[u8]) -> Option<(u32, usize)>
 }
 
 /// The index of the body node in a block, and how many data bytes it has. None where the node in it is
-/// of another kind.
+/// of another kind; where it holds none, any answer.
 fn body_at<N: Nodes>(nodes: &mut N, block: u32) -> Result<Option<(u32, usize)>, Fault>
-    requires sound { N.is_sound nodes.old }
-    requires there { N.node nodes.old block ≢ None }
-    ensures exact { IfOk result (λ found. found ≡ spec.body_of (N.node nodes.old block)) }
+    requires { N.is_sound nodes.old }
+    ensures exact { IfOk result (λ found. N.node nodes.old block ≢ None → found ≡ spec.body_of (N.node nodes.old block)) }
     ensures why { IfErr result (λ fault. N.causes nodes.old nodes.new fault) }
     ensures faults { IfErr result IsLookFault }
     ensures looks { OnlyLooks N.node N.kept N.writes N.follows N.is_sound N.limit N.blocks nodes.old nodes.new }
     ensures reads { N.reads nodes.new ≡ N.reads nodes.old + 1 }
 {
-    bring_front(nodes, block)?;
+    let brought = brings_front(nodes, block)?;
+    if !brought {
+        return Ok(None);
+    }
     Ok(body_in(nodes.fronted()))
 }
 
@@ -94,10 +60,9 @@ fn ends_file(capacity: u32, index: u32, held: usize, length: u32) -> bool
 fn is_head<N: Nodes>(nodes: &mut N, capacity: u32, head: u32, length: u32) -> Result<bool, Fault>
     requires sound { N.is_sound nodes.old }
     requires capacity { 0 < capacity }
-    requires there { spec.LeadsToNodes (N.node nodes.old) (File head length) }
 
-    // What is answered.
-    ensures exact { IfOk result (λ good. IsTrue good ↔ IsHead capacity (N.node nodes.old) head length) }
+    // What is answered where the head is there.
+    ensures exact { IfOk result (λ good. spec.LeadsToNodes (N.node nodes.old) (File head length) → IsTrue good ↔ IsHead capacity (N.node nodes.old) head length) }
 
     // Why not, and what is read.
     ensures why { IfErr result (λ fault. N.causes nodes.old nodes.new fault) }
@@ -115,14 +80,13 @@ fn is_head<N: Nodes>(nodes: &mut N, capacity: u32, head: u32, length: u32) -> Re
     Ok(ends_file(capacity, index, held, length))
 }
 
-/// Whether a place leads to a node of a directory, or to the head of its file.
-fn is_sound_place<N: Nodes>(nodes: &mut N, capacity: u32, place: Place) -> Result<bool, Fault>
+/// Whether a place leads to the head of its file, where it is one of a file.
+fn is_sound_file<N: Nodes>(nodes: &mut N, capacity: u32, place: Place) -> Result<bool, Fault>
     requires sound { N.is_sound nodes.old }
     requires capacity { 0 < capacity }
-    requires there { spec.LeadsToNodes (N.node nodes.old) place }
 
-    // What is answered.
-    ensures exact { IfOk result (λ good. IsTrue good ↔ IsSoundPlace capacity (N.node nodes.old) place) }
+    // What is answered where the head is there.
+    ensures exact { IfOk result (λ good. spec.LeadsToNodes (N.node nodes.old) place → IsTrue good ↔ spec.IsSoundFile capacity (N.node nodes.old) place) }
 
     // Why not, and what is read.
     ensures why { IfErr result (λ fault. N.causes nodes.old nodes.new fault) }
@@ -131,7 +95,7 @@ fn is_sound_place<N: Nodes>(nodes: &mut N, capacity: u32, place: Place) -> Resul
     ensures reads { N.reads nodes.new ≤ N.reads nodes.old + 1 }
 {
     match place {
-        Place::Dir { block } => holds_link(nodes, block),
+        Place::Dir { block: _ } => Ok(true),
         Place::File { head, length } => is_head(nodes, capacity, head, length),
     }
 }
@@ -156,14 +120,13 @@ fn push_places_of(out: &mut Vec<Place>, entries: EntryList<'_>) -> Result<(), Al
     Ok(())
 }
 
-/// Whether all places are sound.
-fn are_sound_places<N: Nodes>(nodes: &mut N, capacity: u32, places: &[Place]) -> Result<bool, Fault>
+/// Whether all places of files lead to their heads.
+fn are_sound_files<N: Nodes>(nodes: &mut N, capacity: u32, places: &[Place]) -> Result<bool, Fault>
     requires sound { N.is_sound nodes.old }
     requires capacity { 0 < capacity }
-    requires there { (place : Place) → Contains places.now place → spec.LeadsToNodes (N.node nodes.old) place }
 
-    // What is answered.
-    ensures exact { IfOk result (λ good. IsTrue good ↔ All (IsSoundPlace capacity (N.node nodes.old)) places.now) }
+    // What is answered where the heads are there.
+    ensures exact { IfOk result (λ good. spec.LeadToNodes (N.node nodes.old) places.now → IsTrue good ↔ All (spec.IsSoundFile capacity (N.node nodes.old)) places.now) }
 
     // Why not, and what is read.
     ensures why { IfErr result (λ fault. N.causes nodes.old nodes.new fault) }
@@ -172,7 +135,7 @@ fn are_sound_places<N: Nodes>(nodes: &mut N, capacity: u32, places: &[Place]) ->
     ensures reads { N.reads nodes.new ≤ N.reads nodes.old + length places.now }
 {
     for place in places {
-        let good = is_sound_place(nodes, capacity, *place)?;
+        let good = is_sound_file(nodes, capacity, *place)?;
         if !good {
             return Ok(false);
         }
@@ -204,10 +167,9 @@ fn slot_names(front: &[u8], slot: usize, next: u32) -> bool
 fn holds_slot<N: Nodes>(nodes: &mut N, block: u32, slot: usize, next: u32) -> Result<bool, Fault>
     requires sound { N.is_sound nodes.old }
     requires slot { slot < SLOTS }
-    requires there { N.node nodes.old block ≢ None }
 
-    // What is answered.
-    ensures exact { IfOk result (λ holds. IsTrue holds ↔ HoldsSlot (N.node nodes.old block) slot next) }
+    // What is answered where there is a node.
+    ensures exact { IfOk result (λ holds. N.node nodes.old block ≢ None → IsTrue holds ↔ HoldsSlot (N.node nodes.old block) slot next) }
 
     // Why not, and what is read.
     ensures why { IfErr result (λ fault. N.causes nodes.old nodes.new fault) }
@@ -215,7 +177,10 @@ fn holds_slot<N: Nodes>(nodes: &mut N, block: u32, slot: usize, next: u32) -> Re
     ensures looks { OnlyLooks N.node N.kept N.writes N.follows N.is_sound N.limit N.blocks nodes.old nodes.new }
     ensures reads { N.reads nodes.new ≡ N.reads nodes.old + 1 }
 {
-    bring_front(nodes, block)?;
+    let brought = brings_front(nodes, block)?;
+    if !brought {
+        return Ok(false);
+    }
     Ok(slot_names(nodes.fronted(), slot, next))
 }
 
@@ -224,10 +189,9 @@ fn holds_slot<N: Nodes>(nodes: &mut N, block: u32, slot: usize, next: u32) -> Re
 fn are_stepped<N: Nodes>(nodes: &mut N, pointers: &[u32], index: u32) -> Result<bool, Fault>
     requires sound { N.is_sound nodes.old }
     requires count { length pointers.now ≡ SLOTS }
-    requires there { spec.SlotsHold (N.node nodes.old) (slice_index pointers.now) index }
 
-    // What is answered.
-    ensures exact { IfOk result (λ good. IsTrue good ↔ spec.AreSteppedTo (N.node nodes.old) (slice_index pointers.now) index 12) }
+    // What is answered where the slots name nodes.
+    ensures exact { IfOk result (λ good. spec.SlotsHold (N.node nodes.old) (slice_index pointers.now) index → IsTrue good ↔ spec.AreSteppedTo (N.node nodes.old) (slice_index pointers.now) index 12) }
 
     // Why not, and what is read.
     ensures why { IfErr result (λ fault. N.causes nodes.old nodes.new fault) }
@@ -256,10 +220,9 @@ fn is_sound_body<N: Nodes>(
     requires sound { N.is_sound nodes.old }
     requires count { length pointers.now ≡ SLOTS }
     requires short { index < 2 ^ 13 }
-    requires there { spec.SlotsHold (N.node nodes.old) (slice_index pointers.now) index }
 
-    // What is answered.
-    ensures exact { IfOk result (λ good. IsTrue good ↔ IsSoundBody capacity (N.node nodes.old) (slice_index pointers.now) index) }
+    // What is answered where the slots name nodes.
+    ensures exact { IfOk result (λ good. spec.SlotsHold (N.node nodes.old) (slice_index pointers.now) index → IsTrue good ↔ IsSoundBody capacity (N.node nodes.old) (slice_index pointers.now) index) }
 
     // Why not, and what is read.
     ensures why { IfErr result (λ fault. N.causes nodes.old nodes.new fault) }
@@ -295,10 +258,9 @@ fn is_sound_at<N: Nodes>(
     requires sound { N.is_sound nodes.old }
     requires capacity { 2 ^ 11 ≤ capacity }
     requires count { length pointers.now ≡ SLOTS }
-    requires there { spec.SlotsHold (N.node nodes.old) (slice_index pointers.now) index }
 
-    // What is answered.
-    ensures exact { IfOk result (λ good. IsTrue good ↔ spec.IsSoundAt capacity (N.node nodes.old) (slice_index pointers.now) index) }
+    // What is answered where the slots name nodes.
+    ensures exact { IfOk result (λ good. spec.SlotsHold (N.node nodes.old) (slice_index pointers.now) index → IsTrue good ↔ spec.IsSoundAt capacity (N.node nodes.old) (slice_index pointers.now) index) }
 
     // Why not, and what is read.
     ensures why { IfErr result (λ fault. N.causes nodes.old nodes.new fault) }
@@ -315,18 +277,16 @@ fn is_sound_at<N: Nodes>(
 /// What the bytes of a node say: the places of its entries, what stands in its slots, the index of a
 /// body node, what a node of a directory says to the one after it, and whether it is one of a chain.
 #[derive(Drop)]
-struct Parts {
-    places: Vec<Place>,
-    pointers: Vec<u32>,
-    index: Option<u32>,
-    edge: Option<Edge>,
-    is_chained: bool,
+pub struct Parts {
+    pub places: Vec<Place>,
+    pub pointers: Vec<u32>,
+    pub index: Option<u32>,
+    pub edge: Option<Edge>,
+    pub is_chained: bool,
 }
 
-fn parts_in(alloc: Global, bytes: &[u8]) -> Result<Parts, AllocError>
-    ensures named { IfOk result (λ parts. spec.ArePartsOf (Some bytes.now) parts.places.items parts.pointers.items parts.index) }
-    ensures edge { IfOk result (λ parts. option_map (λ e. (e.last.items, e.next)) parts.edge ≡ spec.edge_at (Some bytes.now)) }
-    ensures chained { IfOk result (λ parts. parts.is_chained ≡ spec.is_chained (Some bytes.now)) }
+pub fn parts_in(alloc: Global, bytes: &[u8]) -> Result<Parts, AllocError>
+    ensures { IfOk result (λ parts. spec.Says (Some bytes.now) parts) }
 {
     let places = places_in(alloc, bytes)?;
     let pointers = pointers_in(alloc, bytes)?;
@@ -342,8 +302,8 @@ fn parts_in(alloc: Global, bytes: &[u8]) -> Result<Parts, AllocError>
     })
 }
 
-/// Whether what a node names, of which these are parts, is sound.
-fn are_sound_names<N: Nodes>(
+/// Whether the files and the pointers of a node, of which these are parts, are sound.
+fn are_sound_parts<N: Nodes>(
     nodes: &mut N,
     capacity: u32,
     places: &[Place],
@@ -353,11 +313,9 @@ fn are_sound_names<N: Nodes>(
     requires sound { N.is_sound nodes.old }
     requires capacity { 2 ^ 11 ≤ capacity }
     requires count { length pointers.now ≡ SLOTS }
-    requires places { (place : Place) → Contains places.now place → spec.LeadsToNodes (N.node nodes.old) place }
-    requires slots { (i : ℕ) → index ≡ Some i → spec.SlotsHold (N.node nodes.old) (slice_index pointers.now) i }
 
-    // What is answered.
-    ensures exact { IfOk result (λ good. (node : Option (List ℕ)) → spec.ArePartsOf node places.now pointers.now index → IsTrue good ↔ AreSoundNames capacity (N.node nodes.old) node) }
+    // What is answered where the blocks that it names hold nodes.
+    ensures exact { IfOk result (λ good. (node : Option (List ℕ)) → spec.ArePartsOf node places.now pointers.now index → spec.NamesNodes (N.node nodes.old) node → IsTrue good ↔ spec.AreSoundParts capacity (N.node nodes.old) node) }
 
     // Why not, and what is read.
     ensures why { IfErr result (λ fault. N.causes nodes.old nodes.new fault) }
@@ -365,7 +323,7 @@ fn are_sound_names<N: Nodes>(
     ensures looks { OnlyLooks N.node N.kept N.writes N.follows N.is_sound N.limit N.blocks nodes.old nodes.new }
     ensures reads { (node : Option (List ℕ)) → spec.ArePartsOf node places.now pointers.now index → N.reads nodes.new ≤ N.reads nodes.old + spec.name_reads node }
 {
-    let good = are_sound_places(nodes, capacity, places)?;
+    let good = are_sound_files(nodes, capacity, places)?;
     if !good {
         return Ok(false);
     }
@@ -375,99 +333,53 @@ fn are_sound_names<N: Nodes>(
     }
 }
 
-/// Whether the body node in a block is sound: what its slots name is.
-fn look_at_body<N: Nodes>(
-    alloc: Global,
-    nodes: &mut N,
-    capacity: u32,
-    block: u32,
-) -> Result<bool, Fault>
-    requires sound { N.is_sound nodes.old }
-    requires capacity { 2 ^ 11 ≤ capacity }
-    requires body { HoldsBodyNode (N.node nodes.old) block }
-    requires there { spec.HoldsNodes (N.node nodes.old) block }
+/// Whether the node that may come after one may do so, where that is one of a directory.
+fn is_followed<N: Nodes>(nodes: &mut N, edge: &Option<Edge>) -> Result<bool, Fault>
+    requires { N.is_sound nodes.old }
 
-    // What is answered.
-    ensures exact { IfOk result (λ good. (plain : Bool) → IsTrue good ↔ spec.IsAllowed capacity (N.node nodes.old) plain block) }
+    // What is answered where the node after it is one of a directory.
+    ensures exact { IfOk result (λ good. (node : Option (List ℕ)) → spec.edge_at node ≡ option_map (λ e. (e.last.items, e.next)) edge.now → spec.NextHoldsLink (N.node nodes.old) node → IsTrue good ↔ spec.IsFollowed (N.node nodes.old) node) }
 
     // Why not, and what is read.
     ensures why { IfErr result (λ fault. N.causes nodes.old nodes.new fault) }
     ensures faults { IfErr result IsLookFault }
     ensures looks { OnlyLooks N.node N.kept N.writes N.follows N.is_sound N.limit N.blocks nodes.old nodes.new }
-    ensures reads { N.reads nodes.new ≤ N.reads nodes.old + spec.look_reads (N.node nodes.old block) }
+    ensures reads { (node : Option (List ℕ)) → spec.edge_at node ≡ option_map (λ e. (e.last.items, e.next)) edge.now → N.reads nodes.new ≤ N.reads nodes.old + spec.link_reads (next_of node) }
 {
-    bring_front(nodes, block)?;
-    let front = nodes.fronted();
-    let index = index_in(front);
-    let pointers = pointers_in(alloc, front)?;
-    are_sound_names(nodes, capacity, &[], &pointers, index)
+    match edge {
+        Some(edge) => may_go_on(nodes, edge),
+        None => Ok(true),
+    }
 }
 
-/// Whether a node that is not known to be one of a body is sound.
-fn look_at_whole<N: Nodes>(
-    alloc: Global,
+/// Whether a node that says this is sound as far as its own entries of files, its slots and the node
+/// after it tell; where only plain directories are allowed, no node of a chain is. Of each block that it
+/// names the first page alone is read.
+pub fn look<N: Nodes>(
     nodes: &mut N,
     capacity: u32,
     plain: bool,
-    block: u32,
+    parts: &Parts,
 ) -> Result<bool, Fault>
     requires sound { N.is_sound nodes.old }
     requires capacity { 2 ^ 11 ≤ capacity }
-    requires there { spec.HoldsNodes (N.node nodes.old) block }
+    requires count { length parts.now.pointers.items ≡ SLOTS }
 
-    // What is answered.
-    ensures exact { IfOk result (λ good. IsTrue good ↔ spec.IsAllowed capacity (N.node nodes.old) plain block) }
+    // What is answered where the blocks that it names hold nodes, and the one after it a node of a directory.
+    ensures exact { IfOk result (λ good. (node : Option (List ℕ)) → spec.Says node parts.now → spec.NamesNodes (N.node nodes.old) node → spec.NextHoldsLink (N.node nodes.old) node → IsTrue good ↔ spec.IsLooked capacity (N.node nodes.old) plain node) }
 
     // Why not, and what is read.
     ensures why { IfErr result (λ fault. N.causes nodes.old nodes.new fault) }
     ensures faults { IfErr result IsLookFault }
     ensures looks { OnlyLooks N.node N.kept N.writes N.follows N.is_sound N.limit N.blocks nodes.old nodes.new }
-    ensures reads { N.reads nodes.new ≤ N.reads nodes.old + spec.look_reads (N.node nodes.old block) }
+    ensures reads { (node : Option (List ℕ)) → spec.Says node parts.now → N.reads nodes.new ≤ N.reads nodes.old + spec.look_reads node }
 {
-    let brought = brings(nodes, block)?;
-    if !brought {
-        return Ok(true);
-    }
-    let parts = parts_in(alloc, nodes.lent())?;
     if plain && parts.is_chained {
         return Ok(false);
     }
-    let whole = begins_directory(nodes, parts.edge)?;
-    if !whole {
+    let is_followed = is_followed(nodes, &parts.edge)?;
+    if !is_followed {
         return Ok(false);
     }
-    let good = are_sound_names(nodes, capacity, &parts.places, &parts.pointers, parts.index)?;
-    Ok(good)
-}
-
-/// Whether the node in a block is sound: a directory's entries are, and the nodes after it go on with a
-/// directory, or a body node's pointers are. Where only plain directories are allowed, no node of a
-/// chain is. It holds a node, and so do the blocks that this names; one that is known to be of a body is
-/// told by its beginning, and so are the nodes of bodies that are named.
-pub fn look<N: Nodes>(
-    alloc: Global,
-    nodes: &mut N,
-    capacity: u32,
-    plain: bool,
-    is_body: bool,
-    block: u32,
-) -> Result<bool, Fault>
-    requires sound { N.is_sound nodes.old }
-    requires capacity { 2 ^ 11 ≤ capacity }
-    requires body { is_body ≡ true → HoldsBodyNode (N.node nodes.old) block }
-    requires there { spec.HoldsNodes (N.node nodes.old) block }
-
-    // What is answered.
-    ensures exact { IfOk result (λ good. IsTrue good ↔ spec.IsAllowed capacity (N.node nodes.old) plain block) }
-
-    // Why not, and what is read.
-    ensures why { IfErr result (λ fault. N.causes nodes.old nodes.new fault) }
-    ensures faults { IfErr result IsLookFault }
-    ensures looks { OnlyLooks N.node N.kept N.writes N.follows N.is_sound N.limit N.blocks nodes.old nodes.new }
-    ensures reads { N.reads nodes.new ≤ N.reads nodes.old + spec.look_reads (N.node nodes.old block) }
-{
-    if is_body {
-        return look_at_body(alloc, nodes, capacity, block);
-    }
-    look_at_whole(alloc, nodes, capacity, plain, block)
+    are_sound_parts(nodes, capacity, &parts.places, &parts.pointers, parts.index)
 }

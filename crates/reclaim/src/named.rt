@@ -8,7 +8,8 @@ ghost use Rattle.block_trees.specs.Reached.{Names};
 ghost use Rattle.node_store.specs.Faults.{IsReadFault};
 ghost use Rattle.node_store.specs.Frames.{OnlyLooks};
 ghost use Rattle.reclaim.specs.Kinds.{HoldsBodyNode, NamesBody, read_pages};
-ghost use Rattle.reclaim.specs.Naming.{place_names, item_names, place_heads, item_heads, next_names, slots_named, body_named};
+ghost use Rattle.reclaim.specs.Naming.{place_names, item_names, place_heads, item_heads, place_directories, item_directories, next_names, slots_named, body_named};
+ghost use Rattle.reclaim.specs.Tables.{NamesDirectory};
 
 use crate::slots::{has_pointer, index_in, pointer_in};
 use fs_types::Fault;
@@ -69,6 +70,36 @@ fn push_heads(out: &mut Vec<u32>, entries: EntryList<'_>) -> Result<(), AllocErr
     Ok(())
 }
 
+// The block of a directory: none for a file.
+fn directory_of(place: Place) -> Option<u32>
+    ensures { option_to_list result ≡ place_directories place }
+{
+    match place {
+        Place::Dir { block } => Some(block),
+        Place::File { head: _, length: _ } => None,
+    }
+}
+
+fn push_directory_blocks(out: &mut Vec<u32>, entries: EntryList<'_>) -> Result<(), AllocError>
+    ensures { OnOk result (out.new.items ≡ out.old.items ++ flat_map item_directories entries.entry) }
+{
+    for entry in entries {
+        if let Some(block) = directory_of(entry.place()) {
+            out.push(block)?;
+        }
+    }
+    Ok(())
+}
+
+fn push_directories(out: &mut Vec<u32>, bytes: &[u8]) -> Result<(), AllocError>
+    ensures { OnOk result (out.new.items ≡ out.old.items ++ flat_map item_directories (link_items (Some bytes.now))) }
+{
+    let Some(node) = Entries::of(bytes) else {
+        return Ok(());
+    };
+    push_directory_blocks(out, node.list())
+}
+
 fn push_slots(out: &mut Vec<u32>, index: u32, bytes: &[u8]) -> Result<(), AllocError>
     ensures { OnOk result (out.new.items ≡ out.old.items ++ slots_named index (pointer_of (Some bytes.now)) SLOTS) }
 {
@@ -120,7 +151,7 @@ fn push_body(out: &mut Vec<u32>, bytes: &[u8]) -> Result<(), AllocError>
 
 /// The blocks that the node of some bytes names, by an entry, as the node after it or by a slot. A
 /// block may be there more than once; bytes of no node name none.
-fn list_names(alloc: Global, bytes: &[u8]) -> Result<Vec<u32>, Fault>
+pub fn list_names(alloc: Global, bytes: &[u8]) -> Result<Vec<u32>, Fault>
     ensures names { IfOk result (λ v. (b : ℕ) → Contains v.items b ↔ Names (Some bytes.now) b) }
     ensures memory { IfErr result (λ fault. fault ≡ Fault.NoMemory) }
 {
@@ -138,6 +169,16 @@ fn list_bodies(alloc: Global, bytes: &[u8]) -> Result<Vec<u32>, Fault>
     let mut out = Vec::new(alloc);
     push_files(&mut out, bytes)?;
     push_body(&mut out, bytes)?;
+    Ok(out)
+}
+
+/// Those of them that it names as directories.
+pub fn list_directories(alloc: Global, bytes: &[u8]) -> Result<Vec<u32>, Fault>
+    ensures names { IfOk result (λ v. (b : ℕ) → Contains v.items b ↔ NamesDirectory (Some bytes.now) b) }
+    ensures memory { IfErr result (λ fault. fault ≡ Fault.NoMemory) }
+{
+    let mut out = Vec::new(alloc);
+    push_directories(&mut out, bytes)?;
     Ok(out)
 }
 

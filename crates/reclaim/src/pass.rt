@@ -1,9 +1,9 @@
 //! A marking of the blocks that roots reach, in steps of so many reads.
-ghost use Rattle.std.specs.Prelude.{◌≡◌, ◌≢◌, ◌↔◌, ℕ, ◌+◌, ◌-◌, ◌^◌, ◌<◌, ◌≤◌, [], ◌∷◌, true, false, ◌&&◌, length, slice_index, Contains, OnOk, IfOk, IfErr, IsErrOf, None, Ok, Err};
+ghost use Rattle.std.specs.Prelude.{◌≡◌, ◌≢◌, ◌↔◌, ℕ, ◌+◌, ◌-◌, ◌^◌, ◌<◌, ◌≤◌, [], ◌∷◌, true, false, ◌&&◌, length, slice_index, Contains, OnOk, IfOk, IfErr, IfSome, IfNone, IsErrOf, None, Ok, Err};
 ghost use Rattle.std.specs.FinSet as set;
 ghost use Rattle.allocator.specs.Ring.{IsDataBlock};
 ghost use Rattle.block_trees.specs.Bodies.{Blocks};
-ghost use Rattle.block_trees.specs.Reached.{Reached};
+ghost use Rattle.block_trees.specs.Reached.{Reached, Names};
 ghost use Rattle.node_store.specs.Faults.{IsReadFault};
 ghost use Rattle.node_store.specs.Frames.{OnlyLooks};
 ghost use Rattle.reclaim.specs.Kinds.{Knows, is_by_fronts, noted_of, mark_pages, HasAsked};
@@ -141,18 +141,30 @@ impl Pass {
         Ok(())
     }
 
-    /// The marked blocks, in order of marking.
-    pub(crate) fn marked(&self) -> &[u32]
-        ensures { result.now ≡ self.now.order }
+    /// The block that is read next; None where no marked block is left to be read.
+    pub(crate) fn next_block(&self) -> Option<u32>
+        ensures left { IfSome result (λ block. (self.now.next < length self.now.order) × (block ≡ slice_index self.now.order self.now.next) × (self.now.next < 2 ^ 64)) }
+        ensures finished { IfNone result (IsFinished self.now) }
     {
-        &self.order
+        if self.is_finished() {
+            return None;
+        }
+        Some(self.order[self.next])
     }
 
-    /// The blocks that are noted as those of bodies.
-    pub(crate) fn noted(&self) -> &BlockSet
-        ensures { result.now.members ≡ self.now.bodies }
+    /// Marks what the node of the block that is read next names, which counts as read then.
+    pub(crate) fn mark_next(&mut self, names: &[u32]) -> Result<(), Fault>
+        requires { self.old.next < length self.old.order }
+
+        // The pass goes on.
+        ensures pass { (f : Blocks) → IsPass f self.old → f (slice_index self.old.order self.old.next) ≢ None → ((b : ℕ) → Contains names.now b ↔ Names (f (slice_index self.old.order self.old.next)) b) → OnOk result (IsPass f self.new) }
+        ensures on { Advances self.old self.new }
+        ensures next { OnOk result ((self.new.next ≡ self.old.next + 1) × IsMarked self.old.order names.now self.new.order) }
+        ensures why { IfErr result (IsMarkFault self.old.blocks names.now) }
     {
-        &self.bodies
+        self.mark_all(names)?;
+        self.next += 1;
+        Ok(())
     }
 
     /// The marked blocks: exactly those that the roots reach. No marked block is left to be read.
@@ -262,8 +274,8 @@ impl Pass {
     }
 }
 
-// Puts blocks of a list into a set, but those past its last block.
-fn add_blocks(found: &mut BlockSet, list: &[u32])
+/// Puts blocks of a list into a set, but those past its last block.
+pub(crate) fn add_blocks(found: &mut BlockSet, list: &[u32])
     ensures noted { AreNoted found.old.members list.now found.old.blocks found.new.members }
     ensures size { found.new.blocks ≡ found.old.blocks }
 {

@@ -1,28 +1,27 @@
 //! Whether roots have trees: one look at each block that they reach, and at the depth below each root.
-ghost use Rattle.std.specs.Prelude.{◌≡◌, ◌≢◌, ◌↔◌, ℕ, ◌+◌, ◌*◌, ◌^◌, ◌≤◌, ◌<◌, true, List, length, All, Contains, IsTrue, IfOk, IfErr, IsErrOf};
-ghost use Rattle.std.specs.FinSet as set;
+ghost use Rattle.std.specs.Prelude.{◌≡◌, ◌≢◌, ◌↔◌, ℕ, ◌+◌, ◌*◌, ◌-◌, ◌≤◌, ◌<◌, true, false, None, List, length, slice_index, All, Contains, IsTrue, OnOk, IfOk, IfErr, IsErrOf};
 ghost use Rattle.std.specs.List.{sum_by};
 ghost use Rattle.allocator.specs.Ring.{IsDataBlock};
+ghost use Rattle.node_format.specs.Headers.{body_header};
 ghost use Rattle.node_format.specs.declared.place.Place.TheVariants.{Dir};
-ghost use Rattle.block_trees.specs.Bodies.{Blocks};
-ghost use Rattle.block_trees.specs.Chains.{link_items};
 ghost use Rattle.block_trees.specs.Laws.{IsShallow};
 ghost use Rattle.directory.specs.Depths.{HasDirectories};
 ghost use Rattle.directory.specs.Lookups.{LeadsToDirectories};
 ghost use Rattle.block_trees.specs.Reached.{Reached};
 ghost use Rattle.node_store.specs.Faults.{IsLookFault, IsReadFault};
 ghost use Rattle.node_store.specs.Frames.{OnlyLooks};
-ghost use Rattle.reclaim.specs.Kinds.{AreKnown};
-ghost use Rattle.reclaim.specs.Looks.{IsAllowed, look_reads};
-ghost use Rattle.reclaim.specs.Passes.{IsPass, IsFinished};
-ghost use Rattle.reclaim.specs.Sound.{HoldsLink, IsPlain};
-ghost use Rattle.reclaim.specs.Verified.{AreRoots, HasCost};
+ghost use Rattle.reclaim.specs.Looks.{NamesNodes, NextHoldsLink, IsLooked, look_reads};
+ghost use Rattle.reclaim.specs.Passes.{IsPass, IsFinished, Advances};
+ghost use Rattle.reclaim.specs.Sound.{IsPlain};
+ghost use Rattle.reclaim.specs.Tables.{IsTold};
+ghost use Rattle.reclaim.specs.Verified.{AreRoots, AreAllowed, AreLooked, AreWhole, HasLookedOnce, HasCost};
 ghost use Rattle.fs_types.specs.declared.limits.TheConstants.{MAX_NAMES};
 
-use crate::looks::{holds_link, look};
+use crate::edge::next_in;
+use crate::looks::{look, parts_in};
+use crate::named::{list_directories, list_names};
 use crate::pass::Pass;
-use crate::reading::Reading;
-use allocator::BlockSet;
+use crate::table::Table;
 use directory::any_is_deeper;
 use fs_types::{ANCHORS, Fault, MAX_NAMES};
 use node_format::BODY_HEADER;
@@ -48,57 +47,6 @@ fn are_data_blocks(blocks: u32, list: &[u32]) -> bool
     true
 }
 
-// Whether a look at each block of a list finds it sound, and none a node of a chain where only plain
-// directories are allowed. All hold nodes, and some are known to be of bodies.
-fn are_allowed<N: Nodes>(
-    alloc: Global,
-    nodes: &mut N,
-    capacity: u32,
-    plain: bool,
-    list: &[u32],
-    bodies: &BlockSet,
-) -> Result<bool, Fault>
-    requires sound { N.is_sound nodes.old }
-    requires capacity { 2 ^ 11 ≤ capacity }
-    requires known { AreKnown (N.node nodes.old) list.now bodies.now.members }
-
-    // What is answered.
-    ensures exact { IfOk result (λ good. IsTrue good ↔ All (IsAllowed capacity (N.node nodes.old) plain) list.now) }
-
-    // Why not, and what is read.
-    ensures why { IfErr result (λ fault. N.causes nodes.old nodes.new fault) }
-    ensures faults { IfErr result IsLookFault }
-    ensures looks { OnlyLooks N.node N.kept N.writes N.follows N.is_sound N.limit N.blocks nodes.old nodes.new }
-    ensures reads { N.reads nodes.new ≤ N.reads nodes.old + sum_by (λ b. look_reads (N.node nodes.old b)) list.now }
-{
-    for block in list {
-        let is_body = bodies.contains(*block);
-        let good = look(alloc, nodes, capacity, plain, is_body, *block)?;
-        if !good {
-            return Ok(false);
-        }
-    }
-    Ok(true)
-}
-
-// Whether each block of a list holds a node of a directory.
-fn hold_links<N: Nodes>(nodes: &mut N, list: &[u32]) -> Result<bool, Fault>
-    requires { N.is_sound nodes.old }
-    ensures exact { IfOk result (λ good. IsTrue good ↔ All (HoldsLink (N.node nodes.old)) list.now) }
-    ensures why { IfErr result (λ fault. N.causes nodes.old nodes.new fault) }
-    ensures faults { IfErr result IsLookFault }
-    ensures looks { OnlyLooks N.node N.kept N.writes N.follows N.is_sound N.limit N.blocks nodes.old nodes.new }
-    ensures reads { N.reads nodes.new ≤ N.reads nodes.old + length list.now }
-{
-    for block in list {
-        let good = holds_link(nodes, *block)?;
-        if !good {
-            return Ok(false);
-        }
-    }
-    Ok(true)
-}
-
 // Whether no path below any root has too many names. All that the roots lead to are directories.
 fn are_shallow<N: Nodes>(alloc: Global, nodes: &mut N, roots: &[u32]) -> Result<bool, Fault>
     requires sound { N.is_sound nodes.old }
@@ -113,80 +61,124 @@ fn are_shallow<N: Nodes>(alloc: Global, nodes: &mut N, roots: &[u32]) -> Result<
     Ok(!deep)
 }
 
-// Whether each root has a tree, without a chain where only plain directories are allowed, by the list
-// of all that they reach. The roots hold nodes of directories.
-fn have_trees<N: Nodes>(
+/// Reads the block that a pass reads next, whole: marks what its node names, notes it, and looks at it.
+fn look_at_next<N: Nodes>(
     alloc: Global,
     nodes: &mut N,
-    roots: &[u32],
     plain: bool,
-    marked: &[u32],
-    bodies: &BlockSet,
+    block: u32,
+    pass: &mut Pass,
+    table: &mut Table,
 ) -> Result<bool, Fault>
     requires sound { N.is_sound nodes.old }
-    requires known { AreKnown (N.node nodes.old) marked.now bodies.now.members }
-    requires marked { (b : ℕ) → Contains marked.now b ↔ Reached (N.node nodes.old) roots.now b }
-    requires directories { All (HoldsLink (N.node nodes.old)) roots.now }
+    requires blocks { pass.old.blocks ≡ N.blocks nodes.old }
+    requires left { (pass.old.next < length pass.old.order) × (block ≡ slice_index pass.old.order pass.old.next) }
+    requires pass { IsPass (N.node nodes.old) pass.old }
+    requires told { IsTold (N.node nodes.old) pass.old table.old }
 
-    // What is answered.
-    ensures exact { IfOk result (λ good. IsTrue good ↔ (AreRoots (N.limit nodes.old) (N.node nodes.old) roots.now × (plain ≡ true → IsPlain (N.node nodes.old) roots.now))) }
+    // The pass goes on, and what is found.
+    ensures pass { OnOk result (IsPass (N.node nodes.new) pass.new × IsTold (N.node nodes.new) pass.new table.new) }
+    ensures on { Advances pass.old pass.new }
+    ensures next { OnOk result (pass.new.next ≡ pass.old.next + 1) }
+    ensures exact { IfOk result (λ good. NamesNodes (N.node nodes.old) (N.node nodes.old block) → NextHoldsLink (N.node nodes.old) (N.node nodes.old block) → IsTrue good ↔ IsLooked (N.limit nodes.old - body_header) (N.node nodes.old) plain (N.node nodes.old block)) }
 
     // Why not, and what is read.
-    ensures why { IfErr result (λ fault. N.causes nodes.old nodes.new fault) }
-    ensures faults { IfErr result IsLookFault }
+    ensures damaged { IsErrOf result Fault.Damaged → (b : ℕ) × Reached (N.node nodes.old) pass.old.roots b × (N.node nodes.old b ≡ None) }
+    ensures why { IfErr result (λ fault. fault ≢ Fault.Damaged → N.causes nodes.old nodes.new fault) }
+    ensures faults { IfErr result IsReadFault }
     ensures looks { OnlyLooks N.node N.kept N.writes N.follows N.is_sound N.limit N.blocks nodes.old nodes.new }
-    ensures reads { N.reads nodes.new ≤ N.reads nodes.old + sum_by (λ b. 18 + 2 * length (link_items (N.node nodes.old b))) marked.now }
+    ensures reads { N.reads nodes.new ≤ N.reads nodes.old + (1 + look_reads (N.node nodes.old block)) }
 {
     let capacity = nodes.block_bytes() - BODY_HEADER;
-    let are_allowed = are_allowed(alloc, nodes, capacity, plain, marked, bodies)?;
-    if !are_allowed {
-        return Ok(false);
-    }
-    let are_shallow = are_shallow(alloc, nodes, roots)?;
-    Ok(are_shallow)
+    nodes.read(block)?;
+    let bytes = nodes.lent();
+    let parts = parts_in(alloc, bytes)?;
+    let names = list_names(alloc, bytes)?;
+    let directories = list_directories(alloc, bytes)?;
+    pass.mark_next(&names)?;
+    table.note(block, next_in(&parts.edge), &directories);
+    look(nodes, capacity, plain, &parts)
 }
 
-// A pass at its start, of roots that all hold nodes of directories; `Damaged` where one holds none.
-fn start_pass<N: Nodes>(
+/// Reads all that a pass has to read, each node once, and looks at each; false where one is not sound.
+fn look_at_all<N: Nodes>(
+    alloc: Global,
+    nodes: &mut N,
+    plain: bool,
+    pass: &mut Pass,
+    table: &mut Table,
+) -> Result<bool, Fault>
+    requires sound { N.is_sound nodes.old }
+    requires blocks { pass.old.blocks ≡ N.blocks nodes.old }
+    requires pass { IsPass (N.node nodes.old) pass.old }
+    requires told { IsTold (N.node nodes.old) pass.old table.old }
+    requires begun { pass.old.next ≡ 0 }
+
+    // All was read and is sound, or some is not.
+    ensures told { OnOk result (IsPass (N.node nodes.new) pass.new × IsTold (N.node nodes.new) pass.new table.new) }
+    ensures looked { IfOk result (λ good. good ≡ true → IsFinished pass.new × AreLooked (N.limit nodes.old - body_header) (N.node nodes.old) plain pass.new × (N.reads nodes.new ≤ N.reads nodes.old + sum_by (λ b. 1 + look_reads (N.node nodes.old b)) pass.new.order)) }
+    ensures bad { IfOk result (λ good. good ≡ false → AreAllowed (N.limit nodes.old) (N.node nodes.old) pass.old.roots plain → ⊥) }
+    ensures on { Advances pass.old pass.new }
+
+    // Why not, and what is read.
+    ensures damaged { IsErrOf result Fault.Damaged → (b : ℕ) × Reached (N.node nodes.old) pass.old.roots b × (N.node nodes.old b ≡ None) }
+    ensures why { IfErr result (λ fault. fault ≢ Fault.Damaged → N.causes nodes.old nodes.new fault) }
+    ensures faults { IfErr result IsReadFault }
+    ensures looks { OnlyLooks N.node N.kept N.writes N.follows N.is_sound N.limit N.blocks nodes.old nodes.new }
+    ensures reads { HasLookedOnce (N.node nodes.old) pass.old.roots (N.reads nodes.old) (N.reads nodes.new) }
+{
+    while let Some(block) = pass.next_block() {
+        let good = look_at_next(alloc, nodes, plain, block, pass, table)?;
+        if !good {
+            return Ok(false);
+        }
+    }
+    Ok(true)
+}
+
+/// Whether all that roots reach is sound but for the depths, by a pass over them that has read nothing.
+fn are_whole<N: Nodes>(
     alloc: Global,
     blocks: u32,
     nodes: &mut N,
     roots: &[u32],
-) -> Result<Pass, Fault>
+    plain: bool,
+    pass: &mut Pass,
+) -> Result<bool, Fault>
     requires sound { N.is_sound nodes.old }
-    requires blocks { blocks ≡ N.blocks nodes.old }
+    requires blocks { (blocks ≡ N.blocks nodes.old) × (pass.old.blocks ≡ blocks) }
+    requires pass { IsPass (N.node nodes.old) pass.old }
+    requires begun { (pass.old.roots ≡ roots.now) × (pass.old.next ≡ 0) }
 
-    // The pass, of roots that are marked.
-    ensures pass { IfOk result (λ p. (f : Blocks) → IsPass f p) }
-    ensures begun { IfOk result (λ p. (p.blocks ≡ blocks) × (p.roots ≡ roots.now) × (p.next ≡ 0) × (p.bodies ≡ set.empty)) }
-    ensures directories { IfOk result (λ _. All (HoldsLink (N.node nodes.old)) roots.now) }
-    ensures asked { IfOk result (λ p. N.reads nodes.new ≤ N.reads nodes.old + length p.order) }
+    // What is answered, and the pass.
+    ensures whole { IfOk result (λ good. good ≡ true → IsPass (N.node nodes.old) pass.new × IsFinished pass.new × AreWhole (N.limit nodes.old) (N.node nodes.old) roots.now plain × (N.reads nodes.new ≤ N.reads nodes.old + sum_by (λ b. 1 + look_reads (N.node nodes.old b)) pass.new.order)) }
+    ensures bad { IfOk result (λ good. good ≡ false → AreAllowed (N.limit nodes.old) (N.node nodes.old) roots.now plain → ⊥) }
+    ensures on { Advances pass.old pass.new }
 
     // Why not, and what is read.
-    ensures damaged { IsErrOf result Fault.Damaged → AreRoots (N.limit nodes.old) (N.node nodes.old) roots.now → ⊥ }
+    ensures damaged { IsErrOf result Fault.Damaged → (b : ℕ) × Reached (N.node nodes.old) roots.now b × (N.node nodes.old b ≡ None) }
     ensures why { IfErr result (λ fault. fault ≢ Fault.Damaged → N.causes nodes.old nodes.new fault) }
     ensures faults { IfErr result IsReadFault }
     ensures looks { OnlyLooks N.node N.kept N.writes N.follows N.is_sound N.limit N.blocks nodes.old nodes.new }
-    ensures reads { HasCost (N.node nodes.old) roots.now (N.reads nodes.old) (N.reads nodes.new) }
+    ensures reads { HasLookedOnce (N.node nodes.old) roots.now (N.reads nodes.old) (N.reads nodes.new) }
 {
-    if !are_data_blocks(blocks, roots) {
-        return Err(Fault::Damaged);
+    let mut table = Table::new(alloc, blocks)?;
+    let are_looked = look_at_all(alloc, nodes, plain, pass, &mut table)?;
+    if !are_looked {
+        return Ok(false);
     }
-    let pass = Pass::start(alloc, blocks, roots)?;
-    // The marked blocks are the roots so far, each once.
-    let hold_links = hold_links(nodes, pass.marked())?;
-    if !hold_links {
-        return Err(Fault::Damaged);
+    if !table.has_links(roots) {
+        return Ok(false);
     }
-    Ok(pass)
+    Ok(table.is_whole())
 }
 
 /// A finished pass of roots that each have a tree with linked bodies, on a flash of `blocks` blocks;
 /// with `plain` no node of a chain is among all that they reach.
 ///
 /// `Damaged` where that is not so, and only there: a root that is no data block has no tree. Nothing
-/// is written, and at most 20 reads come for each block that the roots reach and 2 for each entry of
-/// its node.
+/// is written. Each node is read once, and of each block that it names the first page at most; the depths
+/// read a directory's nodes once at each level.
 pub fn verify<N: Nodes>(
     alloc: Global,
     blocks: u32,
@@ -209,10 +201,16 @@ pub fn verify<N: Nodes>(
     ensures looks { OnlyLooks N.node N.kept N.writes N.follows N.is_sound N.limit N.blocks nodes.old nodes.new }
     ensures reads { HasCost (N.node nodes.old) roots.now (N.reads nodes.old) (N.reads nodes.new) }
 {
-    let mut pass = start_pass(alloc, blocks, nodes, roots)?;
-    pass.read_all(nodes, Reading::Whole)?;
-    let have_trees = have_trees(alloc, nodes, roots, plain, pass.marked(), pass.noted())?;
-    if !have_trees {
+    if !are_data_blocks(blocks, roots) {
+        return Err(Fault::Damaged);
+    }
+    let mut pass = Pass::start(alloc, blocks, roots)?;
+    let are_whole = are_whole(alloc, blocks, nodes, roots, plain, &mut pass)?;
+    if !are_whole {
+        return Err(Fault::Damaged);
+    }
+    let are_shallow = are_shallow(alloc, nodes, roots)?;
+    if !are_shallow {
         return Err(Fault::Damaged);
     }
     Ok(pass)

@@ -1,28 +1,27 @@
-use Rattle.std.proofs.Common.{◌≡◌, ◌↔◌, ℕ, suc, ◌+◌, ap, sym, subst, ◌∙◌, arith}
+use Rattle.std.proofs.Common.{◌≡◌, ◌↔◌, ℕ, suc, ◌+◌, refl, ap, sym, subst, ◌∙◌, arith}
 use Rattle.std.specs.Prelude.{IsTrue, slice_index}
 use Rattle.block_trees.specs.Bodies.{Blocks}
 use Rattle.reclaim.specs.Naming.{has_slot}
 use Rattle.reclaim.specs.Sound.{HoldsSlot}
-use Rattle.node_format.specs.BodyNodes.{HasSlot}
-use Rattle.reclaim.proofs.Chains.{fewer_slots}
-use Rattle.reclaim.proofs.Looking.{stepped_not, stepped_more}
-use Rattle.reclaim.proofs.NamedLaws.{has_slot-divides}
+use Rattle.reclaim.specs.Looks.{AreSteppedTo, SlotsHold}
+use Rattle.reclaim.proofs.Looking.{stepped_not, stepped_more, slot_there}
 use Rattle.std.proofs.lemmas.Result.{err_from_is_err_and}
 use Rattle.std.proofs.lemmas.Bool.{true≢false}
 use Rattle.reclaim.proofs.looks.are_stepped.Goals as goal
 use Rattle.reclaim.proofs.looks.are_stepped.Goals.{then-has_pointer+in_ok-holds+else-not-holds, else-has_pointer}
 
 pub returns-then-not-holds-clause-exact : goal.returns-then-not-holds-clause-exact
-returns-then-not-holds-clause-exact g c =
+returns-then-not-holds-clause-exact g c hold =
     let p = slice_index c.args.pointers.now in
     let x = c.loop-slot.slot in
     let next : suc x ≡ x + 1 = omega arith in
+    let there = slot_there (g.N.Nodes.node c.args.nodes.now) (g.N.Nodes.node c.loop-slot.nodes) p c.args.index x c.loop-slot.invariant.looks.same_nodes (omega (arith, c.loop-slot-test.true)) (ap (has_slot c.args.index) next ∙ sym c.has_pointer.ensures ∙ c.if-has_pointer.true) hold in
     stepped_not (g.N.Nodes.node c.args.nodes.now) p c.args.index x c.in_ok-holds.holds
     (omega (arith, c.loop-slot-test.true))
     (ap (has_slot c.args.index) next ∙ sym c.has_pointer.ensures ∙ c.if-has_pointer.true)
     c.if-not-holds.true
     (subst (λ (k : ℕ). IsTrue c.in_ok-holds.holds ↔ HoldsSlot (g.N.Nodes.node c.args.nodes.now (p x)) x (p k)) (sym next)
-    (subst (λ (f : Blocks). IsTrue c.in_ok-holds.holds ↔ HoldsSlot (f (p x)) x (p (x + 1))) c.loop-slot.invariant.looks.same_nodes c.in_ok-holds.ensures.exact))
+    (subst (λ (f : Blocks). IsTrue c.in_ok-holds.holds ↔ HoldsSlot (f (p x)) x (p (x + 1))) c.loop-slot.invariant.looks.same_nodes (c.in_ok-holds.ensures.exact there)))
 
 pub returns-in_err-holds-clause-why : goal.returns-in_err-holds-clause-why
 returns-in_err-holds-clause-why g c =
@@ -45,14 +44,6 @@ returns-then-not-holds-clause-looks g c =
 pub returns-clause-looks : goal.returns-clause-looks
 returns-clause-looks g c = c.loop-slot.invariant.looks
 
-pub holds_slot-requires-clause-there : goal.holds_slot-requires-clause-there
-holds_slot-requires-clause-there g c none =
-    let x = c.loop-slot.slot in
-    let next : suc x ≡ x + 1 = omega arith in
-    let own = has_slot-divides c.args.index (suc x) (ap (has_slot c.args.index) next ∙ sym c.has_pointer.ensures ∙ c.if-has_pointer.true) in
-    let slot : HasSlot c.args.index x = fewer_slots x c.args.index (omega (arith, c.loop-slot-test.true), own.0, own.1) in
-    c.requires.there x slot (ap (λ (f : Blocks). f (slice_index c.args.pointers.now x)) (sym c.loop-slot.invariant.looks.same_nodes) ∙ none)
-
 pub loop-slot-preserved : goal.loop-slot-preserved
 loop-slot-preserved g c =
     let p = slice_index c.args.pointers.now in
@@ -61,18 +52,25 @@ loop-slot-preserved g c =
     let next : suc x ≡ x + 1 = omega arith in
     elim c.if-has_pointer.branch [
       | then-has_pointer+in_ok-holds+else-not-holds w ↦
-          let here : HoldsSlot (g.N.Nodes.node c.args.nodes.now (p x)) x (p (suc x)) =
+          let here : SlotsHold (g.N.Nodes.node c.args.nodes.now) p c.args.index → HoldsSlot (g.N.Nodes.node c.args.nodes.now (p x)) x (p (suc x)) = λ hold.
+          let there = slot_there (g.N.Nodes.node c.args.nodes.now) (g.N.Nodes.node c.loop-slot.nodes) p c.args.index x so_far.looks.same_nodes (omega (arith, c.loop-slot-test.true)) (ap (has_slot c.args.index) next ∙ sym c.has_pointer.ensures ∙ w.if-has_pointer.true) hold in
           subst (λ (k : ℕ). HoldsSlot (g.N.Nodes.node c.args.nodes.now (p x)) x (p k)) (sym next)
-          (subst (λ (f : Blocks). HoldsSlot (f (p x)) x (p (x + 1))) so_far.looks.same_nodes (w.in_ok-holds.ensures.exact.0 w.if-not-holds.false)) in
+          (subst (λ (f : Blocks). HoldsSlot (f (p x)) x (p (x + 1))) so_far.looks.same_nodes ((w.in_ok-holds.ensures.exact there).0 w.if-not-holds.false)) in
           rw w.nodes-is (record {
-            good = stepped_more (g.N.Nodes.node c.args.nodes.now) p c.args.index x so_far.good (λ has. here);
+            good = λ hold. stepped_more (g.N.Nodes.node c.args.nodes.now) p c.args.index x (so_far.good hold) (λ has. here hold);
             reads = omega (arith, so_far.reads, w.holds_slot.ensures.reads);
             looks = g.met.N.Nodes.looks_on c.args.nodes.now c.loop-slot.nodes w.holds_slot.new.nodes so_far.looks w.holds_slot.ensures.looks;
           })
       | else-has_pointer w ↦
           rw w.nodes-is (record {
-            good = stepped_more (g.N.Nodes.node c.args.nodes.now) p c.args.index x so_far.good (λ has. absurd (true≢false (sym has ∙ ap (has_slot c.args.index) next ∙ sym c.has_pointer.ensures ∙ w.if-has_pointer.false)));
+            good = λ hold. stepped_more (g.N.Nodes.node c.args.nodes.now) p c.args.index x (so_far.good hold) (λ has. absurd (true≢false (sym has ∙ ap (has_slot c.args.index) next ∙ sym c.has_pointer.ensures ∙ w.if-has_pointer.false)));
             reads = omega (arith, so_far.reads);
             looks = so_far.looks;
           })
     ]
+
+pub returns-clause-exact : goal.returns-clause-exact
+returns-clause-exact g c hold =
+    let p = slice_index c.args.pointers.now in
+    let all : c.loop-slot.slot ≡ 12 = omega (arith, c.loop-slot-test.false, c.loop-slot.auto.slot-end) in
+    (λ t. subst (AreSteppedTo (g.N.Nodes.node c.args.nodes.now) p c.args.index) all (c.loop-slot.invariant.good hold), λ h. refl)

@@ -1,10 +1,13 @@
 use Rattle.reclaim.proofs.FrontHeads.{brought, brought_slot}
 use Rattle.reclaim.proofs.looks.holds_slot.Goals as goal
 
+pub returns-then-not-brought-clause-exact : goal.returns-then-not-brought-clause-exact
+returns-then-not-brought-clause-exact g c there = absurd (there (c.in_ok-brought.ensures.none c.if-not-brought.true))
+
 pub returns-clause-exact : goal.returns-clause-exact
-returns-clause-exact g c =
+returns-clause-exact g c there =
     let s = c.args.nodes.now in
-    let b = brought (g.N.Nodes.page s) (g.N.Nodes.limit s) c.fronted.result.now _ (g.N.Nodes.node s c.args.block) (g.met.N.Nodes.least_page s c.requires.sound) c.requires.there
-    (λ bytes is. g.met.N.Nodes.whole s c.args.block bytes c.requires.sound is) c.in_ok-bring_front.ensures.begins c.fronted.ensures in
+    let b = brought (g.N.Nodes.page s) (g.N.Nodes.limit s) c.fronted.result.now _ (g.N.Nodes.node s c.args.block) (g.met.N.Nodes.least_page s c.requires.sound) there
+    (λ bytes is. g.met.N.Nodes.whole s c.args.block bytes c.requires.sound is) (c.in_ok-brought.ensures.begins c.if-not-brought.false) c.fronted.ensures in
     let same = brought_slot _ _ _ _ c.args.slot c.args.next b c.requires.slot in
     (λ t. same.0 (c.slot_names.ensures.0 t), λ h. c.slot_names.ensures.1 (same.1 h))

@@ -1,17 +1,18 @@
 use Rattle.std.proofs.Common.{◌↔◌, ◌-◌, subst, sym, ◌∙◌, arith}
 use Rattle.std.specs.Prelude.{IsTrue, slice_index}
 use Rattle.block_trees.specs.Bodies.{Blocks}
-use Rattle.reclaim.specs.Looks.{AreSteppedTo}
+use Rattle.reclaim.specs.Looks.{AreSteppedTo, SlotsHold}
 use Rattle.reclaim.proofs.Looking.{body_good, same_pair}
 use Rattle.std.proofs.lemmas.Result.{err_from_is_err_and}
 use Rattle.reclaim.proofs.looks.is_sound_body.Goals as goal
 
 pub returns-clause-exact : goal.returns-clause-exact
-returns-clause-exact g c =
+returns-clause-exact g c hold =
+    let there = hold 0 (omega arith, omega arith, (c.args.index, omega arith)) in
     let p = slice_index c.args.pointers.now in
     body_good c.args.capacity (g.N.Nodes.node c.args.nodes.now) p c.args.index c.in_ok-stepped.stepped c.requires.short c.if-index-eq0.false
-    (sym c.in_ok-found.ensures.exact ∙ same_pair c.in_ok-found.found (c.args.index - 1) c.args.capacity c.ne.result c.ne.ensures c.if-ne.false)
-    (subst (λ (f : Blocks). IsTrue c.in_ok-stepped.stepped ↔ AreSteppedTo f p c.args.index 12) c.body_at.ensures.looks.same_nodes c.in_ok-stepped.ensures.exact)
+    (sym (c.in_ok-found.ensures.exact there) ∙ same_pair c.in_ok-found.found (c.args.index - 1) c.args.capacity c.ne.result c.ne.ensures c.if-ne.false)
+    (subst (λ (f : Blocks). IsTrue c.in_ok-stepped.stepped ↔ AreSteppedTo f p c.args.index 12) c.body_at.ensures.looks.same_nodes (c.in_ok-stepped.ensures.exact (subst (λ (f : Blocks). SlotsHold f p c.args.index) (sym c.body_at.ensures.looks.same_nodes) hold)))
 
 pub returns-in_err-found-clause-looks : goal.returns-in_err-found-clause-looks
 returns-in_err-found-clause-looks g c = c.body_at.ensures.looks
@@ -33,6 +34,3 @@ returns-in_err-stepped-clause-looks g c =
 pub returns-clause-looks : goal.returns-clause-looks
 returns-clause-looks g c =
     g.met.N.Nodes.looks_on c.args.nodes.now c.body_at.new.nodes c.are_stepped.new.nodes c.body_at.ensures.looks c.are_stepped.ensures.looks
-
-pub body_at-requires-clause-there : goal.body_at-requires-clause-there
-body_at-requires-clause-there g c = c.requires.there 0 (omega arith, omega arith, (c.args.index, omega arith))

@@ -1,0 +1,181 @@
+-- What a table tells after one node more was read.
+use Rattle.std.proofs.Common.{◌≡◌, ◌≢◌, ◌↔◌, ◌⊎◌, inl, inr, ℕ, suc, ◌+◌, ◌<◌, ◌≤◌, Bool, true, false, cond, Option, Some, None, Result, Ok, Err, List, length, take, drop, refl, sym, ap, subst, ◌∙◌, arith}
+use Rattle.std.specs.FinSet as set
+use Rattle.std.specs.Ordering.{nat_cmp}
+use Rattle.std.specs.Prelude.{Contains, slice_index, slice_set, nat_lt, is_some, ◌&&◌, ◌||◌, OnOk, eqb}
+use Rattle.std.specs.Option.{option_map, option_map_or}
+use Rattle.std.specs.List.{sum_by}
+use Rattle.std.proofs.lemmas.Bool.{true≢false, cases_lt, and_parts, and_from, ne_eqb, lt-ltb, eqb-true, eq-eqb}
+use Rattle.std.proofs.lemmas.Cmp.{nat_cmp_total}
+use Rattle.std.specs.Cmp.{unsigned_tied}
+use Rattle.std.proofs.lemmas.List.{get_or-set_same, get_or-set_other, take-append-le}
+use Rattle.std.proofs.lemmas.List.Elements.{Contains-get_or}
+use Rattle.node_format.specs.Links.{Link}
+use Rattle.block_trees.specs.Bodies.{Blocks}
+use Rattle.block_trees.specs.Chains.{link_of, next_of}
+use Rattle.block_trees.specs.Reached.{Reached}
+use Rattle.allocator.proofs.RingOrder.{contains-insert_same, contains-kept}
+use Rattle.reclaim.specs.Passes.{Pass, IsPass, Advances, AreNoted, Begins, IsMarkFault}
+use Rattle.reclaim.specs.Looks.{look_reads, NamesNodes, NextHoldsLink, IsLooked}
+use Rattle.reclaim.specs.Sound.{HoldsLink}
+use Rattle.reclaim.specs.Tables.{IsSized, IsTold, HasSeen, NamesDirectory, has_link}
+use Rattle.reclaim.specs.Verified.{AreLooked}
+use Rattle.reclaim.specs.declared.table.Table.{Table}
+use Rattle.fs_types.specs.declared.fault.Fault.{Fault}
+use Rattle.fs_types.specs.declared.fault.Fault.TheVariants.{NoMemory, Damaged}
+use Rattle.reclaim.proofs.Costs.{sum_more}
+use Rattle.reclaim.proofs.Marking.{begins_at, begins_length}
+
+-- another block of a set with one more was in it before
+contains_other : (members : set.FinSet nat_cmp) (b c : ℕ) → c ≢ b → set.contains (set.insert members b) c ≡ true → set.contains members c ≡ true
+contains_other members b c other has =
+    ap (λ t. t || set.contains members c) (sym (unsigned_tied c b ∙ ne_eqb c b other))
+    ∙ sym (set.contains-insert nat_cmp_total members b c) ∙ has
+
+-- ---- what was read
+
+module _ (p q : Pass) (block : ℕ) (on : Advances p q) (left : p.next < length p.order) (at : block ≡ slice_index p.order p.next) (next : q.next ≡ p.next + 1) where
+  seen_on : (b : ℕ) → HasSeen p b → HasSeen q b
+  seen_on b (k, lt, is) = (k, omega (arith, lt, next), begins_at p.order q.order k on.begins (omega (arith, lt, left)) ∙ is)
+
+  seen_new : HasSeen q block
+  seen_new = (p.next, omega (arith, next), begins_at p.order q.order p.next on.begins left ∙ sym at)
+
+  seen_back : (b : ℕ) → HasSeen q b → HasSeen p b ⊎ (block ≡ b)
+  seen_back b (k, lt, is) = elim (cases_lt k p.next) [
+    | inl before ↦ inl (k, before, sym (begins_at p.order q.order k on.begins (omega (arith, before, left))) ∙ is)
+    | inr past ↦
+        let same : k ≡ p.next = omega (arith, past, lt, next) in
+        inr (at ∙ sym (begins_at p.order q.order p.next on.begins left) ∙ ap (slice_index q.order) (sym same) ∙ is)
+  ]
+
+  pub looked_on : (capacity : ℕ) (f : Blocks) (plain : Bool) → AreLooked capacity f plain p → (NamesNodes f (f block) → NextHoldsLink f (f block) → IsLooked capacity f plain (f block)) → AreLooked capacity f plain q
+  looked_on capacity f plain looked own b seen = on_case (seen_back b seen)
+    where
+      on_case : HasSeen p b ⊎ (block ≡ b) → NamesNodes f (f b) → NextHoldsLink f (f b) → IsLooked capacity f plain (f b)
+      on_case (inl before) = looked b before
+      on_case (inr same) = subst (λ (c : ℕ). NamesNodes f (f c) → NextHoldsLink f (f c) → IsLooked capacity f plain (f c)) same own
+
+  pub reads_on : (g : ℕ → ℕ) → sum_by g (take q.next q.order) ≡ sum_by g (take p.next p.order) + g block
+  reads_on g =
+      let more : p.next < length q.order = omega (arith, left, begins_length p.order q.order on.begins) in
+      ap (λ (n : ℕ). sum_by g (take n q.order)) next ∙ sum_more g q.order p.next more
+      ∙ (λ i. sum_by g (begun i) + g (last i))
+    where
+      begun : take p.next q.order ≡ take p.next p.order
+      begun = ap (take p.next) (sym on.begins.1) ∙ take-append-le p.next p.order on.begins.0 (omega (arith, left))
+
+      last : slice_index q.order p.next ≡ block
+      last = begins_at p.order q.order p.next on.begins left ∙ sym at
+
+  -- ---- what is told
+
+  module _ (f : Blocks) (t u : Table) (named : List ℕ) (told : IsTold f p t) (below : block < p.blocks) (sized : IsSized t.links.blocks u) (directories : (b : ℕ) → Contains named b ↔ NamesDirectory (f block) b)
+      (noted : AreNoted t.named.members named t.links.blocks u.named.members) where
+    size : u.links.blocks ≡ p.blocks
+    size = sized.links ∙ told.sized.links
+
+    all_sized : IsSized q.blocks u
+    all_sized = subst (λ (n : ℕ). IsSized n u) (told.sized.links ∙ sym on.blocks) sized
+
+    new_names : (b : ℕ) → set.contains u.named.members b ≡ true → (a : ℕ) × HasSeen q a × NamesDirectory (f a) b
+    new_names b has = by (noted.only b has)
+      where
+        by : (set.contains t.named.members b ≡ true) ⊎ Contains named b → (a : ℕ) × HasSeen q a × NamesDirectory (f a) b
+        by (inl before) = let own = told.names b before in (own.0, seen_on own.0 own.1, own.2)
+        by (inr now) = (block, seen_new, (directories b).0 now)
+
+    new_named : (a b : ℕ) → HasSeen q a → NamesDirectory (f a) b → b < q.blocks → set.contains u.named.members b ≡ true
+    new_named a b seen names less = by (seen_back a seen)
+      where
+        by : HasSeen p a ⊎ (block ≡ a) → set.contains u.named.members b ≡ true
+        by (inl before) = noted.stay b (told.named a b before names (omega (arith, less, on.blocks)))
+        by (inr same) = noted.all b ((directories b).1 (subst (λ (c : ℕ). NamesDirectory (f c) b) (sym same) names)) (omega (arith, less, on.blocks, told.sized.links))
+
+    -- the node is none of a directory
+    pub told_other : link_of (f block) ≡ None → u.links.members ≡ t.links.members → u.nexts.items ≡ t.nexts.items → IsTold f q u
+    told_other none links nexts = record {
+      sized = all_sized;
+      held = λ b has.
+          let own = told.held b (ap (λ s. set.contains s b) (sym links) ∙ has) in
+          (own.0, ap (λ (xs : List ℕ). slice_index xs b) nexts ∙ own.1, seen_on b own.2);
+      links = λ b seen holds. by b holds (seen_back b seen);
+      names = new_names;
+      named = new_named;
+    }
+      where
+        by : (b : ℕ) → HoldsLink f b → HasSeen p b ⊎ (block ≡ b) → has_link u b ≡ true
+        by b holds (inl before) =
+            let parts = and_parts (nat_lt b t.links.blocks) (set.contains t.links.members b) (told.links b before holds) in
+            and_from (nat_lt b u.links.blocks) (set.contains u.links.members b) (ap (nat_lt b) sized.links ∙ parts.0) (ap (λ s. set.contains s b) links ∙ parts.1)
+        by b holds (inr same) = absurd (true≢false (ap is_some (sym holds.1 ∙ ap (λ (c : ℕ). link_of (f c)) (sym same) ∙ none)))
+
+    -- it is one
+    pub told_link : (l : Link) → link_of (f block) ≡ Some l → u.links.members ≡ set.insert t.links.members block → u.nexts.items ≡ slice_set t.nexts.items block l.next → IsTold f q u
+    told_link l is links nexts = record {
+      sized = all_sized;
+      held = λ b has. held b (eqb b block) refl (ap (λ s. set.contains s b) (sym links) ∙ has);
+      links = λ b seen holds.
+          and_from (nat_lt b u.links.blocks) (set.contains u.links.members b) (inside b holds (seen_back b seen)) (ap (λ s. set.contains s b) links ∙ there b holds (seen_back b seen));
+      names = new_names;
+      named = new_named;
+    }
+      where
+        inside : (b : ℕ) → HoldsLink f b → HasSeen p b ⊎ (block ≡ b) → nat_lt b u.links.blocks ≡ true
+        inside b holds (inl before) = ap (nat_lt b) sized.links ∙ (and_parts (nat_lt b t.links.blocks) (set.contains t.links.members b) (told.links b before holds)).0
+        inside b holds (inr same) = lt-ltb b u.links.blocks (omega (arith, same, below, size))
+
+        there : (b : ℕ) → HoldsLink f b → HasSeen p b ⊎ (block ≡ b) → set.contains (set.insert t.links.members block) b ≡ true
+        there b holds (inl before) = contains-kept t.links.members block b (and_parts (nat_lt b t.links.blocks) (set.contains t.links.members b) (told.links b before holds)).1
+        there b holds (inr same) = subst (λ (c : ℕ). set.contains (set.insert t.links.members block) c ≡ true) same (contains-insert_same t.links.members block)
+
+        held : (b : ℕ) (here : Bool) → eqb b block ≡ here → set.contains (set.insert t.links.members block) b ≡ true → HoldsLink f b × (slice_index u.nexts.items b ≡ next_of (f b)) × HasSeen q b
+        held b true e has =
+            let same : block ≡ b = sym (eqb-true b block e) in
+            subst (λ (c : ℕ). HoldsLink f c × (slice_index u.nexts.items c ≡ next_of (f c)) × HasSeen q c) same
+            ((l, is), ap (λ (xs : List ℕ). slice_index xs block) nexts ∙ get_or-set_same t.nexts.items block l.next 0 (omega (arith, below, told.sized.nexts)) ∙ sym (ap (λ (o : Option Link). option_map_or (λ k. k.next) o 0) is), seen_new)
+        held b false e has =
+            let other : b ≢ block = λ same. true≢false (sym (eq-eqb b block same) ∙ e) in
+            let own = told.held b (contains_other t.links.members block b other has) in
+            (own.0, ap (λ (xs : List ℕ). slice_index xs b) nexts ∙ get_or-set_other t.nexts.items block b l.next 0 other ∙ own.1, seen_on b own.2)
+
+    -- by what was noted
+    pub told_on : (next : Option ℕ) → next ≡ option_map (λ (l : Link). l.next) (link_of (f block)) → u.links.members ≡ cond (is_some next) (set.insert t.links.members block) t.links.members
+        → u.nexts.items ≡ option_map_or (λ n. slice_set t.nexts.items block n) next t.nexts.items → IsTold f q u
+    told_on next is links nexts = by (link_of (f block)) refl
+      where
+        by : (o : Option Link) → link_of (f block) ≡ o → IsTold f q u
+        by None own =
+            let none : next ≡ None = is ∙ ap (option_map (λ (l : Link). l.next)) own in
+            told_other own (links ∙ ap (λ (o : Option ℕ). cond (is_some o) (set.insert t.links.members block) t.links.members) none) (nexts ∙ ap (λ (o : Option ℕ). option_map_or (λ n. slice_set t.nexts.items block n) o t.nexts.items) none)
+        by (Some l) own =
+            let some : next ≡ Some l.next = is ∙ ap (option_map (λ (l : Link). l.next)) own in
+            told_link l own (links ∙ ap (λ (o : Option ℕ). cond (is_some o) (set.insert t.links.members block) t.links.members) some) (nexts ∙ ap (λ (o : Option ℕ). option_map_or (λ n. slice_set t.nexts.items block n) o t.nexts.items) some)
+
+-- nothing was read
+pub looked_none : (capacity : ℕ) (f : Blocks) (plain : Bool) (p : Pass) → p.next ≡ 0 → AreLooked capacity f plain p
+looked_none capacity f plain p none b (k, lt, at) = absurd (omega (arith, lt, none))
+
+pub told_none : (f : Blocks) (p : Pass) (t : Table) → p.next ≡ 0 → IsSized p.blocks t → t.links.members ≡ set.empty → t.named.members ≡ set.empty → IsTold f p t
+told_none f p t none sized links named = record {
+  sized = sized;
+  held = λ b has. absurd (true≢false (sym has ∙ ap (λ s. set.contains s b) links ∙ set.contains-empty nat_cmp b));
+  links = λ b (k, lt, at). absurd (omega (arith, lt, none));
+  names = λ b has. absurd (true≢false (sym has ∙ ap (λ s. set.contains s b) named ∙ set.contains-empty nat_cmp b));
+  named = λ a b (k, lt, at). absurd (omega (arith, lt, none));
+}
+
+-- ---- what calls answer
+
+pub on_any : {T E : Type 0} (r : Result T E) (P : Type 0) → P → OnOk r P
+on_any (Ok x) P h = h
+on_any (Err e) P h = tt
+
+-- marking is refused for memory, or a node is damaged
+pub mark_why : (P : Fault → Type 0) (blocks : ℕ) (names : List ℕ) (fault : Fault) → IsMarkFault blocks names fault → P NoMemory → fault ≢ Damaged → P fault
+mark_why P blocks names fault (inl memory) base other = subst P (sym memory) base
+mark_why P blocks names fault (inr (damaged, more)) base other = absurd (other damaged)
+
+-- the block that is read next is reached
+pub next_reached : (f : Blocks) (p : Pass) (block : ℕ) → IsPass f p → p.next < length p.order → block ≡ slice_index p.order p.next → Reached f p.roots block
+next_reached f p block pass left at = subst (Reached f p.roots) (sym at) (pass.reached _ (Contains-get_or p.order p.next 0 left))

@@ -1,0 +1,29 @@
+use Rattle.std.proofs.Common.{◌≡◌, ℕ, Option, ap, ◌∙◌, arith}
+use Rattle.std.specs.Option.{option_map}
+use Rattle.std.proofs.lemmas.Result.{IfOk-weaker}
+use Rattle.fs_types.specs.Names.{Name}
+use Rattle.reclaim.specs.Looks.{link_reads}
+use Rattle.reclaim.specs.declared.edge.Edge.{Edge}
+use Rattle.reclaim.proofs.Looking.{followed_none, followed_some, next_reads, no_reads}
+use Rattle.reclaim.proofs.looks.is_followed.Goals as goal
+
+abbrev said : Edge → Name × ℕ
+said e = (e.last.items, e.next)
+
+pub returns-in-Some-clause-exact : goal.returns-in-Some-clause-exact
+returns-in-Some-clause-exact g c =
+    let e = c.in-Some.edge in
+    IfOk-weaker c.may_go_on.result _ _
+    (λ good exact node says holds. followed_some (g.N.Nodes.node c.args.nodes.now) node e.last.items e.next good (says ∙ ap (option_map said) c.in-Some.is) exact.0 exact.1 holds)
+    c.may_go_on.ensures.exact
+
+pub returns-in-None-clause-exact : goal.returns-in-None-clause-exact
+returns-in-None-clause-exact g c node says holds = followed_none (g.N.Nodes.node c.args.nodes.now) node (says ∙ ap (option_map said) c.in-None.is)
+
+pub returns-in-Some-clause-reads : goal.returns-in-Some-clause-reads
+returns-in-Some-clause-reads g c node says =
+    let e = c.in-Some.edge in
+    omega (arith, c.may_go_on.ensures.reads, ap link_reads (next_reads node e.last.items e.next (says ∙ ap (option_map said) c.in-Some.is)))
+
+pub returns-in-None-clause-reads : goal.returns-in-None-clause-reads
+returns-in-None-clause-reads g c node says = omega arith

@@ -1,0 +1,9 @@
+use Rattle.std.proofs.Common.{◌≡◌, ◌++◌}
+use Rattle.std.specs.List.{flat_map}
+use Rattle.reclaim.specs.Naming.{item_directories}
+use Rattle.reclaim.proofs.named.push_directory_blocks.Given as goal
+
+-- the directories so far, and those of the entries that are left
+abbrev pub invariant-loop-entry : goal.invariant-loop-entry
+invariant-loop-entry l =
+    l.out.items ++ flat_map item_directories l.entry-iterator ≡ l.initial.out.items ++ flat_map item_directories l.fn.entries

@@ -1,0 +1,111 @@
+use Rattle.std.proofs.Common.{◌≡◌, ◌≢◌, ◌↔◌, ◌≤◌, ◌+◌, ◌-◌, ℕ, List, None, true, false, refl, ap, subst, sym, ◌∙◌, arith}
+use Rattle.std.specs.Prelude.{IsTrue, slice_index}
+use Rattle.std.proofs.lemmas.Bool.{true≢false}
+use Rattle.std.proofs.lemmas.Result.{err_from_is_err_and}
+use Rattle.block_trees.specs.Bodies.{Blocks}
+use Rattle.block_trees.specs.Reached.{Reached}
+use Rattle.reclaim.specs.Looks.{look_reads, NamesNodes, NextHoldsLink, IsLooked}
+use Rattle.reclaim.specs.Passes.{IsPass}
+use Rattle.reclaim.specs.Tables.{IsTold}
+use Rattle.reclaim.specs.Verified.{HasLookedOnce}
+use Rattle.reclaim.proofs.Costs.{looked_one, looked_all}
+use Rattle.reclaim.proofs.Marking.{begins_itself, begins_on}
+use Rattle.reclaim.proofs.Telling.{looked_none, looked_on, reads_on, next_reached}
+use Rattle.reclaim.proofs.Looked.{tree_names, tree_next, tree_looked}
+use Rattle.reclaim.proofs.verification.look_at_all.Goals as goal
+
+pub loop-block-init : goal.loop-block-init
+loop-block-init g c = record {
+  pass = c.requires.pass;
+  told = c.requires.told;
+  looked = looked_none (g.N.Nodes.limit c.args.nodes.now - 80) (g.N.Nodes.node c.args.nodes.now) c.args.plain c.args.pass.now c.requires.begun;
+  on = record { blocks = refl; roots = refl; begins = begins_itself c.args.pass.now.order };
+  reads = omega arith;
+  looks = record { same_nodes = refl; same_kept = refl; same_writes = refl; came = g.met.N.Nodes.follows_itself c.args.nodes.now; sound = c.requires.sound; same_limit = refl; same_blocks = refl };
+}
+
+pub look_at_next-requires-clause-sound : goal.look_at_next-requires-clause-sound
+look_at_next-requires-clause-sound g c = c.loop-block.invariant.looks.sound
+
+pub look_at_next-requires-clause-blocks : goal.look_at_next-requires-clause-blocks
+look_at_next-requires-clause-blocks g c = c.loop-block.invariant.on.blocks ∙ c.requires.blocks ∙ sym c.loop-block.invariant.looks.same_blocks
+
+pub look_at_next-requires-clause-pass : goal.look_at_next-requires-clause-pass
+look_at_next-requires-clause-pass g c = subst (λ (h : Blocks). IsPass h c.loop-block.pass) (sym c.loop-block.invariant.looks.same_nodes) c.loop-block.invariant.pass
+
+pub look_at_next-requires-clause-told : goal.look_at_next-requires-clause-told
+look_at_next-requires-clause-told g c = subst (λ (h : Blocks). IsTold h c.loop-block.pass c.loop-block.table) (sym c.loop-block.invariant.looks.same_nodes) c.loop-block.invariant.told
+
+pub loop-block-preserved : goal.loop-block-preserved
+loop-block-preserved g c =
+    let s = c.args.nodes.now in
+    let f = g.N.Nodes.node s in
+    let mid = c.loop-block.nodes in
+    let new = c.look_at_next.new.nodes in
+    let p = c.loop-block.pass in
+    let q = c.look_at_next.new.pass in
+    let u = c.look_at_next.new.table in
+    let so_far = c.loop-block.invariant in
+    let left = c.in-Some.ensures.left in
+    let block = c.in-Some.block in
+    let on = c.look_at_next.ensures.on in
+    let both = c.look_at_next.ensures.looks.same_nodes ∙ so_far.looks.same_nodes in
+    let exact : NamesNodes f (f block) → NextHoldsLink f (f block) → IsTrue c.in_ok-good.good ↔ IsLooked (g.N.Nodes.limit s - 80) f c.args.plain (f block) =
+    subst (λ (h : Blocks). NamesNodes h (h block) → NextHoldsLink h (h block) → IsTrue c.in_ok-good.good ↔ IsLooked (g.N.Nodes.limit s - 80) h c.args.plain (h block)) so_far.looks.same_nodes
+    (subst (λ (n : ℕ). NamesNodes (g.N.Nodes.node mid) (g.N.Nodes.node mid block) → NextHoldsLink (g.N.Nodes.node mid) (g.N.Nodes.node mid block) → IsTrue c.in_ok-good.good ↔ IsLooked (n - 80) (g.N.Nodes.node mid) c.args.plain (g.N.Nodes.node mid block)) so_far.looks.same_limit
+    c.in_ok-good.ensures.exact) in
+    let own : g.N.Nodes.reads new ≤ g.N.Nodes.reads mid + (1 + look_reads (f block)) =
+    subst (λ (h : Blocks). g.N.Nodes.reads new ≤ g.N.Nodes.reads mid + (1 + look_reads (h block))) so_far.looks.same_nodes c.look_at_next.ensures.reads in
+    record {
+      pass = subst (λ (h : Blocks). IsPass h q) both c.in_ok-good.ensures.pass.0;
+      told = subst (λ (h : Blocks). IsTold h q u) both c.in_ok-good.ensures.pass.1;
+      looked = looked_on p q block on left.0 left.1 c.in_ok-good.ensures.next (g.N.Nodes.limit s - 80) f c.args.plain so_far.looked (λ names next. (exact names next).0 c.if-not-good.false);
+      on = record { blocks = on.blocks ∙ so_far.on.blocks; roots = on.roots ∙ so_far.on.roots; begins = begins_on c.args.pass.now.order p.order q.order so_far.on.begins on.begins };
+      reads = omega (arith, own, so_far.reads, reads_on p q block on left.0 left.1 c.in_ok-good.ensures.next (λ b. 1 + look_reads (f b)));
+      looks = g.met.N.Nodes.looks_on s mid new so_far.looks c.look_at_next.ensures.looks;
+    }
+
+pub returns-then-not-good-clause-bad : goal.returns-then-not-good-clause-bad
+returns-then-not-good-clause-bad g c _ trees =
+    let s = c.args.nodes.now in
+    let f = g.N.Nodes.node s in
+    let mid = c.loop-block.nodes in
+    let p = c.loop-block.pass in
+    let so_far = c.loop-block.invariant in
+    let left = c.in-Some.ensures.left in
+    let block = c.in-Some.block in
+    let limit = g.N.Nodes.limit s in
+    let exact : NamesNodes f (f block) → NextHoldsLink f (f block) → IsTrue c.in_ok-good.good ↔ IsLooked (limit - 80) f c.args.plain (f block) =
+    subst (λ (h : Blocks). NamesNodes h (h block) → NextHoldsLink h (h block) → IsTrue c.in_ok-good.good ↔ IsLooked (limit - 80) h c.args.plain (h block)) so_far.looks.same_nodes
+    (subst (λ (n : ℕ). NamesNodes (g.N.Nodes.node mid) (g.N.Nodes.node mid block) → NextHoldsLink (g.N.Nodes.node mid) (g.N.Nodes.node mid block) → IsTrue c.in_ok-good.good ↔ IsLooked (n - 80) (g.N.Nodes.node mid) c.args.plain (g.N.Nodes.node mid block)) so_far.looks.same_limit
+    c.in_ok-good.ensures.exact) in
+    let reached : Reached f c.args.pass.now.roots block = subst (λ (l : List ℕ). Reached f l block) so_far.on.roots (next_reached f p block so_far.pass left.0 left.1) in
+    true≢false (sym ((exact (tree_names limit f c.args.pass.now.roots trees.0 block reached) (tree_next limit f c.args.pass.now.roots trees.0 block reached)).1
+    (tree_looked limit f c.args.pass.now.roots trees.0 c.args.plain block reached (λ plain. trees.1 plain block reached))) ∙ c.if-not-good.true)
+
+pub returns-in_err-good-clause-reads : goal.returns-in_err-good-clause-reads
+returns-in_err-good-clause-reads g c =
+    let so_far = c.loop-block.invariant in
+    looked_one (g.N.Nodes.node c.args.nodes.now) (g.N.Nodes.node c.loop-block.nodes) c.loop-block.pass c.args.pass.now.roots c.in-Some.block (g.N.Nodes.reads c.args.nodes.now) (g.N.Nodes.reads c.loop-block.nodes) (g.N.Nodes.reads c.look_at_next.new.nodes)
+    so_far.looks.same_nodes so_far.pass so_far.on.roots c.in-Some.ensures.left.0 c.in-Some.ensures.left.1 so_far.reads c.look_at_next.ensures.reads
+
+pub returns-then-not-good-clause-reads : goal.returns-then-not-good-clause-reads
+returns-then-not-good-clause-reads g c =
+    let so_far = c.loop-block.invariant in
+    looked_one (g.N.Nodes.node c.args.nodes.now) (g.N.Nodes.node c.loop-block.nodes) c.loop-block.pass c.args.pass.now.roots c.in-Some.block (g.N.Nodes.reads c.args.nodes.now) (g.N.Nodes.reads c.loop-block.nodes) (g.N.Nodes.reads c.look_at_next.new.nodes)
+    so_far.looks.same_nodes so_far.pass so_far.on.roots c.in-Some.ensures.left.0 c.in-Some.ensures.left.1 so_far.reads c.look_at_next.ensures.reads
+
+pub returns-then-not-good-clause-on : goal.returns-then-not-good-clause-on
+returns-then-not-good-clause-on g c =
+    let on = c.look_at_next.ensures.on in
+    let so_far = c.loop-block.invariant.on in
+    record { blocks = on.blocks ∙ so_far.blocks; roots = on.roots ∙ so_far.roots; begins = begins_on c.args.pass.now.order c.loop-block.pass.order c.look_at_next.new.pass.order so_far.begins on.begins }
+
+pub returns-then-not-good-clause-looks : goal.returns-then-not-good-clause-looks
+returns-then-not-good-clause-looks g c = g.met.N.Nodes.looks_on c.args.nodes.now c.loop-block.nodes c.look_at_next.new.nodes c.loop-block.invariant.looks c.look_at_next.ensures.looks
+
+pub returns-clause-reads : goal.returns-clause-reads
+returns-clause-reads g c =
+    let so_far = c.loop-block.invariant in
+    subst (λ (l : List ℕ). HasLookedOnce (g.N.Nodes.node c.args.nodes.now) l (g.N.Nodes.reads c.args.nodes.now) (g.N.Nodes.reads c.loop-block.nodes)) so_far.on.roots
+    (looked_all (g.N.Nodes.node c.args.nodes.now) c.loop-block.pass (g.N.Nodes.reads c.args.nodes.now) (g.N.Nodes.reads c.loop-block.nodes) so_far.pass so_far.reads)

@@ -1,0 +1,100 @@
+use Rattle.std.proofs.Common.{◌≡◌, ◌≢◌, ◌↔◌, ◌≤◌, ◌-◌, ℕ, List, Bool, Option, Some, None, Err, ◌<◌, inl, inr, ap, subst, sym, ◌∙◌, arith}
+use Rattle.std.specs.Prelude.{IsTrue, Contains, slice_index, option_map}
+use Rattle.std.proofs.lemmas.Bool.{cases_lt}
+use Rattle.std.proofs.lemmas.Result.{err_from_is_err_and, IfOk-weaker, IfErr-weaker}
+use Rattle.fields.proofs.Found.{found}
+use Rattle.fs_types.specs.declared.fault.Fault.{Fault}
+use Rattle.fs_types.specs.declared.fault.Fault.TheVariants.{Damaged}
+use Rattle.fs_types.specs.Names.{Name}
+use Rattle.block_trees.specs.Bodies.{Blocks}
+use Rattle.block_trees.specs.Reached.{Names}
+use Rattle.reclaim.specs.Looks.{Says, NamesNodes, NextHoldsLink, IsLooked}
+use Rattle.reclaim.specs.Passes.{IsPass, IsMarkFault, AreNoted}
+use Rattle.reclaim.specs.Tables.{IsTold, NamesDirectory}
+use Rattle.reclaim.specs.declared.edge.Edge.{Edge}
+use Rattle.reclaim.proofs.Marking.{no_node}
+use Rattle.reclaim.proofs.Looking.{next_said}
+use Rattle.reclaim.proofs.Telling.{told_on, on_any, mark_why, next_reached}
+use Rattle.reclaim.proofs.verification.look_at_next.Goals as goal
+
+pub returns-in_err-read-clause-damaged : goal.returns-in_err-read-clause-damaged
+returns-in_err-read-clause-damaged g c damaged =
+    let p = err_from_is_err_and c.from_residual.result c.from_residual.ensures.1 in
+    let is : p.0 ≡ Damaged = cc in
+    (c.args.block, next_reached (g.N.Nodes.node c.args.nodes.now) c.args.pass.now c.args.block c.requires.pass c.requires.left.0 c.requires.left.1, c.in_err-read.ensures.damaged (ap (λ (e : Fault). Err e) (sym p.2 ∙ is)))
+
+pub returns-in_err-mark_next-clause-damaged : goal.returns-in_err-mark_next-clause-damaged
+returns-in_err-mark_next-clause-damaged g c damaged =
+    let s = c.args.nodes.now in
+    let f = g.N.Nodes.node s in
+    let pass = c.args.pass.now in
+    let block = c.args.block in
+    let fault = c.in_err-mark_next.field-0.0 in
+    let p = err_from_is_err_and c.from_residual-in_err-mark_next.result c.from_residual-in_err-mark_next.ensures.1 in
+    let is : p.0 ≡ Damaged = cc in
+    let held : f block ≡ Some c.lent-bytes.result.now = c.in_ok-read.ensures.shown ∙ ap (λ (xs : List ℕ). Some xs) (sym c.lent-bytes.ensures) in
+    let names = c.in_ok-names.names.items in
+    no_node f pass (f block) names pass.blocks fault c.requires.pass c.requires.left.0 (ap f (sym c.requires.left.1))
+    (subst (λ (o : Option (List ℕ)). (b : ℕ) → Contains names b ↔ Names o b) (sym held) c.in_ok-names.ensures.names)
+    (λ b low. g.met.N.Nodes.none_below s b low)
+    (λ b high. g.met.N.Nodes.none_beyond s b (subst (λ (n : ℕ). n ≤ b) c.requires.blocks high))
+    (subst (λ (l : List ℕ). IsMarkFault pass.blocks l fault) c.deref.ensures.value c.in_err-mark_next.ensures.why)
+    (sym p.2 ∙ is)
+
+pub returns-in_err-mark_next-clause-why : goal.returns-in_err-mark_next-clause-why
+returns-in_err-mark_next-clause-why g c =
+    let p = err_from_is_err_and c.from_residual-in_err-mark_next.result c.from_residual-in_err-mark_next.ensures.1 in
+    let why = mark_why (g.N.Nodes.causes c.args.nodes.now c.read.new.self) c.args.pass.now.blocks c.deref.result.now c.in_err-mark_next.field-0.0 c.in_err-mark_next.ensures.why (g.met.N.Nodes.memory_may_want c.args.nodes.now c.read.new.self) in
+    rw (p.1, p.2) why
+
+pub returns-clause-pass : goal.returns-clause-pass
+returns-clause-pass g c =
+    let s = c.args.nodes.now in
+    let f = g.N.Nodes.node s in
+    let f' = g.N.Nodes.node c.look.new.nodes in
+    let p = c.args.pass.now in
+    let q = c.mark_next.new.self in
+    let t = c.args.table.now in
+    let u = c.note.new.self in
+    let block = c.args.block in
+    let bytes = c.lent-bytes.result.now in
+    let same : f' ≡ f = c.look.ensures.looks.same_nodes ∙ c.read.ensures.looks.same_nodes in
+    let held : f block ≡ Some bytes = c.in_ok-read.ensures.shown ∙ ap (λ (xs : List ℕ). Some xs) (sym c.lent-bytes.ensures) in
+    let there : f block ≢ None = λ none. (let no : None ≡ found bytes = sym none ∙ held in cc) in
+    let names = c.in_ok-names.names.items in
+    let named : (b : ℕ) → Contains c.deref.result.now b ↔ Names (f block) b =
+    subst (λ (l : List ℕ). (b : ℕ) → Contains l b ↔ Names (f block) b) (sym c.deref.ensures.value) (subst (λ (o : Option (List ℕ)). (b : ℕ) → Contains names b ↔ Names o b) (sym held) c.in_ok-names.ensures.names) in
+    let pass : IsPass f q = c.in_ok-mark_next.ensures.pass f c.requires.pass (subst (λ (b : ℕ). f b ≢ None) c.requires.left.1 there) (subst (λ (k : ℕ). (b : ℕ) → Contains c.deref.result.now b ↔ Names (f k) b) c.requires.left.1 named) in
+    let below : block < p.blocks = elim (cases_lt block p.blocks) [ inl less ↦ less | inr past ↦ absurd (there (g.met.N.Nodes.none_beyond s block (subst (λ (n : ℕ). n ≤ block) c.requires.blocks past))) ] in
+    let directories : (b : ℕ) → Contains c.deref-2.result.now b ↔ NamesDirectory (f block) b =
+    subst (λ (l : List ℕ). (b : ℕ) → Contains l b ↔ NamesDirectory (f block) b) (sym c.deref-2.ensures.value) (subst (λ (o : Option (List ℕ)). (b : ℕ) → Contains c.in_ok-directories.directories.items b ↔ NamesDirectory o b) (sym held) c.in_ok-directories.ensures.names) in
+    let says : Says (f block) c.in_ok-parts.parts = subst (λ (o : Option (List ℕ)). Says o c.in_ok-parts.parts) (sym held) c.in_ok-parts.ensures in
+    let told : IsTold f q u =
+    told_on p q block c.mark_next.ensures.on c.requires.left.0 c.requires.left.1 c.in_ok-mark_next.ensures.next.0 f t u c.deref-2.result.now c.requires.told below c.note.ensures.sized directories c.note.ensures.named
+    c.next_in.result (c.next_in.ensures ∙ next_said (f block) c.in_ok-parts.parts.edge says.edge) c.note.ensures.links c.note.ensures.nexts in
+    on_any c.look.result (IsPass f' q × IsTold f' q u) (subst (λ (h : Blocks). IsPass h q) (sym same) pass, subst (λ (h : Blocks). IsTold h q u) (sym same) told)
+
+pub returns-clause-exact : goal.returns-clause-exact
+returns-clause-exact g c =
+    let s = c.args.nodes.now in
+    let f = g.N.Nodes.node s in
+    let f1 = g.N.Nodes.node c.read.new.self in
+    let block = c.args.block in
+    let same : f1 ≡ f = c.read.ensures.looks.same_nodes in
+    let bytes = c.lent-bytes.result.now in
+    let held : f block ≡ Some bytes = c.in_ok-read.ensures.shown ∙ ap (λ (xs : List ℕ). Some xs) (sym c.lent-bytes.ensures) in
+    let says : Says (f block) c.in_ok-parts.parts = subst (λ (o : Option (List ℕ)). Says o c.in_ok-parts.parts) (sym held) c.in_ok-parts.ensures in
+    IfOk-weaker c.look.result _ _
+    (λ good exact names next.
+    let own : IsTrue good ↔ IsLooked (c.block_bytes-capacity.result - 80) f1 c.args.plain (f block) =
+    exact (f block) says (subst (λ (h : Blocks). NamesNodes h (f block)) (sym same) names) (subst (λ (h : Blocks). NextHoldsLink h (f block)) (sym same) next) in
+    let here : IsTrue good ↔ IsLooked (c.block_bytes-capacity.result - 80) f c.args.plain (f block) = subst (λ (h : Blocks). IsTrue good ↔ IsLooked (c.block_bytes-capacity.result - 80) h c.args.plain (f block)) same own in
+    subst (λ (n : ℕ). IsTrue good ↔ IsLooked (n - 80) f c.args.plain (f block)) c.block_bytes-capacity.ensures.value here)
+    c.look.ensures.exact
+
+pub returns-clause-why : goal.returns-clause-why
+returns-clause-why g c =
+    IfErr-weaker c.look.result _ _ (λ fault cause other. g.met.N.Nodes.causes_on c.args.nodes.now c.read.new.self c.look.new.nodes fault c.read.ensures.looks.came cause) c.look.ensures.why
+
+pub returns-clause-looks : goal.returns-clause-looks
+returns-clause-looks g c = g.met.N.Nodes.looks_on c.args.nodes.now c.read.new.self c.look.new.nodes c.read.ensures.looks c.look.ensures.looks

@@ -5,7 +5,8 @@ use std::io::{Read, Write};
 
 /// Streams that join the program to another one, by their names: fifos, or `/dev/fd/N` of pipes.
 pub trait Channels {
-    ghost use Rattle.std.specs.Prelude.{◌≡◌, None, Some, List, ℕ, Option, IfSome, IfOk};
+    ghost use Rattle.std.specs.Prelude.{◌≡◌, None, Some, IfSome, IfOk};
+    ghost use Rattle.host_files.specs.Streams.{Written};
 
     /// What another program writes to.
     type Incoming: Read + Drop;
@@ -14,7 +15,7 @@ pub trait Channels {
     type Outgoing: Write + Drop;
 
     // What another program writes under a name, where it is known.
-    ghost written: { Self → List ℕ → Option (List ℕ) } = { λ _ _. None };
+    ghost written: { Self → Written } = { λ _ _. None };
 
     /// Opens a name for reading. A fifo waits until another program opens it for writing.
     fn open_incoming(&self, name: &str) -> Result<Self::Incoming, FileFault>

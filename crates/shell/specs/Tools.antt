@@ -1,5 +1,5 @@
 -- What the program does on the files of images, on its input and on its output, and its status, for each way it ends.
-use Rattle.std.specs.Prelude.{◌≡◌, ◌≢◌, ◌⊎◌, ℕ, ◌≤◌, Bool, false, Option, Some, None, Result, Ok, Err, IfSome, List, [], ◌∷◌, ◌++◌, take, codes, decimal}
+use Rattle.std.specs.Prelude.{◌≡◌, ◌≢◌, ◌⊎◌, ℕ, ◌≤◌, Bool, false, if◌then◌else◌, Option, Some, None, Result, Ok, Err, IfSome, List, [], ◌∷◌, ◌++◌, take, codes, decimal}
 use Rattle.std.specs.Borrow.{Bor}
 use Rattle.std.specs.Str.{bytes_eq}
 use Rattle.std.specs.Io.KnownBytes.{Appends}
@@ -24,19 +24,22 @@ use Rattle.system.specs.Mounts.{IsMountOf}
 use Rattle.system.specs.declared.systems.System.{System}
 use Rattle.inquiries.specs.declared.inquiry.Inquiry.{Inquiry}
 use Rattle.shell.specs.Asking.{file_spelled, tree_spelled, differences_spelled, IsMisspelled, IsToldBy, UntoldBy}
-use Rattle.shell.specs.Failures.{of_script, of_system, job_status, status_of}
+use Rattle.shell.specs.Failures.{of_script, of_session, of_system, job_status, status_of}
 use Rattle.host_files.specs.Files.{Held, KeepsOthers, takes_away}
 use Rattle.script_runs.specs.Flashes.{IsNewFlash, IsFormatOf, IsMade}
 use Rattle.script_runs.specs.Memory.{memory_sizes, EndsInMemory}
 use Rattle.shell.specs.Puts.{PutsBy, PutCause, IsAsked, GatherCause}
 use Rattle.script_runs.specs.Scripts.{Streams, streams_at, IsUnmounted, ScriptEnds}
 use Rattle.host_files.specs.Sources.{Found, Gathered}
+use Rattle.host_files.specs.Streams.{Written}
 use Rattle.shell.specs.Places.{AreOthers}
 use Rattle.host_files.specs.declared.image_files.TheConstants.{MOST_BYTES}
 use Rattle.shell.specs.declared.failure.Failure.{Failure}
 use Rattle.script_runs.specs.declared.scripts.Refusal.{Refusal}
 use Rattle.script_runs.specs.declared.scripts.ScriptFault.{ScriptFault}
 use Rattle.script_runs.specs.declared.scripts.Stop.{Stop}
+use Rattle.told_sessions.specs.Sessions.{SessionEnds}
+use Rattle.told_sessions.specs.declared.session_fault.SessionFault.{SessionFault}
 
 -- why the bytes of a file are not had: it is not read, and then they are not known; or for want of memory
 abbrev pub IsUnread : Option (List ℕ) → Failure → Type 0
@@ -218,6 +221,28 @@ abbrev pub MemoryEnds : Streams → Result (Unit {0}) Failure → Streams → Ty
 MemoryEnds before (Ok done) after = EndsInMemory memory_sizes before (Ok tt) after
 MemoryEnds before (Err failure) after = (fault : ScriptFault) × EndsInMemory memory_sizes before (Err fault) after × (failure ≡ of_script fault)
 
+-- how many versions are kept by the file system that is made first, where one is
+abbrev pub history_given : Job → Option ℕ
+history_given job = if job.is_history_given then Some job.history else None
+
+-- why no driver is reached: a name is not opened, or for want of memory
+abbrev pub IsUnreached : Failure → Type 0
+IsUnreached Failure.CannotRead = Unit {0}
+IsUnreached Failure.CannotWrite = Unit {0}
+IsUnreached Failure.Memory = Unit {0}
+IsUnreached _ = ⊥
+
+-- a script ended so on the flash of a driver that answers these bytes, where they are known
+abbrev pub ServesScript : Option ℕ → Option (List ℕ) → Streams → Result (Unit {0}) SessionFault → Streams → Type 0
+ServesScript history answers before result after = (told : Option (List ℕ)) × IfSome answers (λ all. told ≡ Some all) × SessionEnds history told before result after
+
+-- a script is run on the flash of a driver; or no driver is reached, and nothing is read or written; or the script does not run to
+-- its end
+abbrev pub ServeEnds : Option ℕ → Option (List ℕ) → Streams → Result (Unit {0}) Failure → Streams → Type 0
+ServeEnds history answers before (Ok done) after = ServesScript history answers before (Ok done) after
+ServeEnds history answers before (Err failure) after = (IsUnreached failure × (after ≡ before))
+    ⊎ ((fault : SessionFault) × ServesScript history answers before (Err fault) after × (failure ≡ of_session fault))
+
 -- what is printed of a refusal: its word, its number and what it means
 abbrev pub explanation : Fault → List ℕ → List ℕ
 explanation fault meaning = word_of fault ++ codes " " ++ decimal (number_of fault) ++ codes ": " ++ meaning ++ codes "\n"
@@ -254,13 +279,15 @@ pub record OnlyWrites (before after : Host) : Type 0 where
 abbrev pub Claimed : Type 1
 Claimed = List ℕ → List ℕ → Type 0
 
--- what is known of the host's files before: what each may have where it is claimed, and what stands at a name, with all below it
+-- what is known of the host before: what each file may have where it is claimed, what stands at a name, with all below it, and what
+-- another program writes under a name
 pub record Known : Type 1 where
   pub claimed : Claimed
   pub gathered : Gathered
+  pub written : Written
 
-abbrev pub known_by : Claimed → Gathered → Known
-known_by claimed gathered = record { claimed = claimed; gathered = gathered }
+abbrev pub known_by : Claimed → Gathered → Written → Known
+known_by claimed gathered written = record { claimed = claimed; gathered = gathered; written = written }
 
 -- how a job ends that is done on the file of this name, by its task
 abbrev pub EndsOn : Job → List ℕ → Known → Host → Result (Unit {0}) Failure → Host → Type 0
@@ -276,18 +303,20 @@ EndsOn job name known before result after = elim (job.command) as (λ task. Type
   | Task.Log ↦ LookEnds (codes "log\n") (before.files name) result before.out after.out × OnlyPrints before after
   | Task.Df ↦ LookEnds (codes "df\n") (before.files name) result before.out after.out × OnlyPrints before after
   | Task.Memory ↦ MemoryEnds (streams_of before) result (streams_of after) × (after.files ≡ before.files)
+  | Task.Serve ↦ ServeEnds (history_given job) (known.written (word_given job.answers)) (streams_of before) result (streams_of after) × (after.files ≡ before.files)
   | Task.Explain ↦ ExplainEnds job.refusal result before.out after.out × OnlyPrints before after
 ]
 
 -- how a task ends that is done on no file
-abbrev pub EndsAlone : Task → Job → Host → Result (Unit {0}) Failure → Host → Type 0
-EndsAlone Task.Explain job before result after = ExplainEnds job.refusal result before.out after.out × OnlyPrints before after
-EndsAlone _ job before result after = MemoryEnds (streams_of before) result (streams_of after) × (after.files ≡ before.files)
+abbrev pub EndsAlone : Task → Job → Known → Host → Result (Unit {0}) Failure → Host → Type 0
+EndsAlone Task.Serve job known before result after = ServeEnds (history_given job) (known.written (word_given job.answers)) (streams_of before) result (streams_of after) × (after.files ≡ before.files)
+EndsAlone Task.Explain job known before result after = ExplainEnds job.refusal result before.out after.out × OnlyPrints before after
+EndsAlone _ job known before result after = MemoryEnds (streams_of before) result (streams_of after) × (after.files ≡ before.files)
 
 -- by the file that a job names, if any
 abbrev pub EndsFor : Option (Bor (List ℕ)) → Job → Known → Host → Result (Unit {0}) Failure → Host → Type 0
 EndsFor (Some name) job known before result after = EndsOn job name.now known before result after
-EndsFor None job known before result after = EndsAlone job.command job before result after
+EndsFor None job known before result after = EndsAlone job.command job known before result after
 
 -- how a job ends
 abbrev pub JobEnds : Job → Known → Host → Result (Unit {0}) Failure → Host → Type 0

@@ -6,11 +6,13 @@ use script_runs::{Refusal, ScriptFault, Stop};
 use std::io;
 use std::io::Write;
 use thiserror::Error;
+use told_flash::StartFault;
+use told_sessions::SessionFault;
 
 /// Why a job did not run to its end.
 #[derive(Clone, Copy, Debug, PartialEq, Eq, Error)]
 pub enum Failure {
-    /// The file of the image could not be read.
+    /// The file of the image, or what a driver tells, could not be read.
     #[error("the image cannot be read")]
     CannotRead,
     /// The file that is to be written is no plain file, another program has it, or to write it takes the
@@ -51,7 +53,7 @@ pub enum Failure {
 
 impl Failure {
     ghost use Rattle.std.specs.Prelude.{◌≡◌};
-    ghost use Rattle.shell.specs.Failures.{failure_status, of_script, of_system, of_refusal, of_image};
+    ghost use Rattle.shell.specs.Failures.{failure_status, of_script, of_system, of_refusal, of_image, of_session};
 
     /// By why a script ended.
     pub(crate) fn of_script(fault: ScriptFault) -> Failure
@@ -95,6 +97,18 @@ impl Failure {
         }
     }
 
+    /// By why a script on a driver's flash ended.
+    pub(crate) fn of_session(fault: SessionFault) -> Failure
+        ensures { result ≡ of_session fault }
+    {
+        match fault {
+            SessionFault::Start(StartFault::Read) => Failure::CannotRead,
+            SessionFault::Start(StartFault::Image(fault)) => Failure::of_image(fault),
+            SessionFault::Format(fault) => Failure::of_system(fault),
+            SessionFault::Script(fault) => Failure::of_script(fault),
+        }
+    }
+
     /// The status of the program: 3 where the image, a format or a mount was refused, 4 where a call or
     /// a line of a script was, else 1.
     pub fn status(self) -> u8
@@ -107,10 +121,10 @@ impl Failure {
         }
     }
 
-    /// Writes the line that says why, with the name of the image, or of the file that was to be written.
-    pub(crate) fn explain<E: Write>(self, image: &str, written: &str, err: &mut E) {
+    /// Writes the line that says why, with the name of what was to be read, or of what was to be written.
+    pub(crate) fn explain<E: Write>(self, read: &str, written: &str, err: &mut E) {
         let _ = match self {
-            Failure::CannotRead => writeln!(err, "uffs: cannot read {image}"),
+            Failure::CannotRead => writeln!(err, "uffs: cannot read {read}"),
             Failure::Unavailable | Failure::CannotWrite | Failure::Unsynced => {
                 writeln!(err, "uffs: cannot write {written}")
             }

@@ -12,6 +12,7 @@ mod place;
 mod process;
 mod program;
 mod put;
+mod serving;
 mod streams;
 mod thing;
 mod view_word;

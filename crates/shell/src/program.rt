@@ -10,10 +10,11 @@ use crate::explanations::explain;
 use crate::failure::Failure;
 use crate::images::{check_image, format_image, look_at_image, run_image};
 use crate::put::{Order, put_into_image};
+use crate::serving::serve_part;
 use clap::Error;
 use clap::error::ErrorKind;
 use flash_model::Geometry;
-use host_files::{ImageFiles, Sources};
+use host_files::{Channels, ImageFiles, Sources};
 use jobs::{Job, Task, job};
 use script_runs::run_in_memory;
 use std::alloc::Global;
@@ -26,7 +27,7 @@ use std::io::{Read, Write};
 /// output or memory failed. 2: the words were refused, or help was asked for. 3: the image, a format
 /// or a mount was refused. 4: what was asked for was refused, or a line of a script that is to stop
 /// there. Where it is not 0, `err` says why.
-pub fn tool<F: ImageFiles + Sources, R: Read, W: Write, E: Write>(
+pub fn tool<F: ImageFiles + Sources + Channels, R: Read, W: Write, E: Write>(
     files: &mut F,
     alloc: Global,
     words: &[String],
@@ -34,7 +35,7 @@ pub fn tool<F: ImageFiles + Sources, R: Read, W: Write, E: Write>(
     out: &mut W,
     err: &mut E,
 ) -> u8
-    ensures ends { ToolEnds (map string_bytes words.now) (known_by (ReadsClaimed F.claims F.reads) (F.gathered files.old)) (host_at (F.held files.old) (R.remaining reader.old) (W.contents out.old)) result (host_at (F.held files.new) (R.remaining reader.new) (W.contents out.new)) }
+    ensures ends { ToolEnds (map string_bytes words.now) (known_by (ReadsClaimed F.claims F.reads) (F.gathered files.old) (F.written files.old)) (host_at (F.held files.old) (R.remaining reader.old) (W.contents out.old)) result (host_at (F.held files.new) (R.remaining reader.new) (W.contents out.new)) }
     // The word `memory` is understood.
     ensures memory { IsTrue (is_memory (map string_bytes words.now)) → MemoryBy (streams_at (R.remaining reader.old) (W.contents out.old)) result (streams_at (R.remaining reader.new) (W.contents out.new)) }
 {
@@ -45,16 +46,25 @@ pub fn tool<F: ImageFiles + Sources, R: Read, W: Write, E: Write>(
     match carry_out(files, alloc, job, reader, out, err) {
         Ok(()) => 0,
         Err(failure) => {
-            failure.explain(job.image.unwrap_or(""), written_by(job), err);
+            failure.explain(read_by(job), written_by(job), err);
             failure.status()
         }
     }
 }
 
-/// The name of the file that a job writes.
+/// The name of what a job reads.
+fn read_by(job: Job<'_>) -> &str {
+    match job.command {
+        Task::Serve => word_given(job.answers),
+        _ => word_given(job.image),
+    }
+}
+
+/// The name of what a job writes.
 fn written_by(job: Job<'_>) -> &str {
     match job.command {
         Task::Get => word_given(job.file),
+        Task::Serve => word_given(job.orders),
         _ => word_given(job.image),
     }
 }
@@ -76,7 +86,7 @@ fn refuse<E: Write>(error: &Error, err: &mut E) -> u8
 }
 
 /// Does a job.
-fn carry_out<F: ImageFiles + Sources, R: Read, W: Write, E: Write>(
+fn carry_out<F: ImageFiles + Sources + Channels, R: Read, W: Write, E: Write>(
     files: &mut F,
     alloc: Global,
     job: Job<'_>,
@@ -84,19 +94,20 @@ fn carry_out<F: ImageFiles + Sources, R: Read, W: Write, E: Write>(
     out: &mut W,
     err: &mut E,
 ) -> Result<(), Failure>
-    ensures { JobEnds job.entry (known_by (ReadsClaimed F.claims F.reads) (F.gathered files.old)) (host_at (F.held files.old) (R.remaining reader.old) (W.contents out.old)) result (host_at (F.held files.new) (R.remaining reader.new) (W.contents out.new)) }
+    ensures { JobEnds job.entry (known_by (ReadsClaimed F.claims F.reads) (F.gathered files.old) (F.written files.old)) (host_at (F.held files.old) (R.remaining reader.old) (W.contents out.old)) result (host_at (F.held files.new) (R.remaining reader.new) (W.contents out.new)) }
 {
     match job.image {
         Some(name) => do_task(files, alloc, job, name, reader, out, err),
         None => match job.command {
             Task::Explain => explain(alloc, job.refusal, out),
+            Task::Serve => serve_part(files, alloc, job, reader, out),
             _ => play_in_memory(alloc, reader, out),
         },
     }
 }
 
 /// Does a task on a file.
-fn do_task<F: ImageFiles + Sources, R: Read, W: Write, E: Write>(
+fn do_task<F: ImageFiles + Sources + Channels, R: Read, W: Write, E: Write>(
     files: &mut F,
     alloc: Global,
     job: Job<'_>,
@@ -105,7 +116,7 @@ fn do_task<F: ImageFiles + Sources, R: Read, W: Write, E: Write>(
     out: &mut W,
     err: &mut E,
 ) -> Result<(), Failure>
-    ensures { EndsOn job.entry name.now (known_by (ReadsClaimed F.claims F.reads) (F.gathered files.old)) (host_at (F.held files.old) (R.remaining reader.old) (W.contents out.old)) result (host_at (F.held files.new) (R.remaining reader.new) (W.contents out.new)) }
+    ensures { EndsOn job.entry name.now (known_by (ReadsClaimed F.claims F.reads) (F.gathered files.old) (F.written files.old)) (host_at (F.held files.old) (R.remaining reader.old) (W.contents out.old)) result (host_at (F.held files.new) (R.remaining reader.new) (W.contents out.new)) }
 {
     match job.command {
         Task::Format => format_image(files, alloc, name, sizes_of(job), job.history),
@@ -123,6 +134,7 @@ fn do_task<F: ImageFiles + Sources, R: Read, W: Write, E: Write>(
         Task::Log => look_at_image(files, alloc, name, b"log\n", out),
         Task::Df => look_at_image(files, alloc, name, b"df\n", out),
         Task::Memory => play_in_memory(alloc, reader, out),
+        Task::Serve => serve_part(files, alloc, job, reader, out),
         Task::Explain => explain(alloc, job.refusal, out),
     }
 }
@@ -139,7 +151,7 @@ fn order_of(job: Job<'_>) -> Order<'_>
 }
 
 /// A word of a job; the empty one where it has none.
-fn word_given(word: Option<&str>) -> &str
+pub(crate) fn word_given(word: Option<&str>) -> &str
     ensures { result.now ≡ word_given word.entry }
 {
     match word {

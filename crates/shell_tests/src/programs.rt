@@ -4,7 +4,7 @@ ghost use Rattle.std.specs.Prelude.{◌≡◌, codes};
 ghost use Rattle.std.specs.Str.{bytes_eq};
 
 use crate::scripts::{Broken, Full};
-use host_files::{FileFault, ImageFiles, MOST_BYTES, Source, SourceKind, Sources};
+use host_files::{Channels, FileFault, ImageFiles, MOST_BYTES, Source, SourceKind, Sources};
 use program_calls::{Wanted, call, erased_image, first_other, fresh_image, words_of};
 use shell::tool;
 use std::alloc::{AllocError, Global};
@@ -119,6 +119,28 @@ impl Sources for OneFile {
     }
 }
 
+/// No driver answers, and none takes orders.
+impl Channels for OneFile {
+    type Incoming = &'static [u8];
+
+    type Outgoing = Vec<u8>;
+
+    fn open_incoming(&self, name: &str) -> Result<&'static [u8], FileFault> {
+        match name {
+            "silent" => Ok(b""),
+            "no image" => Ok(b"\x08\0\0\0\0\0\0\0UFFSIMG2"),
+            _ => Err(FileFault::Failed),
+        }
+    }
+
+    fn open_outgoing(&self, alloc: Global, name: &str) -> Result<Vec<u8>, FileFault> {
+        match name {
+            "orders" => Ok(Vec::new(alloc)),
+            _ => Err(FileFault::Failed),
+        }
+    }
+}
+
 /// Asserts what calls of the program give, one after the other.
 fn assert_calls<R: Abort>(
     rt: &R,
@@ -136,6 +158,34 @@ fn memory_needs_no_image(rt: HostRuntime) -> Result<(), Fail> {
     let mut files = OneFile::new(rt.alloc());
     let wanted = (0, "ok\nentries 1 a/\n", "");
     let calls: [Wanted<'_>; 1] = [(&["memory"], "mkdir /a\nls /\n", wanted)];
+    assert_calls(&rt, &mut files, rt.alloc(), &calls)
+}
+
+#[test]
+fn a_driver_that_is_not_reached_is_told(rt: HostRuntime) -> Result<(), Fail> {
+    let mut files = OneFile::new(rt.alloc());
+    let calls: [Wanted<'_>; 4] = [
+        (
+            &["serve", "none", "orders"],
+            "ls /\n",
+            (1, "", "uffs: cannot read none\n"),
+        ),
+        (
+            &["serve", "silent", "none"],
+            "ls /\n",
+            (1, "", "uffs: cannot write none\n"),
+        ),
+        (
+            &["serve", "silent", "orders"],
+            "ls /\n",
+            (1, "", "uffs: cannot read silent\n"),
+        ),
+        (
+            &["serve", "no image", "orders"],
+            "ls /\n",
+            (3, "", "uffs: image NotImage\n"),
+        ),
+    ];
     assert_calls(&rt, &mut files, rt.alloc(), &calls)
 }
 

@@ -5,18 +5,10 @@ use Rattle.fs_types.specs.declared.fault.Fault.{Fault}
 use Rattle.flash_model.specs.Device.{Device}
 use Rattle.flash_image.specs.Images.{image_of, IsFresh}
 use Rattle.mounting.specs.Formats.{IsFormatted, ListsFailed, IsNumbered, FormatCause}
-use Rattle.script_runs.specs.Scripts.{EndsOnFlash, unplanned}
+use Rattle.script_runs.specs.Scripts.{EndsOnFlash, Streams, unplanned}
 use Rattle.script_runs.specs.declared.scripts.ScriptFault.{ScriptFault}
 use Rattle.told_flash.specs.Starts.{start_text, IsStartFault}
 use Rattle.told_sessions.specs.declared.session_fault.SessionFault.{SessionFault}
-
--- what is left of the lines, and what was written as replies
-pub record Said : Type 0 where
-  pub lines : Option (List ℕ)
-  pub replies : Option (List ℕ)
-
-abbrev pub said : Option (List ℕ) → Option (List ℕ) → Said
-said lines replies = record { lines = lines; replies = replies }
 
 -- the flash that a driver tells at the start
 pub record IsTold (answers : Option (List ℕ)) (d : Device) : Type 0 where
@@ -35,13 +27,13 @@ IsNotReady None told fault left = ⊥
 IsNotReady (Some limit) told fault left = FormatCause told limit fault left
 
 -- a script ended so, on the flash that was told and made ready
-pub record RunsReady (history : Option ℕ) (answers : Option (List ℕ)) (before : Said) (result : Result (Unit {0}) ScriptFault) (after : Said) : Type 0 where
+pub record RunsReady (history : Option ℕ) (answers : Option (List ℕ)) (before : Streams) (result : Result (Unit {0}) ScriptFault) (after : Streams) : Type 0 where
   pub told : Device
   pub ready : Device
   pub last : Device
   pub start : IsTold answers told
   pub made : MakesReady history told ready
-  pub ends : EndsOnFlash (unplanned ready) (unplanned last) before.lines after.lines result before.replies after.replies
+  pub ends : EndsOnFlash (unplanned ready) (unplanned last) before result after
 
 -- no file system was made on the flash that was told
 pub record IsUnmade (history : Option ℕ) (answers : Option (List ℕ)) (fault : Fault) : Type 0 where
@@ -51,7 +43,7 @@ pub record IsUnmade (history : Option ℕ) (answers : Option (List ℕ)) (fault 
   pub cause : IsNotReady history told fault left
 
 -- how it ends: by the script; or nothing is read or written, where no flash is told or no file system is made
-abbrev pub SessionEnds : Option ℕ → Option (List ℕ) → Said → Result (Unit {0}) SessionFault → Said → Type 0
+abbrev pub SessionEnds : Option ℕ → Option (List ℕ) → Streams → Result (Unit {0}) SessionFault → Streams → Type 0
 SessionEnds history answers before (Ok done) after = RunsReady history answers before (Ok done) after
 SessionEnds history answers before (Err (SessionFault.Script fault)) after = RunsReady history answers before (Err fault) after
 SessionEnds history answers before (Err (SessionFault.Start fault)) after = IfSome answers (IsStartFault fault) × (after ≡ before)

@@ -1,6 +1,7 @@
 //! A script on a flash whose driver is at the other end of two streams.
 ghost use Rattle.std.specs.Prelude.{◌≡◌, MatchResult};
-ghost use Rattle.told_sessions.specs.Sessions.{SessionEnds, MakesReady, IsNotReady, said};
+ghost use Rattle.script_runs.specs.Scripts.{streams_at};
+ghost use Rattle.told_sessions.specs.Sessions.{SessionEnds, MakesReady, IsNotReady};
 
 use crate::session_fault::SessionFault;
 use flash_model::Flash;
@@ -26,7 +27,7 @@ pub fn serve_script<A: Read + Drop, O: Write + Drop, R: Read, W: Write>(
     reader: &mut R,
     writer: &mut W,
 ) -> Result<(), SessionFault>
-    ensures ends { SessionEnds history (A.remaining answers) (said (R.remaining reader.old) (W.contents writer.old)) result (said (R.remaining reader.new) (W.contents writer.new)) }
+    ensures ends { SessionEnds history (A.remaining answers) (streams_at (R.remaining reader.old) (W.contents writer.old)) result (streams_at (R.remaining reader.new) (W.contents writer.new)) }
 {
     let mut flash = ToldFlash::start(alloc, answers, orders)?;
     match make_ready(alloc, &mut flash, history) {

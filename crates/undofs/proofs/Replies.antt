@@ -75,6 +75,7 @@ still_needs : (call : Call) → is_still call ≡ true → NeedsNothing call
 still_needs (Call.Open path flags) is = absurd (true≢false (sym is))
 still_needs (Call.Pwrite descriptor offset bytes) is = absurd (true≢false (sym is))
 still_needs (Call.Ftruncate descriptor length) is = absurd (true≢false (sym is))
+still_needs (Call.WriteFile path bytes) is = absurd (true≢false (sym is))
 still_needs (Call.Rename old new) is = absurd (true≢false (sym is))
 still_needs (Call.Unlink path) is = absurd (true≢false (sym is))
 still_needs (Call.Mkdir path) is = absurd (true≢false (sym is))

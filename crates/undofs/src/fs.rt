@@ -252,6 +252,20 @@ impl<'f, F: Flash> Fs<'f, F> {
         )
     }
 
+    /// The file at a path has exactly these bytes, at most 16,777,216: it is made, or replaces the file
+    /// that stands there, as one change. `open` with WRITE, CREAT and TRUNC, `pwrite` and `close` in a change
+    /// group do the same in more writes. No descriptor is taken. Where the file has these bytes already, no
+    /// version is made, and that is no refusal in read-only mode.
+    ///
+    /// [`Fault::Busy`] where the file is open, [`Fault::TooBig`] for more bytes.
+    pub fn write_file(&mut self, alloc: Global, path: &Path, bytes: &[u8]) -> Result<(), Fault>
+        ensures step { StepsBetween self.old (Call.WriteFile path.now bytes.now) (replied empty result) self.new }
+        ensures pages { KeepsAllPages self.old self.new }
+        ensures same_flash { flash_name self.new ≡ flash_name self.old }
+    {
+        self.carry_out_empty(alloc, Request::WriteFile { path, bytes })
+    }
+
     /// What stands at a path of the tree that a view shows: a directory, with its number of entries, or
     /// a file, with its length in bytes (POSIX.1-2017 `stat`, which tells more).
     pub fn stat(&mut self, view: &View, path: &Path) -> Result<Stat, Fault>

@@ -1,8 +1,11 @@
 -- How many numbers below a bound pass a test, beside a list that has them all.
-use Rattle.std.proofs.Common.{◌≡◌, ◌≢◌, ◌⊎◌, ℕ, zero, suc, inl, inr, ◌+◌, ◌≤◌, ◌<◌, Bool, true, false, cond, ◌&&◌, ◌||◌, not, eqb, List, [], ◌∷◌, length, refl, sym, ap, ◌∙◌, arith}
+use Rattle.std.proofs.Common.{◌≡◌, ◌≢◌, ◌⊎◌, ℕ, zero, suc, inl, inr, ◌+◌, ◌≤◌, ◌<◌, Bool, true, false, cond, ◌&&◌, ◌||◌, not, eqb, List, [], ◌∷◌, length, refl, sym, ap, subst, ◌∙◌, add-zero, arith}
 use Rattle.std.specs.Prelude.{Contains}
 use Rattle.std.proofs.lemmas.Bool.{true≢false, cases_eq, eq-eqb, ne_eqb}
-use Rattle.directory.specs.Depths.{count_below}
+use Rattle.std.specs.List.{filter}
+use Rattle.std.specs.FinSet.{FinSet, contains}
+use Rattle.std.specs.Ordering.{nat_cmp}
+use Rattle.directory.specs.Depths.{count_below, is_loud, loud_of}
 
 pub one_more : (p : ℕ → Bool) (n : ℕ) → count_below p (n + 1) ≡ count_below p n + cond (p n) 1 0
 one_more p n = let next : n + 1 ≡ suc n = omega arith in ap (count_below p) next
@@ -102,3 +105,75 @@ count_put p q x put was (suc n) = on (cases_eq n x) (count_put p q x put was n)
       where
         apart_less : (n x : ℕ) → n ≢ x → x < suc n → x < n
         apart_less n x apart less = grind arith
+
+-- two tests that agree
+pub count_ext : (p q : ℕ → Bool) → ((b : ℕ) → p b ≡ q b) → (n : ℕ) → count_below p n ≡ count_below q n
+count_ext p q same zero = refl
+count_ext p q same (suc n) = λ i. count_ext p q same n i + cond (same n i) 1 0
+
+-- what passes a test is in the list of those that do
+pub filter_has : (p : ℕ → Bool) (xs : List ℕ) (x : ℕ) → Contains xs x → p x ≡ true → Contains (filter p xs) x
+filter_has p [] x h is = absurd (omega (arith, h.1))
+filter_has p (y ∷ xs) x (zero, lt, same) is =
+    let here : p y ≡ true = ap p same ∙ is in
+    subst (λ (t : Bool). Contains (cond t (y ∷ filter p xs) (filter p xs)) x) (sym here) (0, omega arith, same)
+filter_has p (y ∷ xs) x (suc k, lt, same) is = on (p y) (filter_has p xs x (k, omega (arith, lt), same) is)
+  where
+    on : (t : Bool) → Contains (filter p xs) x → Contains (cond t (y ∷ filter p xs) (filter p xs)) x
+    on true (j, below, at) = (suc j, omega (arith, below), at)
+    on false h = h
+
+pub filter_few : (p : ℕ → Bool) (xs : List ℕ) → length (filter p xs) ≤ length xs
+filter_few p [] = omega arith
+filter_few p (x ∷ xs) = on (p x) (filter_few p xs)
+  where
+    on : (t : Bool) → length (filter p xs) ≤ length xs → length (cond t (x ∷ filter p xs) (filter p xs)) ≤ suc (length xs)
+    on true few = omega (arith, few)
+    on false few = omega (arith, few)
+
+-- ---- of what was seen, what was not known
+
+loud_parts : (s t : Bool) → (s && not t) ≡ true → (s ≡ true) × (not t ≡ true)
+loud_parts true t e = (refl, e)
+loud_parts false t e = absurd cc
+
+pub loud_seen : (quiet seen : FinSet nat_cmp) (b : ℕ) → is_loud quiet seen b ≡ true → contains seen b ≡ true
+loud_seen quiet seen b here = (loud_parts (contains seen b) (contains quiet b) here).0
+
+pub loud_few : (quiet seen : FinSet nat_cmp) (list : List ℕ) (n : ℕ) → ((b : ℕ) → contains seen b ≡ true → Contains list b) → count_below (is_loud quiet seen) n ≤ length (loud_of quiet list)
+loud_few quiet seen list n within = count_few (is_loud quiet seen) (loud_of quiet list) n in_list
+  where
+    in_list : (b : ℕ) → is_loud quiet seen b ≡ true → Contains (loud_of quiet list) b
+    in_list b here = let both = loud_parts (contains seen b) (contains quiet b) here in filter_has (λ b. not (contains quiet b)) list b (within b both.0) both.1
+
+-- one block more was seen
+pub loud_put : (quiet : FinSet nat_cmp) (p q : ℕ → Bool) (x : ℕ) → ((b : ℕ) → q b ≡ (eqb b x || p b)) → p x ≡ false → (n : ℕ) → x < n
+    → count_below (λ b. q b && not (contains quiet b)) n ≡ count_below (λ b. p b && not (contains quiet b)) n + cond (contains quiet x) 0 1
+loud_put quiet p q x put was n below = on (contains quiet x) refl
+  where
+    on : (t : Bool) → contains quiet x ≡ t → count_below (λ b. q b && not (contains quiet b)) n ≡ count_below (λ b. p b && not (contains quiet b)) n + cond t 0 1
+    on true known = count_ext (λ b. q b && not (contains quiet b)) (λ b. p b && not (contains quiet b)) same n ∙ sym (add-zero (count_below (λ b. p b && not (contains quiet b)) n))
+      where
+        same : (b : ℕ) → (q b && not (contains quiet b)) ≡ (p b && not (contains quiet b))
+        same b = elim (cases_eq b x) [
+          | inl is ↦
+              let silent : not (contains quiet b) ≡ false = ap (λ (k : ℕ). not (contains quiet k)) is ∙ ap not known in
+              ap (λ (t : Bool). q b && t) silent ∙ none (q b) ∙ sym (ap (λ (t : Bool). p b && t) silent ∙ none (p b))
+          | inr apart ↦ ap (λ (t : Bool). t && not (contains quiet b)) (put b ∙ ap (λ (t : Bool). t || p b) (ne_eqb b x apart))
+        ]
+          where
+            none : (t : Bool) → (t && false) ≡ false
+            none true = refl
+            none false = refl
+    on false unknown = (count_put (λ b. p b && not (contains quiet b)) (λ b. q b && not (contains quiet b)) x both (ap (λ (t : Bool). t && not (contains quiet x)) was) n).1 below
+      where
+        both : (b : ℕ) → (q b && not (contains quiet b)) ≡ (eqb b x || (p b && not (contains quiet b)))
+        both b = elim (cases_eq b x) [
+          | inl is ↦
+              let here : eqb b x ≡ true = eq-eqb b x is in
+              let heard : not (contains quiet b) ≡ true = ap (λ (k : ℕ). not (contains quiet k)) is ∙ ap not unknown in
+              ap (λ (t : Bool). t && not (contains quiet b)) (put b ∙ ap (λ (t : Bool). t || p b) here) ∙ heard ∙ sym (ap (λ (t : Bool). t || (p b && not (contains quiet b))) here)
+          | inr apart ↦
+              let other : eqb b x ≡ false = ne_eqb b x apart in
+              ap (λ (t : Bool). t && not (contains quiet b)) (put b ∙ ap (λ (t : Bool). t || p b) other) ∙ sym (ap (λ (t : Bool). t || (p b && not (contains quiet b))) other)
+        ]

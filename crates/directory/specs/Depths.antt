@@ -1,6 +1,6 @@
 -- How many names the paths below a directory have.
-use Rattle.std.specs.Prelude.{◌≡◌, ◌⊎◌, ℕ, zero, suc, ◌+◌, ◌<◌, ◌≤◌, ◌-◌, ◌==◌, nat_lt, Bool, true, false, not, ◌&&◌, Some, None, IsSome, List, length, Contains, if◌then◌else◌}
-use Rattle.std.specs.List.{list_any}
+use Rattle.std.specs.Prelude.{◌≡◌, ◌⊎◌, ℕ, zero, suc, ◌+◌, ◌<◌, ◌≤◌, ◌-◌, ◌==◌, nat_lt, Bool, true, false, not, ◌&&◌, Some, None, IsSome, List, length, slice_index, Contains, if◌then◌else◌}
+use Rattle.std.specs.List.{list_any, filter}
 use Rattle.std.specs.FinSet.{FinSet, contains}
 use Rattle.std.specs.Ordering.{nat_cmp}
 use Rattle.fs_types.specs.Names.{Path}
@@ -30,6 +30,18 @@ names_directory items b = list_any (λ item. is_directory_at item.place b) items
 abbrev pub count_below : (ℕ → Bool) → ℕ → ℕ
 count_below p zero = 0
 count_below p (suc n) = count_below p n + (if p n then 1 else 0)
+
+-- the nodes in these blocks name no directory, and of each the block of the node after it is listed
+abbrev pub AreQuiet : Blocks → FinSet nat_cmp → List ℕ → Type 0
+AreQuiet f quiet nexts = (b : ℕ) → contains quiet b ≡ true → (b < length nexts) × (next_of (f b) ≡ slice_index nexts b) × ((c : ℕ) → names_directory (link_items (f b)) c ≡ false)
+
+-- a block was seen, and its node was not known
+abbrev pub is_loud : FinSet nat_cmp → FinSet nat_cmp → ℕ → Bool
+is_loud quiet seen b = contains seen b && not (contains quiet b)
+
+-- the blocks of a list whose nodes are not known
+abbrev pub loud_of : FinSet nat_cmp → List ℕ → List ℕ
+loud_of quiet list = filter (λ b. not (contains quiet b)) list
 
 -- a block is one to be read: it is none of those that hold no node, and it was not seen
 abbrev pub is_left : ℕ → FinSet nat_cmp → ℕ → Bool

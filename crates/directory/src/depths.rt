@@ -1,5 +1,5 @@
 //! How many names the paths below a directory have.
-ghost use Rattle.std.specs.Prelude.{◌≡◌, ℕ, ◌+◌, ◌*◌, ◌≤◌, ◌<◌, true, false, ◌||◌, ◌&&◌, nat_lt, List, Contains, length, Some, OnOk, OnErr, IfOk, IfErr};
+ghost use Rattle.std.specs.Prelude.{◌≡◌, ℕ, ◌+◌, ◌*◌, ◌≤◌, ◌<◌, true, false, ◌||◌, ◌&&◌, nat_lt, List, Contains, length, Some, OnOk, OnErr, IfOk, IfErr, if◌then◌else◌};
 ghost use Rattle.std.specs.FinSet as set;
 ghost use Rattle.node_format.specs.declared.place.Place.TheVariants.{Dir};
 ghost use Rattle.block_trees.specs.Chains.{link_items, next_of};
@@ -60,6 +60,36 @@ fn add_named<N: Nodes>(nodes: &mut N, block: u32, found: &mut BlockSet) -> Resul
     Ok(next)
 }
 
+/// The same where some nodes are known to name no directory: of these the block of the next one is
+/// listed, and they are not read.
+fn add_unknown<N: Nodes>(
+    nodes: &mut N,
+    block: u32,
+    found: &mut BlockSet,
+    quiet: &BlockSet,
+    nexts: &[u32],
+) -> Result<u32, Fault>
+    requires sound { N.is_sound nodes.old }
+    requires quiet { spec.AreQuiet (N.node nodes.old) quiet.now.members nexts.now }
+
+    // What is added, and the block of the next node.
+    ensures added { OnOk result ((b : ℕ) → set.contains found.new.members b ≡ (set.contains found.old.members b || (nat_lt b found.old.blocks && spec.names_directory (link_items (N.node nodes.old block)) b))) }
+    ensures next { IfOk result (λ next. next_of (N.node nodes.old block) ≡ next) }
+    ensures same { OnErr result (found.new ≡ found.old) }
+    ensures size { found.new.blocks ≡ found.old.blocks }
+
+    // Why not, and what is read.
+    ensures why { IfErr result (λ fault. N.causes nodes.old nodes.new fault) }
+    ensures faults { IfErr result IsLookFault }
+    ensures looks { OnlyLooks N.node N.kept N.writes N.follows N.is_sound N.limit N.blocks nodes.old nodes.new }
+    ensures reads { N.reads nodes.new ≡ N.reads nodes.old + (if set.contains quiet.now.members block then 0 else 1) }
+{
+    if quiet.contains(block) {
+        return Ok(nexts[block as usize]);
+    }
+    add_named(nodes, block, found)
+}
+
 /// Whether a block is one to be read: 0 names none, and none is read twice.
 fn is_left(seen: &BlockSet, block: u32) -> bool
     ensures { result ≡ spec.is_left seen.now.blocks seen.now.members block }
@@ -74,8 +104,11 @@ fn add_chain<N: Nodes>(
     block: u32,
     seen: &mut BlockSet,
     found: &mut BlockSet,
+    quiet: &BlockSet,
+    nexts: &[u32],
 ) -> Result<(), Fault>
     requires sound { N.is_sound nodes.old }
+    requires quiet { spec.AreQuiet (N.node nodes.old) quiet.now.members nexts.now }
     requires size { (seen.old.blocks ≡ N.blocks nodes.old) × (found.old.blocks ≡ N.blocks nodes.old) }
     ensures read { OnOk result (spec.AreFoundBelow (N.node nodes.old) (N.blocks nodes.old) seen.old.members found.old.members → spec.AreFoundBelow (N.node nodes.old) (N.blocks nodes.old) seen.new.members found.new.members) }
     ensures here { OnOk result (spec.IsSeen (N.node nodes.old) seen.new.members block) }
@@ -89,13 +122,13 @@ fn add_chain<N: Nodes>(
     ensures faults { IfErr result IsLookFault }
     ensures looks { OnlyLooks N.node N.kept N.writes N.follows N.is_sound N.limit N.blocks nodes.old nodes.new }
 
-    // Each read is of a block that was not seen.
-    ensures reads { N.reads nodes.new + spec.count_below (set.contains seen.old.members) seen.old.blocks ≡ N.reads nodes.old + spec.count_below (set.contains seen.new.members) seen.old.blocks }
+    // Each read is of a block that was not seen, and whose node is not known.
+    ensures reads { N.reads nodes.new + spec.count_below (spec.is_loud quiet.now.members seen.old.members) seen.old.blocks ≡ N.reads nodes.old + spec.count_below (spec.is_loud quiet.now.members seen.new.members) seen.old.blocks }
 {
     let mut at = block;
     'chain: while is_left(seen, at) {
         seen.insert(at);
-        at = add_named(nodes, at, found)?;
+        at = add_unknown(nodes, at, found, quiet, nexts)?;
     }
     Ok(())
 }
@@ -121,8 +154,15 @@ fn has_entries<N: Nodes>(nodes: &mut N, block: u32) -> Result<bool, Fault>
 
 /// The blocks of the directories that the directories of a set of blocks name. Each of their nodes
 /// is read once, also where directories share it.
-fn next_level<N: Nodes>(alloc: Global, nodes: &mut N, level: &BlockSet) -> Result<BlockSet, Fault>
+fn next_level<N: Nodes>(
+    alloc: Global,
+    nodes: &mut N,
+    level: &BlockSet,
+    quiet: &BlockSet,
+    nexts: &[u32],
+) -> Result<BlockSet, Fault>
     requires sound { N.is_sound nodes.old }
+    requires quiet { spec.AreQuiet (N.node nodes.old) quiet.now.members nexts.now }
     requires within { (b : ℕ) → set.contains level.now.members b ≡ true → b < level.now.blocks }
     requires size { level.now.blocks ≡ N.blocks nodes.old }
     ensures named { IfOk result (λ next. spec.AreNamedBy (N.node nodes.old) level.now.blocks (set.contains level.now.members) next.members) }
@@ -133,13 +173,13 @@ fn next_level<N: Nodes>(alloc: Global, nodes: &mut N, level: &BlockSet) -> Resul
 
     // What is read and found is among any list that has the level and all that it names.
     ensures among { IfOk result (λ next. (roots list : List ℕ) → spec.HasDirectories (N.node nodes.old) (N.blocks nodes.old) roots list → ((b : ℕ) → set.contains level.now.members b ≡ true → Contains list b) → (b : ℕ) → set.contains next.members b ≡ true → Contains list b) }
-    ensures reads { (roots list : List ℕ) → spec.HasDirectories (N.node nodes.old) (N.blocks nodes.old) roots list → ((b : ℕ) → set.contains level.now.members b ≡ true → Contains list b) → N.reads nodes.new ≤ N.reads nodes.old + length list }
+    ensures reads { (roots list : List ℕ) → spec.HasDirectories (N.node nodes.old) (N.blocks nodes.old) roots list → ((b : ℕ) → set.contains level.now.members b ≡ true → Contains list b) → N.reads nodes.new ≤ N.reads nodes.old + length (spec.loud_of quiet.now.members list) }
 {
     let mut next = BlockSet::new(alloc, level.blocks())?;
     let mut seen = BlockSet::new(alloc, level.blocks())?;
     for block in 0..level.blocks() {
         if level.contains(block) {
-            add_chain(nodes, block, &mut seen, &mut next)?;
+            add_chain(nodes, block, &mut seen, &mut next, quiet, nexts)?;
         }
     }
     Ok(next)
@@ -192,14 +232,20 @@ fn first_level(alloc: Global, blocks: u32, list: &[u32]) -> Result<BlockSet, Fau
 /// of blocks are kept, of a level of directories, of the next one and of the nodes that were read. At
 /// most `most + 1` levels are read, and each block at most once a level.
 ///
+/// Nodes that are known to name no directory are not read but for the first ones of the last level: of
+/// each the block of the node after it is listed.
+///
 /// Refused with `NoMemory` and with what a read is refused with, but never with `Damaged`.
 pub fn any_is_deeper<N: Nodes>(
     alloc: Global,
     nodes: &mut N,
     roots: &[u32],
     most: usize,
+    quiet: &BlockSet,
+    nexts: &[u32],
 ) -> Result<bool, Fault>
     requires sound { N.is_sound nodes.old }
+    requires quiet { spec.AreQuiet (N.node nodes.old) quiet.now.members nexts.now }
     requires most { most ≤ MAX_NAMES }
     ensures deeper { ((root : ℕ) → Contains roots.now root → LeadsToDirectories (N.node nodes.old) root) → IfOk result (λ deep. deep ≡ true → (root : ℕ) × Contains roots.now root × spec.IsDeeper (N.node nodes.old) (Dir root) most) }
     ensures shallow { IfOk result (λ deep. deep ≡ false → (root : ℕ) → Contains roots.now root → IsShallow (N.node nodes.old) (Dir root) most) }
@@ -207,8 +253,9 @@ pub fn any_is_deeper<N: Nodes>(
     ensures faults { IfErr result IsLookFault }
     ensures looks { OnlyLooks N.node N.kept N.writes N.follows N.is_sound N.limit N.blocks nodes.old nodes.new }
 
-    // A level reads the nodes of its directories alone: they are among any list that has the roots and all that it names.
-    ensures reads { (list : List ℕ) → spec.HasDirectories (N.node nodes.old) (N.blocks nodes.old) roots.now list → N.reads nodes.new ≤ N.reads nodes.old + (most + 1) * length list }
+    // A level reads the nodes of its directories alone that are not known: they are among any list that has the roots and all
+    // that it names.
+    ensures reads { (list : List ℕ) → spec.HasDirectories (N.node nodes.old) (N.blocks nodes.old) roots.now list → N.reads nodes.new ≤ N.reads nodes.old + (most * length (spec.loud_of quiet.now.members list) + length list) }
 {
     let blocks = nodes.block_count();
     let mut level = first_level(alloc, blocks, roots)?;
@@ -216,7 +263,7 @@ pub fn any_is_deeper<N: Nodes>(
         if level.is_empty() {
             return Ok(false);
         }
-        level = next_level(alloc, nodes, &level)?;
+        level = next_level(alloc, nodes, &level, quiet, nexts)?;
     }
     any_has_entries(nodes, &level)
 }
@@ -241,7 +288,8 @@ pub fn is_deeper<N: Nodes>(
     ensures looks { OnlyLooks N.node N.kept N.writes N.follows N.is_sound N.limit N.blocks nodes.old nodes.new }
     ensures reads { N.reads nodes.new ≤ N.reads nodes.old + (most + 1) * N.blocks nodes.old }
 {
-    any_is_deeper(alloc, nodes, &[block], most)
+    let none = BlockSet::new(alloc, 0)?;
+    any_is_deeper(alloc, nodes, &[block], most, &none, &[])
 }
 
 /// Where a rename asks no depth: what stands at a path gets too deep at no path of as many names or

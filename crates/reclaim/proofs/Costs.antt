@@ -1,9 +1,13 @@
 -- What reads cost: sums over the blocks that were read.
 use Rattle.std.proofs.Common.{◌≡◌, ℕ, zero, suc, inl, inr, ◌+◌, ◌*◌, ◌<◌, ◌≤◌, Bool, true, false, cond, Option, Some, None, List, [], ◌∷◌, length, take, refl, sym, ap, subst, ◌∙◌, arith, rules}
-use Rattle.std.specs.Prelude.{Contains, slice_index, is_some, eqb}
+use Rattle.std.specs.Prelude.{Contains, slice_index, is_some, not}
+use Rattle.std.specs.FinSet as set
+use Rattle.std.specs.Ordering.{nat_cmp}
 use Rattle.std.specs.Option.{option_map_or}
 use Rattle.std.specs.List.{sum_by, filter}
+use Rattle.std.proofs.lemmas.Bool.{true≢false}
 use Rattle.std.proofs.lemmas.List.{take_more}
+use Rattle.std.proofs.lemmas.List.Elements.{Contains-append_right}
 use Rattle.std.proofs.lemmas.List.Sums.{sum_by-cons, sum_by_push, sum_by-take-le}
 use Rattle.node_format.specs.Items.{Item}
 use Rattle.node_format.specs.Links.{Link}
@@ -13,12 +17,13 @@ use Rattle.block_trees.specs.Bodies.{Blocks}
 use Rattle.block_trees.specs.Chains.{link_of, next_of, link_items}
 use Rattle.block_trees.specs.Reached.{Reached, PlaceNames, IsFirst, IsNamed}
 use Rattle.block_trees.proofs.Chained.{among_chain}
-use Rattle.directory.specs.Depths.{HasDirectories, names_directory, is_directory_at}
+use Rattle.directory.specs.Depths.{HasDirectories, names_directory, is_directory_at, loud_of}
+use Rattle.directory.proofs.Counting.{filter_has}
 use Rattle.directory.proofs.Levels.{any_contains, directory_is}
 use Rattle.reclaim.specs.Looks.{look_reads}
 use Rattle.reclaim.specs.Sound.{HoldsLink, IsSoundNode, IsSoundPlace}
 use Rattle.reclaim.specs.Passes.{Pass, AreReached, HasRead, IsPass, IsFinished, Begins}
-use Rattle.reclaim.specs.Verified.{HasCost, HasLookedOnce, depth_reads}
+use Rattle.reclaim.specs.Verified.{HasCost, HasLookedOnce, depth_reads, name_any_directory}
 
 -- ---- sums
 
@@ -41,26 +46,25 @@ sum_plus g h (x ∷ xs) = omega (arith, sum_by-cons (λ b. g b + h b) x xs, sum_
 abbrev pub holds_link : Blocks → ℕ → Bool
 holds_link f b = is_some (link_of (f b))
 
--- 17 levels that have nodes of directories alone
-levels : (f : Blocks) (xs : List ℕ) → 17 * length (filter (holds_link f) xs) ≡ sum_by (λ b. depth_reads (f b)) xs
-levels f [] = refl
-levels f (x ∷ xs) = omega (arith, sum_by-cons (λ b. depth_reads (f b)) x xs, on (link_of (f x)), levels f xs)
+-- levels that read nodes of directories alone: those that name directories, and once each
+levels : (f : Blocks) (quiet : set.FinSet nat_cmp) (xs : List ℕ) → ((b : ℕ) (l : Link) → Contains xs b → link_of (f b) ≡ Some l → name_any_directory l.items ≡ false → set.contains quiet b ≡ true)
+    → 16 * length (loud_of quiet (filter (holds_link f) xs)) + length (filter (holds_link f) xs) ≤ sum_by (λ b. depth_reads (f b)) xs
+levels f quiet [] silent = omega arith
+levels f quiet (x ∷ xs) silent = omega (arith, sum_by-cons (λ b. depth_reads (f b)) x xs, on (link_of (f x)) refl, levels f quiet xs (λ b l has. silent b l (Contains-append_right (x ∷ []) xs b has)))
   where
-    on : (o : Option Link) → 17 * length (cond (is_some o) (x ∷ filter (holds_link f) xs) (filter (holds_link f) xs)) ≡ option_map_or (λ _. 17) o 0 + 17 * length (filter (holds_link f) xs)
-    on None = omega arith
-    on (Some l) = omega arith
+    rest : List ℕ
+    rest = filter (holds_link f) xs
 
--- what passes a test is in the list of those that do
-filter_has : (p : ℕ → Bool) (xs : List ℕ) (x : ℕ) → Contains xs x → p x ≡ true → Contains (filter p xs) x
-filter_has p [] x h is = absurd (omega (arith, h.1))
-filter_has p (y ∷ xs) x (zero, lt, same) is =
-    let here : p y ≡ true = ap p same ∙ is in
-    subst (λ (t : Bool). Contains (cond t (y ∷ filter p xs) (filter p xs)) x) (sym here) (0, omega arith, same)
-filter_has p (y ∷ xs) x (suc k, lt, same) is = on (p y) (filter_has p xs x (k, omega (arith, lt), same) is)
-  where
-    on : (t : Bool) → Contains (filter p xs) x → Contains (cond t (y ∷ filter p xs) (filter p xs)) x
-    on true (j, below, at) = (suc j, omega (arith, below), at)
-    on false h = h
+    one : (l : Link) (known directory : Bool) → set.contains quiet x ≡ known → name_any_directory l.items ≡ directory → link_of (f x) ≡ Some l
+        → 16 * length (cond (not known) (x ∷ loud_of quiet rest) (loud_of quiet rest)) + suc (length rest) ≤ (cond directory 16 0 + 1) + (16 * length (loud_of quiet rest) + length rest)
+    one l true directory is any own = omega arith
+    one l false true is any own = omega arith
+    one l false false is any own = absurd (true≢false (sym (silent x l (0, omega arith, refl) own any) ∙ is))
+
+    on : (o : Option Link) → link_of (f x) ≡ o → 16 * length (loud_of quiet (cond (is_some o) (x ∷ rest) rest)) + length (cond (is_some o) (x ∷ rest) rest)
+        ≤ option_map_or (λ l. cond (name_any_directory l.items) 16 0 + 1) o 0 + (16 * length (loud_of quiet rest) + length rest)
+    on None own = omega arith
+    on (Some l) own = one l (set.contains quiet x) (name_any_directory l.items) refl refl own
 
 filter_only : (p : ℕ → Bool) (xs : List ℕ) (x : ℕ) → Contains (filter p xs) x → Contains xs x
 filter_only p [] x h = h
@@ -196,12 +200,13 @@ looked_cost f roots own before after same looked = record {
 }
 
 -- and the depths were, of the nodes of directories among all blocks that the roots reach
-pub depth_cost : (f : Blocks) (roots : List ℕ) (p : Pass) (before mid after : ℕ) → IsPass f p → p.roots ≡ roots → mid ≤ before + sum_by (λ b. 1 + look_reads (f b)) p.order
-    → after ≤ mid + 17 * length (filter (holds_link f) p.order) → HasCost f roots before after
-depth_cost f roots p before mid after pass same looked deep = record {
+pub depth_cost : (f : Blocks) (roots : List ℕ) (p : Pass) (quiet : set.FinSet nat_cmp) (before mid after : ℕ) → IsPass f p → p.roots ≡ roots → mid ≤ before + sum_by (λ b. 1 + look_reads (f b)) p.order
+    → ((b : ℕ) (l : Link) → Contains p.order b → link_of (f b) ≡ Some l → name_any_directory l.items ≡ false → set.contains quiet b ≡ true)
+    → after ≤ mid + (16 * length (loud_of quiet (filter (holds_link f) p.order)) + length (filter (holds_link f) p.order)) → HasCost f roots before after
+depth_cost f roots p quiet before mid after pass same looked silent deep = record {
   blocks = p.order;
   are = subst (λ (l : List ℕ). AreReached f l p.order) same (record { distinct = pass.distinct; reached = pass.reached });
-  most = omega (arith, looked, deep, levels f p.order, sum_plus (λ b. 1 + look_reads (f b)) (λ b. depth_reads (f b)) p.order);
+  most = omega (arith, looked, deep, levels f quiet p.order silent, sum_plus (λ b. 1 + look_reads (f b)) (λ b. depth_reads (f b)) p.order);
 }
 
 -- the marked blocks were looked at so far, and one more was

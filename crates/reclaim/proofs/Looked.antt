@@ -42,7 +42,7 @@ pub seen_reached : (f : Blocks) (p : Pass) (b : ℕ) → IsPass f p → HasSeen 
 seen_reached f p b pass seen = pass.reached b (seen_in f p b pass seen)
 
 module _ (f : Blocks) (p : Pass) (pass : IsPass f p) (end : IsFinished p) where
-  all_seen : (b : ℕ) → Contains p.order b → HasSeen p b
+  pub all_seen : (b : ℕ) → Contains p.order b → HasSeen p b
   all_seen b has = let at = at_place p b has in (at.0, omega (arith, at.1, end), at.2)
 
   reached_seen : (b : ℕ) → Reached f p.roots b → HasSeen p b

@@ -1,5 +1,5 @@
 -- What a table tells after one node more was read.
-use Rattle.std.proofs.Common.{◌≡◌, ◌≢◌, ◌↔◌, ◌⊎◌, inl, inr, ℕ, suc, ◌+◌, ◌<◌, ◌≤◌, Bool, true, false, cond, Option, Some, None, Result, Ok, Err, List, length, take, drop, refl, sym, ap, subst, ◌∙◌, arith}
+use Rattle.std.proofs.Common.{◌≡◌, ◌≢◌, ◌↔◌, ◌⊎◌, inl, inr, ℕ, zero, suc, ◌+◌, ◌<◌, ◌≤◌, Bool, true, false, cond, Option, Some, None, Result, Ok, Err, List, [], ◌∷◌, length, take, drop, refl, sym, ap, subst, ◌∙◌, arith}
 use Rattle.std.specs.FinSet as set
 use Rattle.std.specs.Ordering.{nat_cmp}
 use Rattle.std.specs.Prelude.{Contains, slice_index, slice_set, nat_lt, is_some, ◌&&◌, ◌||◌, OnOk, eqb}
@@ -10,21 +10,30 @@ use Rattle.std.proofs.lemmas.Cmp.{nat_cmp_total}
 use Rattle.std.specs.Cmp.{unsigned_tied}
 use Rattle.std.proofs.lemmas.List.{get_or-set_same, get_or-set_other, take-append-le}
 use Rattle.std.proofs.lemmas.List.Elements.{Contains-get_or}
+use Rattle.node_format.specs.Items.{Item, is_dir_place}
+use Rattle.node_format.specs.declared.place.Place.TheVariants.{Dir}
+use Rattle.directory.specs.Depths.{AreQuiet, names_directory, is_directory_at}
+use Rattle.directory.proofs.Levels.{any_contains, directory_is}
 use Rattle.node_format.specs.Links.{Link}
 use Rattle.block_trees.specs.Bodies.{Blocks}
-use Rattle.block_trees.specs.Chains.{link_of, next_of}
+use Rattle.block_trees.specs.Chains.{link_of, next_of, link_items}
 use Rattle.block_trees.specs.Reached.{Reached}
 use Rattle.allocator.proofs.RingOrder.{contains-insert_same, contains-kept}
 use Rattle.reclaim.specs.Passes.{Pass, IsPass, Advances, AreNoted, Begins, IsMarkFault}
 use Rattle.reclaim.specs.Looks.{look_reads, NamesNodes, NextHoldsLink, IsLooked}
 use Rattle.reclaim.specs.Sound.{HoldsLink}
 use Rattle.reclaim.specs.Tables.{IsSized, IsTold, HasSeen, NamesDirectory, has_link}
-use Rattle.reclaim.specs.Verified.{AreLooked}
+use Rattle.reclaim.specs.Verified.{AreLooked, name_any_directory}
 use Rattle.reclaim.specs.declared.table.Table.{Table}
 use Rattle.fs_types.specs.declared.fault.Fault.{Fault}
 use Rattle.fs_types.specs.declared.fault.Fault.TheVariants.{NoMemory, Damaged}
 use Rattle.reclaim.proofs.Costs.{sum_more}
 use Rattle.reclaim.proofs.Marking.{begins_at, begins_length}
+
+-- a list without elements
+none_named : (named : List ℕ) → ((c : ℕ) → Contains named c → ⊥) → eqb (length named) 0 ≡ true
+none_named [] none = refl
+none_named (x ∷ named) none = absurd (none x (0, omega arith, refl))
 
 -- another block of a set with one more was in it before
 contains_other : (members : set.FinSet nat_cmp) (b c : ℕ) → c ≢ b → set.contains (set.insert members b) c ≡ true → set.contains members c ≡ true
@@ -72,6 +81,34 @@ module _ (p q : Pass) (block : ℕ) (on : Advances p q) (left : p.next < length 
 
   module _ (f : Blocks) (t u : Table) (named : List ℕ) (told : IsTold f p t) (below : block < p.blocks) (sized : IsSized t.links.blocks u) (directories : (b : ℕ) → Contains named b ↔ NamesDirectory (f block) b)
       (noted : AreNoted t.named.members named t.links.blocks u.named.members) where
+    quiet_on : (silent : Bool) → u.quiet.members ≡ cond silent (set.insert t.quiet.members block) t.quiet.members → ((b : ℕ) → set.contains t.links.members b ≡ true → set.contains u.links.members b ≡ true)
+        → (silent ≡ true → (set.contains u.links.members block ≡ true) × ((c : ℕ) → NamesDirectory (f block) c → ⊥)) → (b : ℕ) → set.contains u.quiet.members b ≡ true
+        → (b < q.blocks) × (set.contains u.links.members b ≡ true) × ((c : ℕ) → NamesDirectory (f b) c → ⊥)
+    quiet_on silent is stays own b has = by silent own (eqb b block) refl (ap (λ s. set.contains s b) (sym is) ∙ has)
+      where
+        before : set.contains t.quiet.members b ≡ true → (b < q.blocks) × (set.contains u.links.members b ≡ true) × ((c : ℕ) → NamesDirectory (f b) c → ⊥)
+        before was = let old = told.quiet b was in (omega (arith, old.0, on.blocks), stays b old.1, old.2)
+
+        by : (s : Bool) → (s ≡ true → (set.contains u.links.members block ≡ true) × ((c : ℕ) → NamesDirectory (f block) c → ⊥)) → (here : Bool) → eqb b block ≡ here
+            → set.contains (cond s (set.insert t.quiet.members block) t.quiet.members) b ≡ true → (b < q.blocks) × (set.contains u.links.members b ≡ true) × ((c : ℕ) → NamesDirectory (f b) c → ⊥)
+        by false own here e was = before was
+        by true own true e was =
+            let same : block ≡ b = sym (eqb-true b block e) in
+            let mine = own refl in
+            (omega (arith, same, below, on.blocks), subst (λ (c : ℕ). set.contains u.links.members c ≡ true) same mine.0, subst (λ (a : ℕ). (c : ℕ) → NamesDirectory (f a) c → ⊥) same mine.1)
+        by true own false e was = before (contains_other t.quiet.members block b (λ same. true≢false (sym (eq-eqb b block same) ∙ e)) was)
+
+    silent_on : (silent : Bool) → u.quiet.members ≡ cond silent (set.insert t.quiet.members block) t.quiet.members → (HoldsLink f block → ((c : ℕ) → NamesDirectory (f block) c → ⊥) → silent ≡ true)
+        → (b : ℕ) → HasSeen q b → HoldsLink f b → ((c : ℕ) → NamesDirectory (f b) c → ⊥) → set.contains u.quiet.members b ≡ true
+    silent_on silent is own b seen holds none = ap (λ s. set.contains s b) is ∙ by silent own (seen_back b seen)
+      where
+        by : (s : Bool) → (HoldsLink f block → ((c : ℕ) → NamesDirectory (f block) c → ⊥) → s ≡ true) → HasSeen p b ⊎ (block ≡ b) → set.contains (cond s (set.insert t.quiet.members block) t.quiet.members) b ≡ true
+        by true own (inl before) = contains-kept t.quiet.members block b (told.silent b before holds none)
+        by false own (inl before) = told.silent b before holds none
+        by true own (inr same) = subst (λ (c : ℕ). set.contains (set.insert t.quiet.members block) c ≡ true) same (contains-insert_same t.quiet.members block)
+        by false own (inr same) =
+            absurd (true≢false (sym (own (subst (HoldsLink f) (sym same) holds) (subst (λ (a : ℕ). (c : ℕ) → NamesDirectory (f a) c → ⊥) (sym same) none))))
+
     size : u.links.blocks ≡ p.blocks
     size = sized.links ∙ told.sized.links
 
@@ -93,8 +130,8 @@ module _ (p q : Pass) (block : ℕ) (on : Advances p q) (left : p.next < length 
         by (inr same) = noted.all b ((directories b).1 (subst (λ (c : ℕ). NamesDirectory (f c) b) (sym same) names)) (omega (arith, less, on.blocks, told.sized.links))
 
     -- the node is none of a directory
-    pub told_other : link_of (f block) ≡ None → u.links.members ≡ t.links.members → u.nexts.items ≡ t.nexts.items → IsTold f q u
-    told_other none links nexts = record {
+    pub told_other : link_of (f block) ≡ None → u.links.members ≡ t.links.members → u.nexts.items ≡ t.nexts.items → u.quiet.members ≡ t.quiet.members → IsTold f q u
+    told_other none links nexts quiet = record {
       sized = all_sized;
       held = λ b has.
           let own = told.held b (ap (λ s. set.contains s b) (sym links) ∙ has) in
@@ -102,6 +139,8 @@ module _ (p q : Pass) (block : ℕ) (on : Advances p q) (left : p.next < length 
       links = λ b seen holds. by b holds (seen_back b seen);
       names = new_names;
       named = new_named;
+      quiet = quiet_on false quiet (λ b has. ap (λ s. set.contains s b) links ∙ has) (λ yes_. absurd (true≢false (sym yes_)));
+      silent = silent_on false quiet (λ holds no_names. absurd (true≢false (ap is_some (sym holds.1 ∙ none))));
     }
       where
         by : (b : ℕ) → HoldsLink f b → HasSeen p b ⊎ (block ≡ b) → has_link u b ≡ true
@@ -111,14 +150,18 @@ module _ (p q : Pass) (block : ℕ) (on : Advances p q) (left : p.next < length 
         by b holds (inr same) = absurd (true≢false (ap is_some (sym holds.1 ∙ ap (λ (c : ℕ). link_of (f c)) (sym same) ∙ none)))
 
     -- it is one
-    pub told_link : (l : Link) → link_of (f block) ≡ Some l → u.links.members ≡ set.insert t.links.members block → u.nexts.items ≡ slice_set t.nexts.items block l.next → IsTold f q u
-    told_link l is links nexts = record {
+    pub told_link : (l : Link) → link_of (f block) ≡ Some l → u.links.members ≡ set.insert t.links.members block → u.nexts.items ≡ slice_set t.nexts.items block l.next
+        → u.quiet.members ≡ cond (eqb (length named) 0) (set.insert t.quiet.members block) t.quiet.members → IsTold f q u
+    told_link l is links nexts quiet = record {
       sized = all_sized;
       held = λ b has. held b (eqb b block) refl (ap (λ s. set.contains s b) (sym links) ∙ has);
       links = λ b seen holds.
           and_from (nat_lt b u.links.blocks) (set.contains u.links.members b) (inside b holds (seen_back b seen)) (ap (λ s. set.contains s b) links ∙ there b holds (seen_back b seen));
       names = new_names;
       named = new_named;
+      quiet = quiet_on (eqb (length named) 0) quiet (λ b has. ap (λ s. set.contains s b) links ∙ contains-kept t.links.members block b has)
+          (λ empty. (ap (λ s. set.contains s block) links ∙ contains-insert_same t.links.members block, λ c names. (let in_list = (directories c).1 names in omega (arith, in_list.1, eqb-true (length named) 0 empty))));
+      silent = silent_on (eqb (length named) 0) quiet (λ holds no_names. none_named named (λ c has. no_names c ((directories c).0 has)));
     }
       where
         inside : (b : ℕ) → HoldsLink f b → HasSeen p b ⊎ (block ≡ b) → nat_lt b u.links.blocks ≡ true
@@ -141,29 +184,61 @@ module _ (p q : Pass) (block : ℕ) (on : Advances p q) (left : p.next < length 
 
     -- by what was noted
     pub told_on : (next : Option ℕ) → next ≡ option_map (λ (l : Link). l.next) (link_of (f block)) → u.links.members ≡ cond (is_some next) (set.insert t.links.members block) t.links.members
-        → u.nexts.items ≡ option_map_or (λ n. slice_set t.nexts.items block n) next t.nexts.items → IsTold f q u
-    told_on next is links nexts = by (link_of (f block)) refl
+        → u.nexts.items ≡ option_map_or (λ n. slice_set t.nexts.items block n) next t.nexts.items
+        → u.quiet.members ≡ cond (is_some next && eqb (length named) 0) (set.insert t.quiet.members block) t.quiet.members → IsTold f q u
+    told_on next is links nexts quiet = by (link_of (f block)) refl
       where
         by : (o : Option Link) → link_of (f block) ≡ o → IsTold f q u
         by None own =
             let none : next ≡ None = is ∙ ap (option_map (λ (l : Link). l.next)) own in
             told_other own (links ∙ ap (λ (o : Option ℕ). cond (is_some o) (set.insert t.links.members block) t.links.members) none) (nexts ∙ ap (λ (o : Option ℕ). option_map_or (λ n. slice_set t.nexts.items block n) o t.nexts.items) none)
+            (quiet ∙ ap (λ (o : Option ℕ). cond (is_some o && eqb (length named) 0) (set.insert t.quiet.members block) t.quiet.members) none)
         by (Some l) own =
             let some : next ≡ Some l.next = is ∙ ap (option_map (λ (l : Link). l.next)) own in
             told_link l own (links ∙ ap (λ (o : Option ℕ). cond (is_some o) (set.insert t.links.members block) t.links.members) some) (nexts ∙ ap (λ (o : Option ℕ). option_map_or (λ n. slice_set t.nexts.items block n) o t.nexts.items) some)
+            (quiet ∙ ap (λ (o : Option ℕ). cond (is_some o && eqb (length named) 0) (set.insert t.quiet.members block) t.quiet.members) some)
 
 -- nothing was read
 pub looked_none : (capacity : ℕ) (f : Blocks) (plain : Bool) (p : Pass) → p.next ≡ 0 → AreLooked capacity f plain p
 looked_none capacity f plain p none b (k, lt, at) = absurd (omega (arith, lt, none))
 
-pub told_none : (f : Blocks) (p : Pass) (t : Table) → p.next ≡ 0 → IsSized p.blocks t → t.links.members ≡ set.empty → t.named.members ≡ set.empty → IsTold f p t
-told_none f p t none sized links named = record {
+pub told_none : (f : Blocks) (p : Pass) (t : Table) → p.next ≡ 0 → IsSized p.blocks t → t.links.members ≡ set.empty → t.named.members ≡ set.empty → t.quiet.members ≡ set.empty → IsTold f p t
+told_none f p t none sized links named quiet = record {
   sized = sized;
   held = λ b has. absurd (true≢false (sym has ∙ ap (λ s. set.contains s b) links ∙ set.contains-empty nat_cmp b));
   links = λ b (k, lt, at). absurd (omega (arith, lt, none));
   names = λ b has. absurd (true≢false (sym has ∙ ap (λ s. set.contains s b) named ∙ set.contains-empty nat_cmp b));
   named = λ a b (k, lt, at). absurd (omega (arith, lt, none));
+  quiet = λ b has. absurd (true≢false (sym has ∙ ap (λ s. set.contains s b) quiet ∙ set.contains-empty nat_cmp b));
+  silent = λ b (k, lt, at). absurd (omega (arith, lt, none));
 }
+
+-- ---- what the walk of depths is told
+
+pub told_quiet : (f : Blocks) (p : Pass) (t : Table) → IsTold f p t → AreQuiet f t.quiet.members t.nexts.items
+told_quiet f p t told b has =
+    let own = told.quiet b has in
+    (omega (arith, own.0, told.sized.nexts), sym (told.held b own.1).1, λ c. none c (names_directory (link_items (f b)) c) refl own.2)
+  where
+    none : (c : ℕ) (s : Bool) → names_directory (link_items (f b)) c ≡ s → ((c : ℕ) → NamesDirectory (f b) c → ⊥) → names_directory (link_items (f b)) c ≡ false
+    none c false is silent = is
+    none c true is silent =
+        let found = any_contains (λ (item : Item). is_directory_at item.place c) (link_items (f b)) is in
+        absurd (silent c (found.0, found.1, directory_is found.0.place c found.2))
+
+-- a node that names no directory has none among its entries
+any_directory : (items : List Item) (item : Item) (c : ℕ) → Contains items item → item.place ≡ Dir c → name_any_directory items ≡ true
+any_directory [] item c (k, lt, at) is = absurd (omega (arith, lt))
+any_directory (x ∷ items) item c (zero, lt, at) is = ap (λ (s : Bool). s || name_any_directory items) (ap (λ (i : Item). is_dir_place i.place) at ∙ ap is_dir_place is)
+any_directory (x ∷ items) item c (suc k, lt, at) is = either (is_dir_place x.place) (any_directory items item c (k, omega (arith, lt), at) is)
+  where
+    either : (s : Bool) → name_any_directory items ≡ true → (s || name_any_directory items) ≡ true
+    either true rest = refl
+    either false rest = rest
+
+pub told_silent : (f : Blocks) (p : Pass) (t : Table) (b : ℕ) (l : Link) → IsTold f p t → HasSeen p b → link_of (f b) ≡ Some l → name_any_directory l.items ≡ false → set.contains t.quiet.members b ≡ true
+told_silent f p t b l told seen is none =
+    told.silent b seen (l, is) (λ c names. true≢false (sym (any_directory l.items names.0 c (subst (λ (xs : List Item). Contains xs names.0) (ap (λ (o : Option Link). option_map_or (λ k. k.items) o []) is) names.1) names.2) ∙ none))
 
 -- ---- what calls answer
 

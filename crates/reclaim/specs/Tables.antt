@@ -1,5 +1,5 @@
--- What a verification keeps of the nodes that it read: which are of directories, the block of the node after each of these, and
--- which blocks are named as directories.
+-- What a verification keeps of the nodes that it read: which are of directories, the block of the node after each of these, which
+-- of them name no directory, and which blocks are named as directories.
 use Rattle.std.specs.Prelude.{◌≡◌, ◌↔◌, ◌⊎◌, ℕ, zero, suc, ◌<◌, ◌==◌, ◌&&◌, nat_lt, not, Bool, true, false, Option, Some, List, length, slice_index, Contains, if◌then◌else◌}
 use Rattle.std.specs.FinSet as set
 use Rattle.node_format.specs.Items.{Item}
@@ -15,6 +15,7 @@ pub record IsSized (blocks : ℕ) (t : Table) : Type 0 where
   pub nexts : length t.nexts.items ≡ blocks
   pub links : t.links.blocks ≡ blocks
   pub named : t.named.blocks ≡ blocks
+  pub quiet : t.quiet.blocks ≡ blocks
 
 -- a block is known to hold a node of a directory
 abbrev pub has_link : Table → ℕ → Bool
@@ -48,3 +49,5 @@ pub record IsTold (f : Blocks) (p : Pass) (t : Table) : Type 0 where
   pub links : (b : ℕ) → HasSeen p b → HoldsLink f b → has_link t b ≡ true
   pub names : (b : ℕ) → set.contains t.named.members b ≡ true → (a : ℕ) × HasSeen p a × NamesDirectory (f a) b
   pub named : (a b : ℕ) → HasSeen p a → NamesDirectory (f a) b → b < p.blocks → set.contains t.named.members b ≡ true
+  pub quiet : (b : ℕ) → set.contains t.quiet.members b ≡ true → (b < p.blocks) × (set.contains t.links.members b ≡ true) × ((c : ℕ) → NamesDirectory (f b) c → ⊥)
+  pub silent : (b : ℕ) → HasSeen p b → HoldsLink f b → ((c : ℕ) → NamesDirectory (f b) c → ⊥) → set.contains t.quiet.members b ≡ true

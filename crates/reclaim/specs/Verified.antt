@@ -1,7 +1,8 @@
 -- Roots that have trees, and what it costs to find out.
-use Rattle.std.specs.Prelude.{◌≡◌, ℕ, ◌+◌, ◌-◌, ◌≤◌, Bool, true, Option, List, All, Contains}
+use Rattle.std.specs.Prelude.{◌≡◌, ℕ, ◌+◌, ◌-◌, ◌≤◌, Bool, true, Option, List, All, Contains, if◌then◌else◌}
 use Rattle.std.specs.Option.{option_map_or}
-use Rattle.std.specs.List.{sum_by}
+use Rattle.std.specs.List.{sum_by, list_any}
+use Rattle.node_format.specs.Items.{Item, is_dir_place}
 use Rattle.block_trees.specs.Bodies.{Blocks}
 use Rattle.block_trees.specs.Chains.{link_of}
 use Rattle.block_trees.specs.Trees.{IsRoot}
@@ -16,9 +17,14 @@ use Rattle.node_format.specs.Headers.{body_header}
 abbrev pub AreRoots : ℕ → Blocks → List ℕ → Type 0
 AreRoots limit f roots = (root : ℕ) → Contains roots root → IsRoot (limit - body_header) f root
 
--- the most reads of the walk of depths for a node: one at each level, of a directory's alone
+-- whether entries name a directory
+abbrev pub name_any_directory : List Item → Bool
+name_any_directory items = list_any (λ item. is_dir_place item.place) items
+
+-- the most reads of the walk of depths for a node, of a directory's alone: one at each level where it names a directory, and one at
+-- the last level
 abbrev pub depth_reads : Option (List ℕ) → ℕ
-depth_reads node = option_map_or (λ _. 17) (link_of node) 0
+depth_reads node = option_map_or (λ l. (if name_any_directory l.items then 16 else 0) + 1) (link_of node) 0
 
 -- each node is read once; one first page is read for each entry of a directory, or 13 for a body's node, and one for the node
 -- after a directory's; beside that those of the depths

@@ -1,5 +1,5 @@
 //! What a verification keeps of the nodes that it read.
-ghost use Rattle.std.specs.Prelude.{◌≡◌, ◌↔◌, ℕ, ◌+◌, ◌<◌, ◌≤◌, true, is_some, All, IsTrue, IfOk, IfErr, slice_index, slice_set, if◌then◌else◌};
+ghost use Rattle.std.specs.Prelude.{◌≡◌, ◌↔◌, ℕ, ◌+◌, ◌<◌, ◌≤◌, ◌&&◌, ◌==◌, true, is_some, length, All, IsTrue, IfOk, IfErr, slice_index, slice_set, if◌then◌else◌};
 ghost use Rattle.std.specs.FinSet as set;
 ghost use Rattle.std.specs.Option.{option_map_or};
 ghost use Rattle.block_trees.specs.Chains.{most_after};
@@ -12,28 +12,32 @@ use fs_types::{CHAIN_NODES, Fault};
 use std::alloc::Global;
 
 /// What nodes said that were read: which blocks hold nodes of directories, the block of the node after
-/// each of these, and which blocks are named as directories. Four bytes and two bits a block.
+/// each of these, which of them name no directory, and which blocks are named as directories. Four bytes
+/// and three bits a block.
 #[derive(Drop)]
 pub struct Table {
     pub nexts: Vec<u32>,
     pub links: BlockSet,
     pub named: BlockSet,
+    pub quiet: BlockSet,
 }
 
 impl Table {
     /// The table of a flash of `blocks` blocks of which none was read.
     pub fn new(alloc: Global, blocks: u32) -> Result<Table, Fault>
         ensures sized { IfOk result (λ t. spec.IsSized blocks t) }
-        ensures none { IfOk result (λ t. (t.links.members ≡ set.empty) × (t.named.members ≡ set.empty)) }
+        ensures none { IfOk result (λ t. (t.links.members ≡ set.empty) × (t.named.members ≡ set.empty) × (t.quiet.members ≡ set.empty)) }
         ensures memory { IfErr result (λ fault. fault ≡ Fault.NoMemory) }
     {
         let nexts = vec![in alloc; 0; blocks as usize]?;
         let links = BlockSet::new(alloc, blocks)?;
         let named = BlockSet::new(alloc, blocks)?;
+        let quiet = BlockSet::new(alloc, blocks)?;
         Ok(Table {
             nexts,
             links,
             named,
+            quiet,
         })
     }
 
@@ -46,11 +50,15 @@ impl Table {
         ensures links { self.new.links.members ≡ (if is_some next then set.insert self.old.links.members block else self.old.links.members) }
         ensures nexts { self.new.nexts.items ≡ option_map_or (λ n. slice_set self.old.nexts.items block n) next self.old.nexts.items }
         ensures named { AreNoted self.old.named.members directories.now self.old.links.blocks self.new.named.members }
+        ensures quiet { self.new.quiet.members ≡ (if is_some next && (length directories.now == 0) then set.insert self.old.quiet.members block else self.old.quiet.members) }
     {
         add_blocks(&mut self.named, directories);
         if let Some(next) = next {
             self.links.insert(block);
             self.nexts[block as usize] = next;
+            if directories.is_empty() {
+                self.quiet.insert(block);
+            }
         }
     }
 

@@ -5,7 +5,7 @@ ghost use Rattle.allocator.specs.Ring.{IsDataBlock};
 ghost use Rattle.node_format.specs.Headers.{body_header};
 ghost use Rattle.node_format.specs.declared.place.Place.TheVariants.{Dir};
 ghost use Rattle.block_trees.specs.Laws.{IsShallow};
-ghost use Rattle.directory.specs.Depths.{HasDirectories};
+ghost use Rattle.directory.specs.Depths.{HasDirectories, AreQuiet, loud_of};
 ghost use Rattle.directory.specs.Lookups.{LeadsToDirectories};
 ghost use Rattle.block_trees.specs.Reached.{Reached};
 ghost use Rattle.node_store.specs.Faults.{IsLookFault, IsReadFault};
@@ -22,6 +22,7 @@ use crate::looks::{look, parts_in};
 use crate::named::{list_directories, list_names};
 use crate::pass::Pass;
 use crate::table::Table;
+use allocator::BlockSet;
 use directory::any_is_deeper;
 use fs_types::{ANCHORS, Fault, MAX_NAMES};
 use node_format::BODY_HEADER;
@@ -48,16 +49,23 @@ fn are_data_blocks(blocks: u32, list: &[u32]) -> bool
 }
 
 // Whether no path below any root has too many names. All that the roots lead to are directories.
-fn are_shallow<N: Nodes>(alloc: Global, nodes: &mut N, roots: &[u32]) -> Result<bool, Fault>
+fn are_shallow<N: Nodes>(
+    alloc: Global,
+    nodes: &mut N,
+    roots: &[u32],
+    quiet: &BlockSet,
+    nexts: &[u32],
+) -> Result<bool, Fault>
     requires sound { N.is_sound nodes.old }
+    requires quiet { AreQuiet (N.node nodes.old) quiet.now.members nexts.now }
     requires whole { (root : ℕ) → Contains roots.now root → LeadsToDirectories (N.node nodes.old) root }
     ensures exact { IfOk result (λ good. IsTrue good ↔ All (λ root. IsShallow (N.node nodes.old) (Dir root) MAX_NAMES) roots.now) }
     ensures why { IfErr result (λ fault. N.causes nodes.old nodes.new fault) }
     ensures faults { IfErr result IsLookFault }
     ensures looks { OnlyLooks N.node N.kept N.writes N.follows N.is_sound N.limit N.blocks nodes.old nodes.new }
-    ensures reads { (all : List ℕ) → HasDirectories (N.node nodes.old) (N.blocks nodes.old) roots.now all → N.reads nodes.new ≤ N.reads nodes.old + 17 * length all }
+    ensures reads { (all : List ℕ) → HasDirectories (N.node nodes.old) (N.blocks nodes.old) roots.now all → N.reads nodes.new ≤ N.reads nodes.old + (16 * length (loud_of quiet.now.members all) + length all) }
 {
-    let deep = any_is_deeper(alloc, nodes, roots, MAX_NAMES)?;
+    let deep = any_is_deeper(alloc, nodes, roots, MAX_NAMES, quiet, nexts)?;
     Ok(!deep)
 }
 
@@ -139,19 +147,20 @@ fn look_at_all<N: Nodes>(
 /// Whether all that roots reach is sound but for the depths, by a pass over them that has read nothing.
 fn are_whole<N: Nodes>(
     alloc: Global,
-    blocks: u32,
     nodes: &mut N,
     roots: &[u32],
     plain: bool,
     pass: &mut Pass,
+    table: &mut Table,
 ) -> Result<bool, Fault>
     requires sound { N.is_sound nodes.old }
-    requires blocks { (blocks ≡ N.blocks nodes.old) × (pass.old.blocks ≡ blocks) }
+    requires blocks { pass.old.blocks ≡ N.blocks nodes.old }
     requires pass { IsPass (N.node nodes.old) pass.old }
+    requires told { IsTold (N.node nodes.old) pass.old table.old }
     requires begun { (pass.old.roots ≡ roots.now) × (pass.old.next ≡ 0) }
 
     // What is answered, and the pass.
-    ensures whole { IfOk result (λ good. good ≡ true → IsPass (N.node nodes.old) pass.new × IsFinished pass.new × AreWhole (N.limit nodes.old) (N.node nodes.old) roots.now plain × (N.reads nodes.new ≤ N.reads nodes.old + sum_by (λ b. 1 + look_reads (N.node nodes.old b)) pass.new.order)) }
+    ensures whole { IfOk result (λ good. good ≡ true → IsPass (N.node nodes.old) pass.new × IsFinished pass.new × AreWhole (N.limit nodes.old) (N.node nodes.old) roots.now plain × IsTold (N.node nodes.old) pass.new table.new × (N.reads nodes.new ≤ N.reads nodes.old + sum_by (λ b. 1 + look_reads (N.node nodes.old b)) pass.new.order)) }
     ensures bad { IfOk result (λ good. good ≡ false → AreAllowed (N.limit nodes.old) (N.node nodes.old) roots.now plain → ⊥) }
     ensures on { Advances pass.old pass.new }
 
@@ -162,8 +171,7 @@ fn are_whole<N: Nodes>(
     ensures looks { OnlyLooks N.node N.kept N.writes N.follows N.is_sound N.limit N.blocks nodes.old nodes.new }
     ensures reads { HasLookedOnce (N.node nodes.old) roots.now (N.reads nodes.old) (N.reads nodes.new) }
 {
-    let mut table = Table::new(alloc, blocks)?;
-    let are_looked = look_at_all(alloc, nodes, plain, pass, &mut table)?;
+    let are_looked = look_at_all(alloc, nodes, plain, pass, table)?;
     if !are_looked {
         return Ok(false);
     }
@@ -178,7 +186,7 @@ fn are_whole<N: Nodes>(
 ///
 /// `Damaged` where that is not so, and only there: a root that is no data block has no tree. Nothing
 /// is written. Each node is read once, and of each block that it names the first page at most; the depths
-/// read a directory's nodes once at each level.
+/// read nodes that name directories once at each level, and the first ones of the last level.
 pub fn verify<N: Nodes>(
     alloc: Global,
     blocks: u32,
@@ -205,11 +213,12 @@ pub fn verify<N: Nodes>(
         return Err(Fault::Damaged);
     }
     let mut pass = Pass::start(alloc, blocks, roots)?;
-    let are_whole = are_whole(alloc, blocks, nodes, roots, plain, &mut pass)?;
+    let mut table = Table::new(alloc, blocks)?;
+    let are_whole = are_whole(alloc, nodes, roots, plain, &mut pass, &mut table)?;
     if !are_whole {
         return Err(Fault::Damaged);
     }
-    let are_shallow = are_shallow(alloc, nodes, roots)?;
+    let are_shallow = are_shallow(alloc, nodes, roots, &table.quiet, &table.nexts)?;
     if !are_shallow {
         return Err(Fault::Damaged);
     }

@@ -1,5 +1,7 @@
-use Rattle.std.proofs.Common.{ap, refl, ◌∙◌, arith}
+use Rattle.std.proofs.Common.{ap, refl, subst, sym, ◌∙◌, arith}
 use Rattle.allocator.specs.BlockSet.{BlockSet}
+use Rattle.block_trees.specs.Bodies.{Blocks}
+use Rattle.directory.specs.Depths.{AreQuiet}
 use Rattle.directory.proofs.LevelNodes.{left_here, ends_here, way_begins, way_step, way_read, way_here, stays_put, among_put, reads_step, measure_falls}
 use Rattle.directory.proofs.depths.add_chain.Goals as goal
 
@@ -20,11 +22,11 @@ chain-preserved g c =
     let found_size = c.chain.invariant.found_size ∙ c.requires.size.1 in
     let left = left_here blocks c.chain.at c.chain.seen c.is_left.result seen_size c.is_left.ensures c.chain-test.true in
     record {
-      way = way_step f (g.N.Nodes.node c.chain.nodes) blocks c.args.block c.chain.at c.in_ok-at.at c.args.seen.now c.args.found.now c.chain.seen c.insert.new.self c.chain.found c.add_named.new.found c.chain.invariant.looks.same_nodes found_size c.chain.invariant.way left c.insert.ensures c.in_ok-at.ensures.next c.in_ok-at.ensures.added;
+      way = way_step f (g.N.Nodes.node c.chain.nodes) blocks c.args.block c.chain.at c.in_ok-at.at c.args.seen.now c.args.found.now c.chain.seen c.insert.new.self c.chain.found c.add_unknown.new.found c.chain.invariant.looks.same_nodes found_size c.chain.invariant.way left c.insert.ensures c.in_ok-at.ensures.next c.in_ok-at.ensures.added;
       seen_size = ap (λ (s : BlockSet). s.blocks) c.insert.ensures ∙ c.chain.invariant.seen_size;
-      found_size = c.add_named.ensures.size ∙ c.chain.invariant.found_size;
-      reads = reads_step blocks c.chain.at (g.N.Nodes.reads c.args.nodes.now) (g.N.Nodes.reads c.chain.nodes) (g.N.Nodes.reads c.add_named.new.nodes) c.args.seen.now c.chain.seen c.insert.new.self c.requires.size.0 left c.insert.ensures c.chain.invariant.reads c.add_named.ensures.reads;
-      looks = g.met.N.Nodes.looks_on c.args.nodes.now c.chain.nodes c.add_named.new.nodes c.chain.invariant.looks c.add_named.ensures.looks;
+      found_size = c.add_unknown.ensures.size ∙ c.chain.invariant.found_size;
+      reads = reads_step c.args.quiet.now.members blocks c.chain.at (g.N.Nodes.reads c.args.nodes.now) (g.N.Nodes.reads c.chain.nodes) (g.N.Nodes.reads c.add_unknown.new.nodes) c.args.seen.now c.chain.seen c.insert.new.self c.requires.size.0 left c.insert.ensures c.chain.invariant.reads c.add_unknown.ensures.reads;
+      looks = g.met.N.Nodes.looks_on c.args.nodes.now c.chain.nodes c.add_unknown.new.nodes c.chain.invariant.looks c.add_unknown.ensures.looks;
     }
 
 pub chain-smaller : goal.chain-smaller
@@ -32,8 +34,11 @@ chain-smaller g c =
     let left = left_here (g.N.Nodes.blocks c.args.nodes.now) c.chain.at c.chain.seen c.is_left.result (c.chain.invariant.seen_size ∙ c.requires.size.0) c.is_left.ensures c.chain-test.true in
     measure_falls (g.N.Nodes.blocks c.args.nodes.now) c.chain.at c.chain.seen c.insert.new.self (c.chain.invariant.seen_size ∙ c.requires.size.0) left c.insert.ensures
 
-pub add_named-requires : goal.add_named-requires
-add_named-requires g c = c.chain.invariant.looks.sound
+pub add_unknown-requires-clause-sound : goal.add_unknown-requires-clause-sound
+add_unknown-requires-clause-sound g c = c.chain.invariant.looks.sound
+
+pub add_unknown-requires-clause-quiet : goal.add_unknown-requires-clause-quiet
+add_unknown-requires-clause-quiet g c = subst (λ (h : Blocks). AreQuiet h c.args.quiet.now.members c.args.nexts.now) (sym c.chain.invariant.looks.same_nodes) c.requires.quiet
 
 pub insert-requires : goal.insert-requires
 insert-requires g c =
@@ -77,10 +82,10 @@ pub returns-in_err-at-clause-among : goal.returns-in_err-at-clause-among
 returns-in_err-at-clause-among g c =
     let blocks = g.N.Nodes.blocks c.args.nodes.now in
     let left = left_here blocks c.chain.at c.chain.seen c.is_left.result (c.chain.invariant.seen_size ∙ c.requires.size.0) c.is_left.ensures c.chain-test.true in
-    among_put (g.N.Nodes.node c.args.nodes.now) blocks c.args.block c.chain.at c.args.seen.now c.args.found.now c.chain.seen c.insert.new.self c.chain.found c.add_named.new.found c.chain.invariant.way left c.insert.ensures c.in_err-at.ensures.same
+    among_put (g.N.Nodes.node c.args.nodes.now) blocks c.args.block c.chain.at c.args.seen.now c.args.found.now c.chain.seen c.insert.new.self c.chain.found c.add_unknown.new.found c.chain.invariant.way left c.insert.ensures c.in_err-at.ensures.same
 
 pub returns-in_err-at-clause-reads : goal.returns-in_err-at-clause-reads
 returns-in_err-at-clause-reads g c =
     let blocks = g.N.Nodes.blocks c.args.nodes.now in
     let left = left_here blocks c.chain.at c.chain.seen c.is_left.result (c.chain.invariant.seen_size ∙ c.requires.size.0) c.is_left.ensures c.chain-test.true in
-    reads_step blocks c.chain.at (g.N.Nodes.reads c.args.nodes.now) (g.N.Nodes.reads c.chain.nodes) (g.N.Nodes.reads c.add_named.new.nodes) c.args.seen.now c.chain.seen c.insert.new.self c.requires.size.0 left c.insert.ensures c.chain.invariant.reads c.add_named.ensures.reads
+    reads_step c.args.quiet.now.members blocks c.chain.at (g.N.Nodes.reads c.args.nodes.now) (g.N.Nodes.reads c.chain.nodes) (g.N.Nodes.reads c.add_unknown.new.nodes) c.args.seen.now c.chain.seen c.insert.new.self c.requires.size.0 left c.insert.ensures c.chain.invariant.reads c.add_unknown.ensures.reads

@@ -1,7 +1,7 @@
 use Rattle.std.proofs.Common.{◌≡◌, ◌+◌, ◌-◌}
 use Rattle.std.specs.FinSet as set
 use Rattle.node_store.specs.Frames.{OnlyLooks}
-use Rattle.directory.specs.Depths.{count_below}
+use Rattle.directory.specs.Depths.{count_below, is_loud}
 use Rattle.directory.proofs.LevelNodes.{IsOnWay}
 use Rattle.directory.proofs.depths.add_chain.Given as goal
 
@@ -11,7 +11,7 @@ invariant-chain g l = record {
   way : IsOnWay (g.N.Nodes.node l.fn.nodes) (g.N.Nodes.blocks l.fn.nodes) l.fn.block l.at l.fn.seen.members l.fn.found.members l.seen.members l.found.members;
   seen_size : l.seen.blocks ≡ l.fn.seen.blocks;
   found_size : l.found.blocks ≡ l.fn.found.blocks;
-  reads : g.N.Nodes.reads l.nodes + count_below (set.contains l.fn.seen.members) l.fn.seen.blocks ≡ g.N.Nodes.reads l.fn.nodes + count_below (set.contains l.seen.members) l.fn.seen.blocks;
+  reads : g.N.Nodes.reads l.nodes + count_below (is_loud l.quiet.members l.fn.seen.members) l.fn.seen.blocks ≡ g.N.Nodes.reads l.fn.nodes + count_below (is_loud l.quiet.members l.seen.members) l.fn.seen.blocks;
   looks : OnlyLooks g.N.Nodes.node g.N.Nodes.kept g.N.Nodes.writes g.N.Nodes.follows g.N.Nodes.is_sound g.N.Nodes.limit g.N.Nodes.blocks l.fn.nodes l.nodes;
 }
 

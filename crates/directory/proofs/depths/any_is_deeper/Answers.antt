@@ -3,7 +3,7 @@ use Rattle.std.specs.FinSet as set
 use Rattle.std.proofs.lemmas.Nat.{mul-le}
 use Rattle.block_trees.specs.Bodies.{Blocks}
 use Rattle.block_trees.specs.Chains.{link_items}
-use Rattle.directory.specs.Depths.{AreNamedBy}
+use Rattle.directory.specs.Depths.{AreNamedBy, AreQuiet, loud_of}
 use Rattle.directory.proofs.LevelNodes.{later_has}
 use Rattle.directory.proofs.Levels.{IsLevel, one_level_more, first_level, next_is_level, no_first_items, last_shallow, last_deeper, empty_shallow}
 use Rattle.std.proofs.lemmas.Result.{err_from_is_err_and, IfErr-weaker, IfOk-weaker}
@@ -42,7 +42,7 @@ loop-done-preserved g c =
       listed = λ list all.
           c.in_ok-level-2.ensures.among c.args.roots.now list (later_has f (g.N.Nodes.node c.loop-done.nodes) (g.N.Nodes.blocks c.args.nodes.now) (g.N.Nodes.blocks c.loop-done.nodes) c.args.roots.now list c.loop-done.invariant.looks.same_nodes c.loop-done.invariant.looks.same_blocks all) (c.loop-done.invariant.listed list all);
       reads = λ list all.
-          omega (arith, one_level_more c.loop-done.done (length list), c.next_level.ensures.reads c.args.roots.now list (later_has f (g.N.Nodes.node c.loop-done.nodes) (g.N.Nodes.blocks c.args.nodes.now) (g.N.Nodes.blocks c.loop-done.nodes) c.args.roots.now list c.loop-done.invariant.looks.same_nodes c.loop-done.invariant.looks.same_blocks all) (c.loop-done.invariant.listed list all), c.loop-done.invariant.reads list all);
+          omega (arith, one_level_more c.loop-done.done (length (loud_of c.args.quiet.now.members list)), c.next_level.ensures.reads c.args.roots.now list (later_has f (g.N.Nodes.node c.loop-done.nodes) (g.N.Nodes.blocks c.args.nodes.now) (g.N.Nodes.blocks c.loop-done.nodes) c.args.roots.now list c.loop-done.invariant.looks.same_nodes c.loop-done.invariant.looks.same_blocks all) (c.loop-done.invariant.listed list all), c.loop-done.invariant.reads list all);
       looks = g.met.N.Nodes.looks_on c.args.nodes.now c.loop-done.nodes c.next_level.new.nodes c.loop-done.invariant.looks c.next_level.ensures.looks;
     }
 
@@ -74,20 +74,23 @@ returns-then-is_empty-clause-shallow g c =
 
 pub returns-then-is_empty-clause-reads : goal.returns-then-is_empty-clause-reads
 returns-then-is_empty-clause-reads g c list all =
-    let few : c.loop-done.done * length list ≤ (c.args.most + 1) * length list = mul-le c.loop-done.done (length list) (c.args.most + 1) (length list) (omega arith) (omega arith) in
+    let loud = length (loud_of c.args.quiet.now.members list) in
+    let few : c.loop-done.done * loud ≤ c.args.most * loud = mul-le c.loop-done.done loud c.args.most loud (omega arith) (omega arith) in
     omega (arith, few, c.loop-done.invariant.reads list all)
 
 pub returns-in_err-level-2-clause-reads : goal.returns-in_err-level-2-clause-reads
 returns-in_err-level-2-clause-reads g c list all =
+    let loud = length (loud_of c.args.quiet.now.members list) in
     let more : c.loop-done.done < c.args.most = omega (arith, c.loop-done-test.true) in
-    let few : (c.loop-done.done + 1) * length list ≤ (c.args.most + 1) * length list = mul-le (c.loop-done.done + 1) (length list) (c.args.most + 1) (length list) (omega arith) (omega arith) in
-    omega (arith, few, one_level_more c.loop-done.done (length list), c.next_level.ensures.reads c.args.roots.now list (later_has (g.N.Nodes.node c.args.nodes.now) (g.N.Nodes.node c.loop-done.nodes) (g.N.Nodes.blocks c.args.nodes.now) (g.N.Nodes.blocks c.loop-done.nodes) c.args.roots.now list c.loop-done.invariant.looks.same_nodes c.loop-done.invariant.looks.same_blocks all) (c.loop-done.invariant.listed list all), c.loop-done.invariant.reads list all)
+    let few : (c.loop-done.done + 1) * loud ≤ c.args.most * loud = mul-le (c.loop-done.done + 1) loud c.args.most loud (omega arith) (omega arith) in
+    omega (arith, few, one_level_more c.loop-done.done loud, c.next_level.ensures.reads c.args.roots.now list (later_has (g.N.Nodes.node c.args.nodes.now) (g.N.Nodes.node c.loop-done.nodes) (g.N.Nodes.blocks c.args.nodes.now) (g.N.Nodes.blocks c.loop-done.nodes) c.args.roots.now list c.loop-done.invariant.looks.same_nodes c.loop-done.invariant.looks.same_blocks all) (c.loop-done.invariant.listed list all), c.loop-done.invariant.reads list all)
 
 pub returns-clause-reads : goal.returns-clause-reads
 returns-clause-reads g c list all =
+    let loud = length (loud_of c.args.quiet.now.members list) in
     let at_end : c.loop-done.done ≡ c.args.most = search rules in
-    let size : (c.args.most + 1) * length list ≡ (c.loop-done.done + 1) * length list = ap (λ (n : ℕ). (n + 1) * length list) (sym at_end) in
-    omega (arith, size, one_level_more c.loop-done.done (length list), c.any_has_entries.ensures.reads list (c.loop-done.invariant.listed list all), c.loop-done.invariant.reads list all)
+    let size : c.loop-done.done * loud ≡ c.args.most * loud = ap (λ (n : ℕ). n * loud) at_end in
+    omega (arith, size, c.any_has_entries.ensures.reads list (c.loop-done.invariant.listed list all), c.loop-done.invariant.reads list all)
 
 pub returns-in_err-level-2-clause-looks : goal.returns-in_err-level-2-clause-looks
 returns-in_err-level-2-clause-looks g c =
@@ -109,6 +112,9 @@ returns-in_err-level-2-clause-faults g c =
 
 pub returns-clause-faults : goal.returns-clause-faults
 returns-clause-faults g c = c.any_has_entries.ensures.faults
+
+pub next_level-requires-clause-quiet : goal.next_level-requires-clause-quiet
+next_level-requires-clause-quiet g c = subst (λ (h : Blocks). AreQuiet h c.args.quiet.now.members c.args.nexts.now) (sym c.loop-done.invariant.looks.same_nodes) c.requires.quiet
 
 pub next_level-requires-clause-sound : goal.next_level-requires-clause-sound
 next_level-requires-clause-sound g c = c.loop-done.invariant.looks.sound

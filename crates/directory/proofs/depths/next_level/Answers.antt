@@ -3,8 +3,9 @@ use Rattle.std.specs.FinSet as set
 use Rattle.allocator.specs.BlockSet.{BlockSet}
 use Rattle.std.proofs.lemmas.Result.{err_from_is_err_and}
 use Rattle.node_store.specs.Frames.{OnlyLooks}
-use Rattle.directory.specs.Depths.{count_below, AreNamedBy}
-use Rattle.directory.proofs.Counting.{count_few}
+use Rattle.block_trees.specs.Bodies.{Blocks}
+use Rattle.directory.specs.Depths.{count_below, is_loud, AreQuiet, AreNamedBy}
+use Rattle.directory.proofs.Counting.{loud_few}
 use Rattle.directory.proofs.LevelNodes.{IsLevelRead, level_begins, level_skips, level_step, level_more, all_named, none_counted, later_has}
 use Rattle.directory.proofs.depths.next_level.Goals as goal
 use Rattle.directory.proofs.depths.next_level.Goals.{then-contains+in_ok-add_chain, else-contains}
@@ -16,7 +17,7 @@ loop-block-init g c =
       level = level_begins (g.N.Nodes.node c.args.nodes.now) (g.N.Nodes.blocks c.args.nodes.now) c.args.level.now.members c.in_ok-seen.seen.members c.in_ok-next.next.members no_seen (ap (λ (s : BlockSet). s.members) c.in_ok-next.ensures.ok);
       seen_size = ap (λ (s : BlockSet). s.blocks) c.in_ok-seen.ensures.ok ∙ c.blocks-3.ensures;
       next_size = ap (λ (s : BlockSet). s.blocks) c.in_ok-next.ensures.ok ∙ c.blocks-2.ensures;
-      reads = omega (arith, none_counted c.in_ok-seen.seen.members c.args.level.now.blocks no_seen);
+      reads = omega (arith, none_counted c.args.quiet.now.members c.in_ok-seen.seen.members c.args.level.now.blocks no_seen);
       looks = record { same_nodes = refl; same_kept = refl; same_writes = refl; came = g.met.N.Nodes.follows_itself c.args.nodes.now; sound = c.requires.sound; same_limit = refl; same_blocks = refl };
     }
 
@@ -33,15 +34,15 @@ loop-block-preserved g c =
       | then-contains+in_ok-add_chain w ↦
           let step = level_step f (g.N.Nodes.node c.loop-block.nodes) blocks (g.N.Nodes.blocks c.loop-block.nodes) i level c.loop-block.seen.members c.loop-block.next.members w.add_chain.new.seen.members w.add_chain.new.found.members before.looks.same_nodes before.looks.same_blocks before.level
           (sym c.contains.ensures ∙ w.if-contains.true) w.in_ok-add_chain.ensures.read w.in_ok-add_chain.ensures.here w.in_ok-add_chain.ensures.named w.add_chain.ensures.stays w.add_chain.ensures.among in
-          let counted : g.N.Nodes.reads w.add_chain.new.nodes + count_below (set.contains c.loop-block.seen.members) most ≡ g.N.Nodes.reads c.loop-block.nodes + count_below (set.contains w.add_chain.new.seen.members) most =
-          subst (λ (n : ℕ). g.N.Nodes.reads w.add_chain.new.nodes + count_below (set.contains c.loop-block.seen.members) n ≡ g.N.Nodes.reads c.loop-block.nodes + count_below (set.contains w.add_chain.new.seen.members) n) before.seen_size w.add_chain.ensures.reads in
-          let reads_now : g.N.Nodes.reads w.add_chain.new.nodes ≡ first + count_below (set.contains w.add_chain.new.seen.members) most = omega (arith, before.reads, counted) in
+          let counted : g.N.Nodes.reads w.add_chain.new.nodes + count_below (is_loud c.args.quiet.now.members c.loop-block.seen.members) most ≡ g.N.Nodes.reads c.loop-block.nodes + count_below (is_loud c.args.quiet.now.members w.add_chain.new.seen.members) most =
+          subst (λ (n : ℕ). g.N.Nodes.reads w.add_chain.new.nodes + count_below (is_loud c.args.quiet.now.members c.loop-block.seen.members) n ≡ g.N.Nodes.reads c.loop-block.nodes + count_below (is_loud c.args.quiet.now.members w.add_chain.new.seen.members) n) before.seen_size w.add_chain.ensures.reads in
+          let reads_now : g.N.Nodes.reads w.add_chain.new.nodes ≡ first + count_below (is_loud c.args.quiet.now.members w.add_chain.new.seen.members) most = omega (arith, before.reads, counted) in
           record {
             level = subst (λ (s : BlockSet). IsLevelRead f blocks (i + 1) level s.members c.if-contains.next.members) (sym w.seen-is)
                 (subst (λ (n : BlockSet). IsLevelRead f blocks (i + 1) level w.add_chain.new.seen.members n.members) (sym w.next-is) step);
             seen_size = ap (λ (s : BlockSet). s.blocks) w.seen-is ∙ w.add_chain.ensures.size.0 ∙ before.seen_size;
             next_size = ap (λ (s : BlockSet). s.blocks) w.next-is ∙ w.add_chain.ensures.size.1 ∙ before.next_size;
-            reads = ap g.N.Nodes.reads w.nodes-is ∙ reads_now ∙ ap (λ (s : BlockSet). first + count_below (set.contains s.members) most) (sym w.seen-is);
+            reads = ap g.N.Nodes.reads w.nodes-is ∙ reads_now ∙ ap (λ (s : BlockSet). first + count_below (is_loud c.args.quiet.now.members s.members) most) (sym w.seen-is);
             looks = subst (λ n. OnlyLooks g.N.Nodes.node g.N.Nodes.kept g.N.Nodes.writes g.N.Nodes.follows g.N.Nodes.is_sound g.N.Nodes.limit g.N.Nodes.blocks c.args.nodes.now n) (sym w.nodes-is)
                 (g.met.N.Nodes.looks_on c.args.nodes.now c.loop-block.nodes w.add_chain.new.nodes before.looks w.add_chain.ensures.looks);
           }
@@ -51,7 +52,7 @@ loop-block-preserved g c =
             (level_skips f blocks i level c.loop-block.seen.members c.loop-block.next.members before.level (sym c.contains.ensures ∙ w.if-contains.false)));
         seen_size = ap (λ (s : BlockSet). s.blocks) w.seen-is ∙ before.seen_size;
         next_size = ap (λ (s : BlockSet). s.blocks) w.next-is ∙ before.next_size;
-        reads = ap g.N.Nodes.reads w.nodes-is ∙ before.reads ∙ ap (λ (s : BlockSet). first + count_below (set.contains s.members) most) (sym w.seen-is);
+        reads = ap g.N.Nodes.reads w.nodes-is ∙ before.reads ∙ ap (λ (s : BlockSet). first + count_below (is_loud c.args.quiet.now.members s.members) most) (sym w.seen-is);
         looks = subst (λ n. OnlyLooks g.N.Nodes.node g.N.Nodes.kept g.N.Nodes.writes g.N.Nodes.follows g.N.Nodes.is_sound g.N.Nodes.limit g.N.Nodes.blocks c.args.nodes.now n) (sym w.nodes-is) before.looks;
       }
     ]
@@ -68,7 +69,7 @@ returns-clause-among g c roots list has among = c.loop-block.invariant.level.nex
 
 pub returns-clause-reads : goal.returns-clause-reads
 returns-clause-reads g c roots list has among =
-    omega (arith, c.loop-block.invariant.reads, count_few (set.contains c.loop-block.seen.members) list c.args.level.now.blocks (c.loop-block.invariant.level.seen_in roots list has among))
+    omega (arith, c.loop-block.invariant.reads, loud_few c.args.quiet.now.members c.loop-block.seen.members list c.args.level.now.blocks (c.loop-block.invariant.level.seen_in roots list has among))
 
 pub returns-in_err-add_chain-clause-reads : goal.returns-in_err-add_chain-clause-reads
 returns-in_err-add_chain-clause-reads g c roots list has among =
@@ -78,10 +79,10 @@ returns-in_err-add_chain-clause-reads g c roots list has among =
     let has_now = later_has f (g.N.Nodes.node c.loop-block.nodes) blocks (g.N.Nodes.blocks c.loop-block.nodes) roots list before.looks.same_nodes before.looks.same_blocks has in
     let in_level = sym c.contains.ensures ∙ c.if-contains.true in
     let more = (c.add_chain.ensures.among roots list has_now (among c.loop-block.block in_level)).0 in
-    let few = count_few (set.contains c.add_chain.new.seen.members) list c.args.level.now.blocks (level_more list c.loop-block.seen.members c.add_chain.new.seen.members (before.level.seen_in roots list has among) more) in
+    let few = loud_few c.args.quiet.now.members c.add_chain.new.seen.members list c.args.level.now.blocks (level_more list c.loop-block.seen.members c.add_chain.new.seen.members (before.level.seen_in roots list has among) more) in
     let size = before.seen_size in
-    let counted : g.N.Nodes.reads c.add_chain.new.nodes + count_below (set.contains c.loop-block.seen.members) c.args.level.now.blocks ≡ g.N.Nodes.reads c.loop-block.nodes + count_below (set.contains c.add_chain.new.seen.members) c.args.level.now.blocks =
-    subst (λ (n : ℕ). g.N.Nodes.reads c.add_chain.new.nodes + count_below (set.contains c.loop-block.seen.members) n ≡ g.N.Nodes.reads c.loop-block.nodes + count_below (set.contains c.add_chain.new.seen.members) n) size c.add_chain.ensures.reads in
+    let counted : g.N.Nodes.reads c.add_chain.new.nodes + count_below (is_loud c.args.quiet.now.members c.loop-block.seen.members) c.args.level.now.blocks ≡ g.N.Nodes.reads c.loop-block.nodes + count_below (is_loud c.args.quiet.now.members c.add_chain.new.seen.members) c.args.level.now.blocks =
+    subst (λ (n : ℕ). g.N.Nodes.reads c.add_chain.new.nodes + count_below (is_loud c.args.quiet.now.members c.loop-block.seen.members) n ≡ g.N.Nodes.reads c.loop-block.nodes + count_below (is_loud c.args.quiet.now.members c.add_chain.new.seen.members) n) size c.add_chain.ensures.reads in
     omega (arith, before.reads, counted, few)
 
 pub returns-in_err-add_chain-clause-looks : goal.returns-in_err-add_chain-clause-looks
@@ -92,6 +93,9 @@ returns-clause-looks g c = c.loop-block.invariant.looks
 
 pub add_chain-requires-clause-sound : goal.add_chain-requires-clause-sound
 add_chain-requires-clause-sound g c = c.loop-block.invariant.looks.sound
+
+pub add_chain-requires-clause-quiet : goal.add_chain-requires-clause-quiet
+add_chain-requires-clause-quiet g c = subst (λ (h : Blocks). AreQuiet h c.args.quiet.now.members c.args.nexts.now) (sym c.loop-block.invariant.looks.same_nodes) c.requires.quiet
 
 pub add_chain-requires-clause-size : goal.add_chain-requires-clause-size
 add_chain-requires-clause-size g c =

@@ -4,24 +4,11 @@ use Rattle.std.proofs.lemmas.Result.{err_from_is_err_and}
 use Rattle.block_trees.specs.Bodies.{Blocks}
 use Rattle.block_trees.specs.Reached.{Reached}
 use Rattle.reclaim.specs.Passes.{IsPass}
-use Rattle.reclaim.specs.Tables.{IsTold, IsSized}
+use Rattle.reclaim.specs.Tables.{IsTold}
 use Rattle.reclaim.specs.Verified.{AreRoots, AreAllowed, HasLookedOnce}
-use Rattle.reclaim.proofs.Costs.{none_looked}
 use Rattle.reclaim.proofs.Looking.{never}
 use Rattle.reclaim.proofs.Looked.{looked_sound, looked_plain, linked_roots, tree_links, tree_whole}
-use Rattle.reclaim.proofs.Telling.{told_none}
 use Rattle.reclaim.proofs.verification.are_whole.Goals as goal
-
-pub look_at_all-requires-clause-blocks : goal.look_at_all-requires-clause-blocks
-look_at_all-requires-clause-blocks g c = c.requires.blocks.1 ∙ c.requires.blocks.0
-
-pub look_at_all-requires-clause-told : goal.look_at_all-requires-clause-told
-look_at_all-requires-clause-told g c =
-    told_none (g.N.Nodes.node c.args.nodes.now) c.args.pass.now c.in_ok-table.table c.requires.begun.1 (subst (λ (n : ℕ). IsSized n c.in_ok-table.table) (sym c.requires.blocks.1) c.in_ok-table.ensures.sized)
-    c.in_ok-table.ensures.none.0 c.in_ok-table.ensures.none.1
-
-pub returns-in_err-table-clause-reads : goal.returns-in_err-table-clause-reads
-returns-in_err-table-clause-reads g c = none_looked (g.N.Nodes.node c.args.nodes.now) c.args.roots.now (g.N.Nodes.reads c.args.nodes.now)
 
 pub returns-then-not-has_links-clause-bad : goal.returns-then-not-has_links-clause-bad
 returns-then-not-has_links-clause-bad g c _ trees =
@@ -48,7 +35,7 @@ returns-clause-whole g c good =
     let pass : IsPass f q = subst (λ (h : Blocks). IsPass h q) same c.in_ok-are_looked.ensures.told.0 in
     let told : IsTold f q t = subst (λ (h : Blocks). IsTold h q t) same c.in_ok-are_looked.ensures.told.1 in
     let looked = c.in_ok-are_looked.ensures.looked c.if-not-are_looked.false in
-    let high : (b : ℕ) → q.blocks ≤ b → f b ≡ None = λ b past. g.met.N.Nodes.none_beyond s b (subst (λ (n : ℕ). n ≤ b) (c.look_at_all.ensures.on.blocks ∙ c.requires.blocks.1 ∙ c.requires.blocks.0) past) in
+    let high : (b : ℕ) → q.blocks ≤ b → f b ≡ None = λ b past. g.met.N.Nodes.none_beyond s b (subst (λ (n : ℕ). n ≤ b) (c.look_at_all.ensures.on.blocks ∙ c.requires.blocks) past) in
     let whole = c.is_whole.ensures.0 good in (
       pass,
       looked.0,
@@ -57,6 +44,7 @@ returns-clause-whole g c good =
         directories = linked_roots (limit - 80) f c.args.plain q t pass looked.0 told high looked.1 whole c.args.roots.now (c.has_links.ensures.0 c.if-not-has_links.false);
         alone = λ plain b reached. looked_plain (limit - 80) f c.args.plain q t pass looked.0 told high looked.1 whole plain b (subst (λ (l : List ℕ). Reached f l b) (sym roots) reached);
       },
+      told,
       looked.2,
     )
 

@@ -71,7 +71,7 @@ returns-clause-pass g c =
     let says : Says (f block) c.in_ok-parts.parts = subst (λ (o : Option (List ℕ)). Says o c.in_ok-parts.parts) (sym held) c.in_ok-parts.ensures in
     let told : IsTold f q u =
     told_on p q block c.mark_next.ensures.on c.requires.left.0 c.requires.left.1 c.in_ok-mark_next.ensures.next.0 f t u c.deref-2.result.now c.requires.told below c.note.ensures.sized directories c.note.ensures.named
-    c.next_in.result (c.next_in.ensures ∙ next_said (f block) c.in_ok-parts.parts.edge says.edge) c.note.ensures.links c.note.ensures.nexts in
+    c.next_in.result (c.next_in.ensures ∙ next_said (f block) c.in_ok-parts.parts.edge says.edge) c.note.ensures.links c.note.ensures.nexts c.note.ensures.quiet in
     on_any c.look.result (IsPass f' q × IsTold f' q u) (subst (λ (h : Blocks). IsPass h q) (sym same) pass, subst (λ (h : Blocks). IsTold h q u) (sym same) told)
 
 pub returns-clause-exact : goal.returns-clause-exact

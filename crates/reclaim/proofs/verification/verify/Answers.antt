@@ -9,10 +9,13 @@ use Rattle.node_format.specs.declared.place.Place.TheVariants.{Dir}
 use Rattle.block_trees.specs.Bodies.{Blocks}
 use Rattle.block_trees.specs.Laws.{IsShallow}
 use Rattle.block_trees.specs.Reached.{Reached}
-use Rattle.directory.specs.Depths.{HasDirectories}
+use Rattle.directory.specs.Depths.{HasDirectories, AreQuiet, loud_of}
 use Rattle.directory.specs.Lookups.{LeadsToDirectories}
 use Rattle.reclaim.specs.Sound.{HoldsLink}
 use Rattle.reclaim.specs.Passes.{IsPass}
+use Rattle.reclaim.specs.Tables.{IsSized}
+use Rattle.reclaim.proofs.Looked.{all_seen}
+use Rattle.reclaim.proofs.Telling.{told_none, told_quiet, told_silent}
 use Rattle.reclaim.proofs.Costs.{holds_link, none_read, looked_cost, depth_cost, reached_directories}
 use Rattle.reclaim.proofs.Looking.{never, look_read, look_other}
 use Rattle.reclaim.proofs.Marking.{pass_marks}
@@ -33,6 +36,20 @@ returns-then-not-are_data_blocks-clause-reads g c = none_read (g.N.Nodes.node c.
 
 pub returns-in_err-pass-clause-reads : goal.returns-in_err-pass-clause-reads
 returns-in_err-pass-clause-reads g c = none_read (g.N.Nodes.node c.args.nodes.now) c.args.roots.now (g.N.Nodes.reads c.args.nodes.now)
+
+pub returns-in_err-table-clause-reads : goal.returns-in_err-table-clause-reads
+returns-in_err-table-clause-reads g c = none_read (g.N.Nodes.node c.args.nodes.now) c.args.roots.now (g.N.Nodes.reads c.args.nodes.now)
+
+pub are_whole-requires-clause-told : goal.are_whole-requires-clause-told
+are_whole-requires-clause-told g c =
+    told_none (g.N.Nodes.node c.args.nodes.now) c.in_ok-pass.pass c.in_ok-table.table c.in_ok-pass.ensures.begun.2 (subst (λ (n : ℕ). IsSized n c.in_ok-table.table) (sym c.in_ok-pass.ensures.begun.0) c.in_ok-table.ensures.sized)
+    c.in_ok-table.ensures.none.0 c.in_ok-table.ensures.none.1 c.in_ok-table.ensures.none.2
+
+pub are_shallow-requires-clause-quiet : goal.are_shallow-requires-clause-quiet
+are_shallow-requires-clause-quiet g c =
+    let found = c.in_ok-are_whole.ensures.whole c.if-not-are_whole.false in
+    subst (λ (h : Blocks). AreQuiet h c.are_whole.new.table.quiet.members c.deref.result.now) (sym c.are_whole.ensures.looks.same_nodes)
+    (subst (λ (xs : List ℕ). AreQuiet (g.N.Nodes.node c.args.nodes.now) c.are_whole.new.table.quiet.members xs) (sym c.deref.ensures.value) (told_quiet (g.N.Nodes.node c.args.nodes.now) c.are_whole.new.pass c.are_whole.new.table found.3))
 
 pub are_whole-requires-clause-pass : goal.are_whole-requires-clause-pass
 are_whole-requires-clause-pass g c = c.in_ok-pass.ensures.pass (g.N.Nodes.node c.args.nodes.now)
@@ -131,9 +148,11 @@ returns-in_err-are_shallow-clause-reads g c =
     let blocks = g.N.Nodes.blocks mid in
     let directories : HasDirectories f blocks roots list =
     reached_directories (g.N.Nodes.limit s - 80) blocks f roots q.order (λ b. (marks b).1) (λ b. (marks b).0) found.2.nodes (λ root within. All-contains (HoldsLink f) roots root found.2.directories within) in
-    let levels : g.N.Nodes.reads c.are_shallow.new.nodes ≤ g.N.Nodes.reads mid + 17 * length list =
+    let quiet = c.are_whole.new.table.quiet.members in
+    let levels : g.N.Nodes.reads c.are_shallow.new.nodes ≤ g.N.Nodes.reads mid + (16 * length (loud_of quiet list) + length list) =
     c.are_shallow.ensures.reads list (subst (λ (h : Blocks). HasDirectories h blocks roots list) (sym c.are_whole.ensures.looks.same_nodes) directories) in
-    depth_cost f roots q (g.N.Nodes.reads s) (g.N.Nodes.reads mid) (g.N.Nodes.reads c.are_shallow.new.nodes) found.0 same found.3 levels
+    depth_cost f roots q quiet (g.N.Nodes.reads s) (g.N.Nodes.reads mid) (g.N.Nodes.reads c.are_shallow.new.nodes) found.0 same found.4
+    (λ b l has is none. told_silent f q c.are_whole.new.table b l found.3 (all_seen f q found.0 found.1 b has) is none) levels
 
 pub returns-then-not-are_shallow-clause-reads : goal.returns-then-not-are_shallow-clause-reads
 returns-then-not-are_shallow-clause-reads g c =
@@ -149,9 +168,11 @@ returns-then-not-are_shallow-clause-reads g c =
     let blocks = g.N.Nodes.blocks mid in
     let directories : HasDirectories f blocks roots list =
     reached_directories (g.N.Nodes.limit s - 80) blocks f roots q.order (λ b. (marks b).1) (λ b. (marks b).0) found.2.nodes (λ root within. All-contains (HoldsLink f) roots root found.2.directories within) in
-    let levels : g.N.Nodes.reads c.are_shallow.new.nodes ≤ g.N.Nodes.reads mid + 17 * length list =
+    let quiet = c.are_whole.new.table.quiet.members in
+    let levels : g.N.Nodes.reads c.are_shallow.new.nodes ≤ g.N.Nodes.reads mid + (16 * length (loud_of quiet list) + length list) =
     c.are_shallow.ensures.reads list (subst (λ (h : Blocks). HasDirectories h blocks roots list) (sym c.are_whole.ensures.looks.same_nodes) directories) in
-    depth_cost f roots q (g.N.Nodes.reads s) (g.N.Nodes.reads mid) (g.N.Nodes.reads c.are_shallow.new.nodes) found.0 same found.3 levels
+    depth_cost f roots q quiet (g.N.Nodes.reads s) (g.N.Nodes.reads mid) (g.N.Nodes.reads c.are_shallow.new.nodes) found.0 same found.4
+    (λ b l has is none. told_silent f q c.are_whole.new.table b l found.3 (all_seen f q found.0 found.1 b has) is none) levels
 
 pub returns-clause-reads : goal.returns-clause-reads
 returns-clause-reads g c =
@@ -167,9 +188,11 @@ returns-clause-reads g c =
     let blocks = g.N.Nodes.blocks mid in
     let directories : HasDirectories f blocks roots list =
     reached_directories (g.N.Nodes.limit s - 80) blocks f roots q.order (λ b. (marks b).1) (λ b. (marks b).0) found.2.nodes (λ root within. All-contains (HoldsLink f) roots root found.2.directories within) in
-    let levels : g.N.Nodes.reads c.are_shallow.new.nodes ≤ g.N.Nodes.reads mid + 17 * length list =
+    let quiet = c.are_whole.new.table.quiet.members in
+    let levels : g.N.Nodes.reads c.are_shallow.new.nodes ≤ g.N.Nodes.reads mid + (16 * length (loud_of quiet list) + length list) =
     c.are_shallow.ensures.reads list (subst (λ (h : Blocks). HasDirectories h blocks roots list) (sym c.are_whole.ensures.looks.same_nodes) directories) in
-    depth_cost f roots q (g.N.Nodes.reads s) (g.N.Nodes.reads mid) (g.N.Nodes.reads c.are_shallow.new.nodes) found.0 same found.3 levels
+    depth_cost f roots q quiet (g.N.Nodes.reads s) (g.N.Nodes.reads mid) (g.N.Nodes.reads c.are_shallow.new.nodes) found.0 same found.4
+    (λ b l has is none. told_silent f q c.are_whole.new.table b l found.3 (all_seen f q found.0 found.1 b has) is none) levels
 
 pub returns-then-not-are_shallow-clause-damaged : goal.returns-then-not-are_shallow-clause-damaged
 returns-then-not-are_shallow-clause-damaged g c _ both =

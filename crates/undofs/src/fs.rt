@@ -260,8 +260,6 @@ impl<'f, F: Flash> Fs<'f, F> {
     /// [`Fault::Busy`] where the file is open, [`Fault::TooBig`] for more bytes.
     pub fn write_file(&mut self, alloc: Global, path: &Path, bytes: &[u8]) -> Result<(), Fault>
         ensures step { StepsBetween self.old (Call.WriteFile path.now bytes.now) (replied empty result) self.new }
-        ensures pages { KeepsAllPages self.old self.new }
-        ensures same_flash { flash_name self.new ≡ flash_name self.old }
     {
         self.carry_out_empty(alloc, Request::WriteFile { path, bytes })
     }

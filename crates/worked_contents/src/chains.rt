@@ -180,7 +180,7 @@ fn levels(alloc: Global, count: u32) -> Result<Vec<Vec<u8>>, AllocError> {
 }
 
 /// A name, a content, what it is refused for, else how many blocks are reached: those from 8 on; and how many
-/// reads a verification asks for at most, 20 for each node and 2 for each of its entries.
+/// reads a verification asks for at most: no fewer than its contract lets come.
 pub type ChainRow = (&'static str, ChainContent, Result<u32, Fault>, u64);
 
 const DAMAGED: Result<u32, Fault> = Err(Fault::Damaged);

@@ -26,11 +26,10 @@ use Rattle.shell.specs.declared.place.SourceFault.{SourceFault}
 use Rattle.host_files.specs.declared.source.SourceKind.{SourceKind}
 use Rattle.shell.specs.declared.thing.Thing.{Thing}
 
--- the events that put a thing: a directory is made, and has to be there then; a file is made or emptied, and its bytes are
--- written. No other file is open, so its descriptor is 0
+-- the events that put a thing: a directory is made, and has to be there then; a file is written whole
 abbrev pub thing_events : Thing → List Event
 thing_events (Thing.Directory path) = Event.Call (Call.Mkdir path) ∷ Event.Call (Call.Stat View.Present path) ∷ []
-thing_events (Thing.File path bytes) = Event.Call (Call.Open path (record { 0 = 22 })) ∷ Event.Call (Call.Pwrite 0 0 bytes) ∷ Event.Call (Call.Close 0) ∷ []
+thing_events (Thing.File path bytes) = Event.Call (Call.WriteFile path bytes) ∷ []
 
 -- one change group, which is synced
 abbrev pub group_start : List Event

@@ -5,13 +5,9 @@ ghost use Rattle.host_files.specs.Sources.{source_found};
 
 use crate::failure::Failure;
 use crate::place::{SourceFault, place_of};
-use bitflags::Flags;
-use fs_types::{Bytes, Call, Event, OpenFlags, Path, View};
+use fs_types::{Bytes, Call, Event, Path, View};
 use host_files::{FileFault, ImageFiles, Source, SourceKind};
 use std::alloc::{AllocError, Global};
-
-/// The flags of `open` that ask to write a file, and to make or empty it: `WRITE`, `CREAT` and `TRUNC`.
-const WRITTEN_ANEW: u64 = 22;
 
 /// What is put at a path.
 #[derive(Debug, Drop)]
@@ -62,28 +58,8 @@ pub(crate) fn events_of(alloc: Global, thing: Thing) -> Result<Vec<Event>, Alloc
             Ok(vec![in alloc; Event::Call(made), Event::Call(looked)]?)
         }
         Thing::File(path, bytes) => {
-            let opened = Call::Open {
-                path,
-                flags: written_anew(),
-            };
-            let written = Call::Pwrite {
-                descriptor: 0,
-                offset: 0,
-                bytes,
-            };
-            let closed = Call::Close { descriptor: 0 };
-            Ok(vec![in alloc;
-                Event::Call(opened),
-                Event::Call(written),
-                Event::Call(closed),
-            ]?)
+            let written = Call::WriteFile { path, bytes };
+            Ok(vec![in alloc; Event::Call(written)]?)
         }
     }
-}
-
-/// A file is made or emptied, and may be written.
-fn written_anew() -> OpenFlags
-    ensures { result ≡ record { 0 = WRITTEN_ANEW } }
-{
-    OpenFlags::from_bits_retain(WRITTEN_ANEW)
 }

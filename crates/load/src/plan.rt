@@ -4,7 +4,7 @@ use std::alloc::{AllocError, Global};
 /// Lines that open the file. `F` stands for the path of a file, and `D` for that of a directory.
 const OPENING: [&str; 3] = ["open F 7", "open F 7", "open F 23"];
 
-/// Lines that write the open file: `AT` stands for a place in it, and `DATA` for bytes.
+/// Lines that write the open file: `AT` stands for a place in it, and `DATA` for bytes of one node.
 const WRITING: [&str; 4] = [
     "pwrite 0 AT DATA",
     "pwrite 0 AT DATA",
@@ -15,8 +15,8 @@ const WRITING: [&str; 4] = [
 /// Lines that end a change group.
 const ENDING: [&str; 3] = ["end", "end", "abandon"];
 
-/// Other lines: `N` stands for the name of a checkpoint.
-const OTHER: [&str; 26] = [
+/// Other lines: `N` stands for the name of a checkpoint, and `LONG` for bytes of up to three nodes.
+const OTHER: [&str; 30] = [
     "mkdir D",
     "mkdir D",
     "mkdir D",
@@ -25,6 +25,10 @@ const OTHER: [&str; 26] = [
     "rmdir D",
     "unlink F",
     "unlink F",
+    "write F DATA",
+    "write F LONG",
+    "write F 6869",
+    "write F -",
     "rename F F",
     "rename F F",
     "rename D D",
@@ -139,7 +143,8 @@ impl Plan {
             "N" => line.push_str(self.pick(&["v", "w"])),
             "=N" => line.push_str(self.pick(&["=v", "=w"])),
             "AT" => write!(line, "{}", self.below(12_000)),
-            "DATA" => self.push_data(line),
+            "DATA" => self.push_data(line, 3_000),
+            "LONG" => self.push_data(line, 12_000),
             _ => line.push_str(word),
         }
     }
@@ -151,10 +156,10 @@ impl Plan {
         Ok(())
     }
 
-    /// Appends up to 3,000 times the same byte.
-    fn push_data(&mut self, line: &mut String) -> Result<(), AllocError> {
+    /// Appends up to so many times the same byte.
+    fn push_data(&mut self, line: &mut String, most: u64) -> Result<(), AllocError> {
         let byte = self.pick(&["00", "41", "5a", "ff"]);
-        for _ in 0..=self.below(3_000) {
+        for _ in 0..=self.below(most) {
             line.push_str(byte)?;
         }
         Ok(())

@@ -6,7 +6,7 @@ use std::io;
 use std::io::{ErrorKind, Read, Write};
 use std::test::Fail;
 
-const LINES: [(&str, &str); 65] = [
+const LINES: [(&str, &str); 71] = [
     (
         "open /f 7",
         "Call(Open { path: Path { names: [Name { bytes: [102] }] }, flags: OpenFlags(7) })",
@@ -42,6 +42,18 @@ const LINES: [(&str, &str); 65] = [
         "ftruncate 0 4",
         "Call(Ftruncate { descriptor: 0, length: 4 })",
     ),
+    (
+        "write /f 4fFa",
+        "Call(WriteFile { path: Path { names: [Name { bytes: [102] }] }, bytes: Sequence { items: [79, 250] } })",
+    ),
+    (
+        "write / -",
+        "Call(WriteFile { path: Path { names: [] }, bytes: Sequence { items: [] } })",
+    ),
+    ("write /f", "Syntax"),
+    ("write f 4", "Syntax"),
+    ("write f 41", "Refused(Invalid)"),
+    ("write - 41", "Refused(NoEntry)"),
     (
         "rename /a /b",
         "Call(Rename { old: Path { names: [Name { bytes: [97] }] }, new: Path { names: [Name { bytes: [98] }] } })",

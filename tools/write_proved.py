@@ -157,12 +157,19 @@ def section(name, told):
     return [f"## `{name}`", about, "", *lines, ""] if lines else []
 
 
+def linked(text):
+    """The text with each page that it names as a link."""
+    parts = re.split(r"(\[[^\]]*\]\([^)\s]+\))", text)
+    named = (re.sub(r"docs/(\w+\.md)", r"[docs/\1](\1)", it) for it in parts[::2])
+    return "".join(a + b for a, b in zip(named, [*parts[1::2], ""]))
+
+
 def page():
     told = comments()
     lines = [line for name in libraries() for line in section(name, told)]
     parts = [line[3:].replace("`", "") for line in lines if line.startswith("## ")]
     listed = "Sections: " + " · ".join(f"[{it}](#{it})" for it in parts) + "."
-    return "\n".join([HEAD, listed, "", *lines]).rstrip("\n") + "\n"
+    return linked("\n".join([HEAD, listed, "", *lines]).rstrip("\n") + "\n")
 
 
 def main():

@@ -5,7 +5,7 @@ mod watched;
 
 use flash_model::SimFlash;
 use std::alloc::Global;
-use undofs::{Fault, Flash, Fs, Geometry, OpenFlags, Path, View, format};
+use undofs::{Fault, Flash, Fs, Geometry, Path, View, format};
 use watched::Watched;
 
 fn main(rt: HostRuntime) -> anyhow::Result<()> {
@@ -54,9 +54,7 @@ fn write<F: Flash>(
     bytes: &[u8],
 ) -> Result<(), Fault> {
     let path = Path::parse(alloc, path)?;
-    let descriptor = fs.open(alloc, &path, OpenFlags::WRITE | OpenFlags::CREAT)?;
-    fs.pwrite(alloc, descriptor, 0, bytes)?;
-    fs.close(descriptor)
+    fs.write_file(alloc, &path, bytes)
 }
 
 /// The first 16 bytes of a file of the present version, as text.

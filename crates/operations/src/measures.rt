@@ -144,6 +144,12 @@ pub const MEASURES: &[Measure] = &[
         nodes: 2,
     },
     Measure {
+        name: "write of a new file, 1,000 bytes, depth 2",
+        before: &["mkdir /a"],
+        call: "whole 1000",
+        nodes: 3,
+    },
+    Measure {
         name: "pwrite of 2 bytes, second of three nodes",
         before: FILE_OF_THREE_NODES,
         call: "pwrite 0 5000 4142",

@@ -43,12 +43,12 @@ pub fn formatted(alloc: Global, sizes: Geometry, history: u32) -> Result<SimFlas
 /// Mounts what is on a flash, carries out the calls of a text, and answers what was asked of the
 /// flash since it was made.
 ///
-/// A line is one of a script, or `fill N`, which writes N bytes at the start of descriptor 0, `deep N`,
-/// which makes N directories `a`, each in the one before, `wide N`, which makes N directories in the
-/// root, named by numbers from 1000 on, `scatter N`, which writes a byte at each of the places 8,192 and
-/// 16,384 further on N times of descriptor 0, `scan N`, which reads 1 MiB of descriptor 0 in pieces of N
-/// bytes, `gather N`, which reads N bytes at each of 64 places of it, or `cold`, which forgets the nodes
-/// in memory.
+/// A line is one of a script, or `fill N`, which writes N bytes at the start of descriptor 0, `whole N`,
+/// which writes a whole file `/a/f` of N bytes, `deep N`, which makes N directories `a`, each in the one
+/// before, `wide N`, which makes N directories in the root, named by numbers from 1000 on, `scatter N`,
+/// which writes a byte at each of the places 8,192 and 16,384 further on N times of descriptor 0, `scan N`,
+/// which reads 1 MiB of descriptor 0 in pieces of N bytes, `gather N`, which reads N bytes at each of 64
+/// places of it, or `cold`, which forgets the nodes in memory.
 pub fn counts_after(
     alloc: Global,
     flash: &mut SimFlash,
@@ -111,10 +111,13 @@ fn number_after(line: &str, word: &str) -> Option<usize> {
 
 /// The call of a line.
 fn call_of(alloc: Global, line: &str, number: usize) -> Result<Call, MeasureError> {
-    match number_after(line, "fill ") {
-        Some(count) => Ok(fill(alloc, count)?),
-        None => call_of_script(alloc, line, number),
+    if let Some(count) = number_after(line, "fill ") {
+        return Ok(fill(alloc, count)?);
     }
+    if let Some(count) = number_after(line, "whole ") {
+        return whole(alloc, count);
+    }
+    call_of_script(alloc, line, number)
 }
 
 fn call_of_script(alloc: Global, line: &str, number: usize) -> Result<Call, MeasureError> {
@@ -130,6 +133,15 @@ fn fill(alloc: Global, count: usize) -> Result<Call, AllocError> {
     Ok(Call::Pwrite {
         descriptor: 0,
         offset: 0,
+        bytes: Sequence::from_vec(bytes),
+    })
+}
+
+/// Writes a whole file `/a/f` of so many bytes.
+fn whole(alloc: Global, count: usize) -> Result<Call, MeasureError> {
+    let bytes = vec![in alloc; b'A'; count]?;
+    Ok(Call::WriteFile {
+        path: Path::parse(alloc, b"/a/f")?,
         bytes: Sequence::from_vec(bytes),
     })
 }

@@ -65,6 +65,12 @@ pub const MOUNTS: &[Mount] = &[
         before: &["wide 127", "sync"],
     },
     Mount {
+        name: "mount of 8 versions of 1,000 entries",
+        sizes: SMALL_BLOCKS,
+        history: HISTORY,
+        before: &["wide 1000", "sync"],
+    },
+    Mount {
         name: "mount of a file of 1 MiB",
         sizes: SMALL_BLOCKS,
         history: HISTORY,

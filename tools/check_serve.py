@@ -101,8 +101,11 @@ class Child:
 
     def ask(self, line):
         """The reply to a line, which has to come before the next line is given."""
-        self.process.stdin.write(line.encode() + b"\n")
-        self.process.stdin.flush()
+        try:
+            self.process.stdin.write(line.encode() + b"\n")
+            self.process.stdin.flush()
+        except BrokenPipeError:
+            raise Wrong(f"the child ended before {line}")
         ready, _, _ = select.select([self.process.stdout], [], [], 20)
         if not ready:
             raise Wrong(f"no reply to {line}")

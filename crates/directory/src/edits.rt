@@ -18,7 +18,7 @@ ghost use Rattle.node_store.specs.Frames.{Works};
 use crate::list_writes::write_list;
 use crate::node_lists::{edit_list, read_list};
 use crate::trail::Trail;
-use fs_types::{Fault, Name, Path};
+use fs_types::{Fault, MIN_BLOCK_BYTES, Name, Path};
 use node_format::{Place, empty_directory};
 use node_store::Nodes;
 use std::alloc::Global;
@@ -190,7 +190,7 @@ pub fn put_directory<N: Nodes>(
     ensures reads { N.reads nodes.new ≤ N.reads nodes.old + path_nodes (N.node nodes.old) trail.now path.now false 0 }
     ensures works { Works N.follows N.is_sound N.limit N.blocks nodes.old nodes.new }
 {
-    let fits = nodes.block_bytes() >= 4096;
+    let fits = nodes.block_bytes() as usize >= MIN_BLOCK_BYTES;
     prove!(fits);
     let block = nodes.write(&empty_directory())?;
     let to = put_entry(alloc, nodes, root, trail, path, Place::Dir { block })?;

@@ -7,7 +7,7 @@ ghost use Rattle.node_store.specs.Frames.{Works};
 ghost use Rattle.plain_trees.specs.Trees.{nodes_for};
 ghost use Rattle.directory.specs.Written as spec;
 
-use fs_types::{Fault, NODE_ENTRIES};
+use fs_types::{Fault, MIN_BLOCK_BYTES, NODE_ENTRIES};
 use node_format::{EntryList, chain_node};
 use node_store::Nodes;
 use std::alloc::Global;
@@ -37,7 +37,7 @@ fn write_one<N: Nodes>(
 {
     let bytes = chain_node(alloc, list, next)?;
     let node = bytes.as_slice();
-    let fits = nodes.block_bytes() >= 4096;
+    let fits = nodes.block_bytes() as usize >= MIN_BLOCK_BYTES;
     prove!(fits);
     nodes.write(node)
 }

@@ -1,5 +1,6 @@
 -- The limits of a flash's sizes.
 use Rattle.std.specs.Prelude.{ℕ, ◌*◌, ◌≤◌, Bool, ◌||◌, ◌==◌, IsTrue}
+use Rattle.fs_types.specs.declared.limits.TheConstants.{MIN_BLOCK_BYTES}
 use Rattle.flash_model.specs.declared.geometry.Geometry.{Geometry}
 
 -- the sizes of a page that are served
@@ -18,7 +19,7 @@ page_count g = g.blocks * g.pages
 pub record IsGeometry (g : Geometry) : Type 0 where
   pub page_size : IsTrue (is_page_size g.page)
   pub some_pages : 1 ≤ g.pages
-  pub block_least : 4096 ≤ block_bytes g
+  pub block_least : MIN_BLOCK_BYTES ≤ block_bytes g
   pub block_most : block_bytes g ≤ 262144
   pub blocks_least : 16 ≤ g.blocks
   pub blocks_most : g.blocks ≤ 65536

@@ -2,6 +2,8 @@
 ghost use Rattle.std.specs.Prelude.{◌≡◌, ◌*◌, ◌+◌, ◌<◌, ◌≤◌, ◌^◌, ◌↔◌, IsTrue};
 ghost use Rattle.flash_model.specs.Geometry.{IsGeometry, is_page_size, block_bytes, page_count};
 
+use fs_types::MIN_BLOCK_BYTES;
+
 /// The sizes of a flash: bytes of a page, pages of an erase block, number of blocks.
 ///
 /// Page `j` of block `b` has the number `b * pages + j`.
@@ -25,7 +27,7 @@ impl Geometry {
         let block = self.block_bytes();
         self.has_page_size()
             && 1 <= self.pages
-            && 4096 <= block
+            && MIN_BLOCK_BYTES <= block
             && block <= 262_144
             && 16 <= self.blocks
             && self.blocks <= 65_536

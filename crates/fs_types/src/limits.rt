@@ -13,6 +13,12 @@ pub const MAX_NAMES: usize = 16;
 /// The most bytes in a name of a checkpoint.
 pub const MAX_CHECKPOINT_BYTES: usize = 31;
 
+/// The fewest bytes in a block: any node that has no data of a file fits.
+pub const MIN_BLOCK_BYTES: usize = 4096;
+
+/// How many nodes a mounted system keeps in memory, where no other number is asked.
+pub const MOUNTED_NODES: usize = 8;
+
 /// The most entries in one node of a directory.
 pub const NODE_ENTRIES: usize = 32;
 
@@ -58,5 +64,7 @@ pub fn limit_laws()
 
     // Of a flash.
     ensures anchors { ANCHORS ≡ 8 }
+    ensures blocks { MIN_BLOCK_BYTES ≡ 4096 }
+    ensures mounted_nodes { MOUNTED_NODES ≡ 8 }
     ensures bad_blocks { MAX_BAD_BLOCKS ≡ 256 }
 {}

@@ -8,7 +8,7 @@ use Rattle.std.proofs.lemmas.List.{length-append, length-take, length-drop, get_
 use Rattle.byteorder.specs.Endian.{little_number, little_bytes}
 use Rattle.byteorder.specs.Numbers.{little_number-reads_back}
 use Rattle.fs_types.specs.Names.{Name}
-use Rattle.fs_types.specs.declared.limits.TheConstants.{NODE_ENTRIES}
+use Rattle.fs_types.specs.declared.limits.TheConstants.{MIN_BLOCK_BYTES, NODE_ENTRIES}
 use Rattle.node_format.specs.Headers.{field, chain_magic, directory_magic, body_magic, IsNode}
 use Rattle.node_format.specs.Items.{Item, is_before, are_ascending, are_entries}
 use Rattle.node_format.specs.Directories.{items_bytes, item_at, items_at, are_filled, entries_at, AreSpelled}
@@ -113,7 +113,7 @@ link_only bytes l is = on is.spelled
 
 -- ---- a node of a directory is a node
 
-node_by_fields : (block : ℕ) (bytes : List ℕ) (magic next : ℕ) (items : List Item) → 4096 ≤ block → are_entries items ≡ true → length items ≤ NODE_ENTRIES → (magic ≡ directory_magic) ⊎ (magic ≡ chain_magic)
+node_by_fields : (block : ℕ) (bytes : List ℕ) (magic next : ℕ) (items : List Item) → MIN_BLOCK_BYTES ≤ block → are_entries items ≡ true → length items ≤ NODE_ENTRIES → (magic ≡ directory_magic) ⊎ (magic ≡ chain_magic)
     → HasFields bytes magic next (length items) (length (items_bytes items)) (items_bytes items) → IsNode block bytes
 node_by_fields block bytes magic next items capacity lawful le one h =
     let few : leb (length items) NODE_ENTRIES ≡ true = le-leb _ _ le in
@@ -123,7 +123,7 @@ node_by_fields block bytes magic next items capacity lawful le one h =
       | inr chained ↦ let is : field bytes 0 ≡ chain_magic = h.magic_is ∙ chained in rw (is, h.count_is, h.used_is, few, fits) (ap (λ (k : ℕ). Some k) (sym h.size))
     ]
 
-pub link_is_node : (block next : ℕ) (items : List Item) → 4096 ≤ block → are_entries items ≡ true → length items ≤ NODE_ENTRIES → next < 2 ^ 32 → IsNode block (chain_bytes next items)
+pub link_is_node : (block next : ℕ) (items : List Item) → MIN_BLOCK_BYTES ≤ block → are_entries items ≡ true → length items ≤ NODE_ENTRIES → next < 2 ^ 32 → IsNode block (chain_bytes next items)
 link_is_node block next items capacity lawful few small =
     node_by_fields block (chain_bytes next items) chain_magic next items capacity lawful few (inr refl) (chain_has next items lawful few small)
 
@@ -131,7 +131,7 @@ link_is_node block next items capacity lawful few small =
 pub record IsNodeWritten (bytes : List ℕ) (next : ℕ) (items : List Item) : Type 0 where
   pub written : bytes ≡ chain_bytes next items
   pub read : link_at bytes ≡ Some (link true next items)
-  pub node : (block : ℕ) → 4096 ≤ block → IsNode block bytes
+  pub node : (block : ℕ) → MIN_BLOCK_BYTES ≤ block → IsNode block bytes
 
 pub node_written : (bytes : List ℕ) (next count : ℕ) (spelled : List ℕ) (items : List Item) → AreSpelled count spelled items → length items ≤ NODE_ENTRIES → next < 2 ^ 32 → (next ≡ 0) ⊎ (length items ≡ NODE_ENTRIES)
     → bytes ≡ codes "UFNE" ++ (little_bytes 4 count ++ (little_bytes 4 (length spelled) ++ (little_bytes 4 next ++ spelled))) → IsNodeWritten bytes next items

@@ -1,7 +1,7 @@
 //! One node of a directory: its entries, and the block of the node after it.
 ghost use Rattle.std.specs.Prelude.{◌≡◌, ℕ, ◌≤◌, ◌⊎◌, ◌&&◌, ◌==◌, nat_le, nat_lt, List, [], length, min, take, drop, true, Some, IfOk, IfSome};
 ghost use Rattle.std.specs.Option.{option_map, option_and_then};
-ghost use Rattle.fs_types.specs.declared.limits.TheConstants.{NODE_ENTRIES};
+ghost use Rattle.fs_types.specs.declared.limits.TheConstants.{MIN_BLOCK_BYTES, NODE_ENTRIES};
 ghost use Rattle.node_format.specs.Headers.{IsNode, directory_header, chain_magic, field};
 ghost use Rattle.node_format.specs.Items.{named_place};
 ghost use Rattle.node_format.specs.Directories.{entries_at};
@@ -176,7 +176,7 @@ pub fn first_name(front: &[u8]) -> Option<&[u8]>
 pub const fn empty_directory() -> [u8; 16]
     ensures written { result ≡ chain_bytes 0 [] }
     ensures read { link_at result ≡ Some (link true 0 []) }
-    ensures node { (block : ℕ) → 4096 ≤ block → IsNode block result }
+    ensures node { (block : ℕ) → MIN_BLOCK_BYTES ≤ block → IsNode block result }
 {
     *b"UFNE\0\0\0\0\0\0\0\0\0\0\0\0"
 }
@@ -188,7 +188,7 @@ pub fn chain_node(alloc: Global, list: &EntryList<'_>, next: u32) -> Result<Vec<
     requires full { (next ≡ 0) ⊎ (length list.now ≡ NODE_ENTRIES) }
     ensures written { IfOk result (λ bytes. bytes.items ≡ chain_bytes next list.now) }
     ensures read { IfOk result (λ bytes. link_at bytes.items ≡ Some (link true next list.now)) }
-    ensures node { IfOk result (λ bytes. (block : ℕ) → 4096 ≤ block → IsNode block bytes.items) }
+    ensures node { IfOk result (λ bytes. (block : ℕ) → MIN_BLOCK_BYTES ≤ block → IsNode block bytes.items) }
 {
     let spelled = list.bytes;
     let mut out = Vec::with_capacity(alloc, 16 + spelled.len())?;

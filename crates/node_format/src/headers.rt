@@ -1,4 +1,5 @@
 ghost use Rattle.std.specs.Prelude.{◌≡◌, ◌≤◌, length, take};
+ghost use Rattle.fs_types.specs.declared.limits.TheConstants.{MIN_BLOCK_BYTES};
 ghost use Rattle.node_format.specs.Headers as spec;
 
 use fields::u32_at;
@@ -34,7 +35,7 @@ pub fn slot_law()
 /// formed. Only the first 16 bytes are looked at.
 pub fn node_size(block_bytes: u32, header: &[u8]) -> Option<u32>
     requires header { 16 ≤ length header.now }
-    requires least { 4096 ≤ block_bytes }
+    requires least { MIN_BLOCK_BYTES ≤ block_bytes }
     requires most { block_bytes ≤ 262144 }
     ensures size { result ≡ spec.node_size block_bytes header.now }
     ensures local { result ≡ spec.node_size block_bytes (take 16 header.now) }
@@ -56,7 +57,7 @@ pub fn node_size(block_bytes: u32, header: &[u8]) -> Option<u32>
 
 /// A body node uses at least one byte, and fits in its block.
 fn body_size(block_bytes: u32, used: u32) -> Option<u32>
-    requires least { 4096 ≤ block_bytes }
+    requires least { MIN_BLOCK_BYTES ≤ block_bytes }
     requires most { block_bytes ≤ 262144 }
     ensures { result ≡ spec.body_size block_bytes used }
 {
@@ -68,7 +69,7 @@ fn body_size(block_bytes: u32, used: u32) -> Option<u32>
 
 /// A node of a directory has at most 32 entries, and fits in its block.
 fn directory_size(block_bytes: u32, count: u32, used: u32) -> Option<u32>
-    requires least { 4096 ≤ block_bytes }
+    requires least { MIN_BLOCK_BYTES ≤ block_bytes }
     requires most { block_bytes ≤ 262144 }
     ensures { result ≡ spec.directory_size block_bytes count used }
 {

@@ -2,7 +2,7 @@
 ghost use Rattle.std.specs.Prelude.{◌≡◌, ◌≢◌, ℕ, ◌+◌, ◌≤◌, ◌<◌, Bool, true, false, List, length, Option, Some, None, OnOk, IfOk, IfErr, IsErrOf};
 ghost use Rattle.fs_types.specs.declared.fault.Fault.{Fault};
 ghost use Rattle.fs_types.specs.declared.fault.Fault.TheVariants.{NoMemory, Damaged};
-ghost use Rattle.fs_types.specs.declared.limits.TheConstants.{ANCHORS};
+ghost use Rattle.fs_types.specs.declared.limits.TheConstants.{ANCHORS, MIN_BLOCK_BYTES};
 ghost use Rattle.node_format.specs.Headers.{IsNode};
 ghost use Rattle.node_store.specs.Faults.{IsLookFault, IsReadFault, IsWriteFault};
 ghost use Rattle.node_store.specs.Frames.{OnlyLooks, Works};
@@ -65,7 +65,7 @@ pub trait Nodes {
     fn block_bytes(&self) -> u32
         requires { is_sound self.now }
         ensures value { result ≡ limit self.now }
-        ensures least { 4096 ≤ result }
+        ensures least { MIN_BLOCK_BYTES ≤ result }
         ensures most { result ≤ 262144 };
 
     /// The number of blocks, anchors included.

@@ -9,5 +9,5 @@ mod room;
 mod space;
 mod systems;
 
-pub use mounts::{MOUNTED_NODES, mount, mount_with};
+pub use mounts::{mount, mount_with};
 pub use systems::System;

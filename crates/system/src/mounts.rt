@@ -1,5 +1,6 @@
 //! Mounting what the newest record of a flash holds.
 ghost use Rattle.std.specs.Prelude.{◌≡◌, ◌≢◌, ◌↔◌, ◌⊎◌, ◌<◌, [], Err, IfOk, OnErr, IfErr};
+ghost use Rattle.fs_types.specs.declared.limits.TheConstants.{MOUNTED_NODES};
 ghost use Rattle.fs_types.specs.declared.fault.Fault.{Fault};
 ghost use Rattle.flash_model.specs.Reading.{OnlyReads};
 ghost use Rattle.node_cache.specs.declared.cache.TheConstants.{MAX_CACHED_NODES};
@@ -10,13 +11,10 @@ ghost use Rattle.system.specs.Systems.{IsSystem};
 use crate::systems::System;
 use commit_pair::Anchors;
 use flash_model::Flash;
-use fs_types::Fault;
+use fs_types::{Fault, MOUNTED_NODES};
 use mounting::load;
 use node_cache::NodeCache;
 use std::alloc::Global;
-
-/// How many nodes a mounted system keeps in memory, where no other number is asked.
-pub const MOUNTED_NODES: usize = 8;
 
 /// Mounts what the newest record of a flash holds, with a cache in which no block is listed.
 fn mount_cached<F: Flash>(alloc: Global, flash: &mut F, cache: NodeCache) -> Result<System, Fault>
@@ -84,7 +82,7 @@ pub fn mount_with<F: Flash>(alloc: Global, flash: &mut F, nodes: usize) -> Resul
 pub fn mount<F: Flash>(alloc: Global, flash: &mut F) -> Result<System, Fault>
     ensures ok { IfOk result (IsMountOf (F.device flash.old) (F.device flash.new)) }
     ensures system { IfOk result (IsSystem (F.device flash.new)) }
-    ensures room { IfOk result (λ system. system.state.storage.cache.room ≡ 8) }
+    ensures room { IfOk result (λ system. system.state.storage.cache.room ≡ MOUNTED_NODES) }
     ensures only_reads { OnlyReads (F.device flash.old) (F.device flash.new) }
     ensures asks { IfOk result (λ _. AsksToMount (F.device flash.old) (F.device flash.new)) }
     ensures asks_at_most { OnErr result (AsksUntilRefused (F.device flash.old) (F.device flash.new)) }

@@ -46,7 +46,7 @@ impl<'f, F: Flash> Fs<'f, F> {
     ghost use Rattle.system.specs.Mounts.{AsksToMount};
     ghost use Rattle.system.specs.Mounts.{IsMountOf};
     ghost use Rattle.system.specs.Reclaiming.{Reclaims};
-    ghost use Rattle.system.specs.declared.mounts.TheConstants.{MOUNTED_NODES};
+    ghost use Rattle.fs_types.specs.declared.limits.TheConstants.{MOUNTED_NODES};
     ghost use Rattle.undofs.specs.Refusals.{RefusesMount};
     ghost use Rattle.undofs.specs.Values.{descriptor_reply, log_reply, space_reply};
     ghost use Rattle.undofs.specs.Systems.{moment_of, without_nodes, StepsBetween, TellsNothing, flash_name};

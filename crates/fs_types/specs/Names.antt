@@ -1,8 +1,8 @@
 -- Names, paths and names of checkpoints, by the bytes that spell them.
-use Rattle.std.specs.Prelude.{ℕ, Bool, not, ◌==◌, ◌&&◌, ◌||◌, nat_lt, nat_le, nat_eq, Option, Some, None, List, [], ◌∷◌, length, drop, if◌then◌else◌}
+use Rattle.std.specs.Prelude.{ℕ, Bool, true, not, ◌==◌, ◌&&◌, ◌||◌, nat_lt, nat_le, nat_eq, Option, Some, None, List, [], ◌∷◌, length, drop, if◌then◌else◌}
 use Rattle.std.specs.List.{list_all, slice_split}
 use Rattle.std.specs.Cmp.Lexicographic.{slice_cmp}
-use Rattle.std.specs.Ordering.{nat_cmp}
+use Rattle.std.specs.Ordering.{nat_cmp, is_lt}
 use Rattle.std.specs.declared.cmp.Ordering.{Ordering}
 use Rattle.fs_types.specs.declared.limits.TheConstants.{MAX_NAME_BYTES, MAX_NAMES, MAX_CHECKPOINT_BYTES}
 use Rattle.fs_types.specs.declared.fault.Fault.{Fault}
@@ -32,6 +32,11 @@ name_cmp = slice_cmp nat_cmp
 abbrev pub path_cmp : Path → Path → Ordering
 path_cmp = slice_cmp name_cmp
 
+-- a name comes after another one in byte order; where none is given, each does
+abbrev pub is_after : Option Name → Name → Bool
+is_after None name = true
+is_after (Some from) name = is_lt (name_cmp from name)
+
 -- `.` and `..`
 abbrev pub is_dots : Name → Bool
 is_dots name = same_name name (46 ∷ []) || same_name name (46 ∷ 46 ∷ [])
@@ -47,6 +52,10 @@ is_name name = is_lawful name && nat_le (length name) MAX_NAME_BYTES
 -- lawful names, and not too many
 abbrev pub is_path : Path → Bool
 is_path path = list_all is_name path && nat_le (length path) MAX_NAMES
+
+-- why bytes are no name: an unlawful one comes before one that is too long
+abbrev pub name_refusal : List ℕ → Option Fault
+name_refusal bytes = if not (is_lawful bytes) then Some Invalid else if not (is_name bytes) then Some NameTooLong else None
 
 -- what stands between the slashes after the first byte; none in `/`
 abbrev pub components_of : List ℕ → Path

@@ -1,4 +1,5 @@
 -- A request that is lent, as the call that it is.
+use Rattle.std.specs.Option.{option_copied}
 use Rattle.fs_types.specs.declared.call.Call.{Call}
 use Rattle.fs_types.specs.declared.request.Request.{Request}
 
@@ -18,6 +19,7 @@ call_of Request.Sync = Call.Sync
 call_of (Request.Stat view path) = Call.Stat view.now path.now
 call_of (Request.List view path) = Call.List view.now path.now
 call_of (Request.ReadAt view path offset count) = Call.ReadAt view.now path.now offset count
+call_of (Request.Entries view path from most) = Call.Entries view.now path.now (option_copied from) most
 call_of Request.Log = Call.Log
 call_of Request.Df = Call.Df
 call_of Request.Undo = Call.Undo

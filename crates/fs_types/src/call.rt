@@ -114,6 +114,14 @@ pub enum Call {
         offset: u64,
         count: u64,
     },
+    /// At most `most` entries of a directory, in byte order of their names: those after the name `from`,
+    /// or from the first one on.
+    Entries {
+        view: View,
+        path: Path,
+        from: Option<Name>,
+        most: u64,
+    },
     /// The history.
     Log,
     /// How much of the flash is free.
@@ -165,6 +173,8 @@ pub enum Reply {
     Stat(Stat),
     /// The names of a directory in byte order, each with whether it is a directory.
     Names(Sequence<(Name, bool)>),
+    /// Entries of a directory by their names in byte order, each with what stands there.
+    Entries(Sequence<(Name, Stat)>),
     /// The history: the next serial, whether versions were dropped, the kept serials, the place of
     /// the present one among them, and the names of the checkpoints in byte order.
     Log {

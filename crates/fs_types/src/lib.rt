@@ -21,7 +21,7 @@ pub use limits::{
     MAX_FILE_BYTES, MAX_NAME_BYTES, MAX_NAMES, MAX_OPEN_FILES, MAX_VERSIONS, MIN_BLOCK_BYTES,
     MIN_VERSIONS, MOUNTED_NODES, NODE_ENTRIES, limit_laws,
 };
-pub use name::Name;
+pub use name::{Name, is_after};
 pub use open_flags::OpenFlags;
 pub use path::{Path, is_lawful_name};
 pub use request::Request;

@@ -4,6 +4,7 @@ ghost use Rattle.fs_types.specs.Requests.{call_of};
 
 use crate::call::{Call, View};
 use crate::cp_name::CpName;
+use crate::name::Name;
 use crate::open_flags::OpenFlags;
 use crate::path::Path;
 
@@ -65,6 +66,12 @@ pub enum Request<'a> {
         path: &'a Path,
         offset: u64,
         count: u64,
+    },
+    Entries {
+        view: &'a View,
+        path: &'a Path,
+        from: Option<&'a Name>,
+        most: u64,
     },
     Log,
     Df,
@@ -149,6 +156,17 @@ impl Call {
                 path,
                 offset: *offset,
                 count: *count,
+            },
+            Call::Entries {
+                view,
+                path,
+                from,
+                most,
+            } => Request::Entries {
+                view,
+                path,
+                from: from.as_ref(),
+                most: *most,
             },
             Call::Log => Request::Log,
             Call::Df => Request::Df,

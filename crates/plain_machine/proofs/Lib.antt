@@ -1,2 +1,3 @@
+pub mod EntryLists
 pub mod Restored
 pub mod Sums

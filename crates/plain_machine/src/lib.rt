@@ -2,6 +2,7 @@
 #![tactic(auto)]
 
 mod effects;
+mod entries;
 mod groups;
 mod machine;
 mod needs;

@@ -48,6 +48,7 @@ pub fn refusal(
         Call::Stat { view, path } => stat_refusal(history, group, view, path),
         Call::List { view, path } => list_refusal(history, group, view, path),
         Call::ReadAt { view, path, .. } => read_at_refusal(history, group, view, path),
+        Call::Entries { view, path, .. } => list_refusal(history, group, view, path),
         Call::Log => None,
         Call::Df => None,
         Call::Undo => travel_refusal(group, files, history.check_undo().err()),

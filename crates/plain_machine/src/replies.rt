@@ -12,9 +12,10 @@ ghost use Rattle.plain_machine.specs.Plain.{machine_of_tree, no_space};
 ghost use Rattle.plain_machine.specs.Spaces.{space_of};
 ghost use Rattle.history_machine.specs.Machine.{machine_with};
 
+use crate::entries::entries_after;
 use crate::groups::{seen_tree, working_tree};
 use crate::space::Space;
-use fs_types::{Call, Group, Path, Reply, Sequence, Stat, View};
+use fs_types::{Call, Group, Name, Path, Reply, Sequence, Stat, View};
 use history::History;
 use memory_trees::Tree;
 use open_files::OpenFiles;
@@ -85,6 +86,12 @@ pub fn reply(
             offset,
             count,
         } => read_at(alloc, history, group, view, path, *offset, *count),
+        Call::Entries {
+            view,
+            path,
+            from,
+            most,
+        } => entries(alloc, history, group, view, path, from, *most),
         Call::Log => log(alloc, history),
         Call::Df => Ok(Reply::Df {
             blocks: space.blocks,
@@ -120,17 +127,18 @@ fn stat(history: &History<Tree>, group: &Option<Group<Tree>>, view: &View, path:
     ensures { result ≡ machine.reply_of no_space (machine_with history.now group.now none_open) (Call.Stat view.now path.now) }
 {
     match seen_tree(history, group, view) {
-        Ok(tree) => Reply::Stat(stat_of(tree, path)),
+        Ok(tree) => Reply::Stat(stat_of(tree, path.names())),
         Err(_) => Reply::Empty,
     }
 }
 
-fn stat_of(tree: &Tree, path: &Path) -> Stat
-    ensures { result ≡ machine.stat_of tree.now path.now (get tree.now path.now) }
+/// What stands at the path of these names, of one that leads somewhere.
+pub fn stat_of(tree: &Tree, path: &[Name]) -> Stat
+    ensures { result ≡ machine.stat_at tree.now path.now }
 {
-    match tree.get(path.names()) {
+    match tree.get(path) {
         Some(node) if !node.is_dir() => Stat::File(node.bytes().len() as u64),
-        _ => Stat::Dir(tree.entry_count(path.names()) as u64),
+        _ => Stat::Dir(tree.entry_count(path) as u64),
     }
 }
 
@@ -164,6 +172,30 @@ fn read_at(
 {
     match seen_tree(history, group, view) {
         Ok(tree) => bytes_reply(alloc, read_from(bytes_at(tree, path), offset, count)),
+        Err(_) => Ok(Reply::Empty),
+    }
+}
+
+fn entries(
+    alloc: Global,
+    history: &History<Tree>,
+    group: &Option<Group<Tree>>,
+    view: &View,
+    path: &Path,
+    from: &Option<Name>,
+    most: u64,
+) -> Result<Reply, AllocError>
+    requires { machine.refusal (machine_with history.now group.now none_open) (Call.Entries view.now path.now from.now most) ≡ None }
+    ensures { IfOk result (λ reply. reply ≡ machine.reply_of no_space (machine_with history.now group.now none_open) (Call.Entries view.now path.now from.now most)) }
+{
+    match seen_tree(history, group, view) {
+        Ok(tree) => Ok(Reply::Entries(entries_after(
+            alloc,
+            tree,
+            path.names(),
+            from.as_ref(),
+            most,
+        )?)),
         Err(_) => Ok(Reply::Empty),
     }
 }

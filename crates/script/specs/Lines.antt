@@ -4,12 +4,12 @@ use Rattle.std.specs.List.{slice_split}
 use Rattle.std.specs.Map.{lookup}
 use Rattle.std.specs.Option.{option_map}
 use Rattle.std.specs.Str.{bytes_eq}
-use Rattle.fs_types.specs.Names.{Path, path_refusal, components_of, is_checkpoint_name}
+use Rattle.fs_types.specs.Names.{Name, Path, name_refusal, path_refusal, components_of, is_checkpoint_name}
 use Rattle.fs_types.specs.declared.fault.Fault.{Fault}
 use Rattle.fs_types.specs.declared.fault.Fault.TheVariants.{Invalid}
 use Rattle.fs_types.specs.declared.call.View.{View}
 use Rattle.fs_types.specs.declared.call.View.TheVariants.{Present, Serial, Checkpoint as checkpoint_view}
-use Rattle.fs_types.specs.declared.call.Call.TheVariants.{Open, Close, Pread, Pwrite, Ftruncate, WriteFile, Rename, Unlink, Mkdir, Rmdir, Fsync, Sync, Stat, List as list_call, ReadAt, Log, Df, Undo, Redo, Goto, Rollback, Forget, Checkpoint, RemoveCheckpoint, Begin, End, Abandon}
+use Rattle.fs_types.specs.declared.call.Call.TheVariants.{Open, Close, Pread, Pwrite, Ftruncate, WriteFile, Rename, Unlink, Mkdir, Rmdir, Fsync, Sync, Stat, List as list_call, ReadAt, Entries, Log, Df, Undo, Redo, Goto, Rollback, Forget, Checkpoint, RemoveCheckpoint, Begin, End, Abandon}
 use Rattle.script.specs.Kinds.{kinds}
 use Rattle.script.specs.Verbs.{verbs}
 use Rattle.script.specs.declared.verb.Verb.{Verb}
@@ -37,6 +37,15 @@ path_of bytes = allowed (path_refusal bytes) (components_of bytes)
 
 abbrev pub name_of : List ℕ → Result (List ℕ) Misread
 name_of bytes = if is_checkpoint_name bytes then Ok bytes else Err (refused Invalid)
+
+-- a name of a directory's entry
+abbrev pub entry_name_of : List ℕ → Result Name Misread
+entry_name_of bytes = allowed (name_refusal bytes) bytes
+
+-- the name after which entries are wanted; no bytes name none, so that the first ones are
+abbrev pub from_of : List ℕ → Result (Option Name) Misread
+from_of [] = Ok None
+from_of (b ∷ bytes) = entry_name_of (b ∷ bytes) >>= λ name. Ok (Some name)
 
 -- the words after the first one: none, one, two or three, or some and then a view
 abbrev pub no_words : List (List ℕ) → Result (Unit {0}) Misread
@@ -182,6 +191,18 @@ list_line words = do
   parts ← path_and_view words
   Ok (Call (list_call parts.1 parts.0))
 
+abbrev pub entries_line : List (List ℕ) → Result Line Misread
+entries_line words = do
+  parts ← three_words_and_view words
+  bytes ← well_formed (text_from parts.0)
+  from ← well_formed (text_from parts.1)
+  most ← well_formed (number_from parts.2)
+  named ← named_view parts.3
+  path ← path_of bytes
+  name ← from_of from
+  view ← view_of named
+  Ok (Call (Entries view path name most))
+
 -- a line of its verb alone
 abbrev pub alone : Line → List (List ℕ) → Result Line Misread
 alone line words = no_words words >>= λ _. Ok line
@@ -211,6 +232,7 @@ asked Verb.Sync words = alone (Call Sync) words
 asked Verb.Stat words = stat_line words
 asked Verb.Ls words = list_line words
 asked Verb.Read words = read_line words
+asked Verb.Entries words = entries_line words
 asked Verb.Undo words = alone (Call Undo) words
 asked Verb.Redo words = alone (Call Redo) words
 asked Verb.Goto words = only_number words >>= λ serial. Ok (Call (Goto serial))

@@ -5,7 +5,7 @@ use Rattle.std.specs.List.{flat_map, enumerate_from}
 use Rattle.fs_types.specs.Faults.{number_of, word_of}
 use Rattle.fs_types.specs.declared.fault.Fault.{Fault}
 use Rattle.fs_types.specs.declared.call.Reply.{Reply}
-use Rattle.fs_types.specs.declared.call.Reply.TheVariants.{Empty, Fd, Bytes, Count, Stat as status, Names, Log, Df, Step}
+use Rattle.fs_types.specs.declared.call.Reply.TheVariants.{Empty, Fd, Bytes, Count, Stat as status, Names, Entries, Log, Df, Step}
 use Rattle.fs_types.specs.declared.call.Stat.{Stat}
 use Rattle.fs_types.specs.declared.call.Stat.TheVariants.{Dir, File}
 use Rattle.script.specs.Words.{is_plain}
@@ -33,6 +33,12 @@ escaped name = flat_map escaped_byte name
 -- a name with a space before it, and `/` after a directory's
 abbrev pub entry_text : List ℕ × Bool → List ℕ
 entry_text entry = 32 ∷ escaped entry.0 ++ (if entry.1 then 47 ∷ [] else [])
+
+-- a name with a space before it, and what stands there: a directory's `/` and how many entries it has, or how many
+-- bytes a file has
+abbrev pub standing_text : List ℕ × Stat → List ℕ
+standing_text (name, Dir entries) = 32 ∷ escaped name ++ codes "/ " ++ decimal entries
+standing_text (name, File size) = 32 ∷ escaped name ++ codes " " ++ decimal size
 
 -- a serial with a space before it, and `*` before the present one
 abbrev pub marked_serial : Bool → ℕ → List ℕ
@@ -67,6 +73,7 @@ reply_text (Bytes bytes) = data_text bytes
 reply_text (Count count) = codes "wrote " ++ decimal count
 reply_text (status stat) = stat_text stat
 reply_text (Names names) = codes "entries " ++ decimal (length names) ++ flat_map entry_text names
+reply_text (Entries entries) = codes "entries " ++ decimal (length entries) ++ flat_map standing_text entries
 reply_text (Log next dropped versions cursor checkpoints) = log_text next dropped versions cursor checkpoints
 reply_text (Df blocks bad free anchors) = df_text blocks bad free anchors
 reply_text (Step done) = if done then codes "done" else codes "more"

@@ -1,12 +1,12 @@
 //! The words after the first one of a line.
 ghost use Rattle.std.specs.Prelude.{◌≡◌, ◌≢◌, Ok, Err, IfOk, IfErr, MatchResult, map};
-ghost use Rattle.script.specs.Lines.{path_of, name_of, no_words, one_word, two_words, three_words, one_word_and_view, three_words_and_view, view_from, named_view, view_of};
+ghost use Rattle.script.specs.Lines.{path_of, entry_name_of, from_of, name_of, no_words, one_word, two_words, three_words, one_word_and_view, three_words_and_view, view_from, named_view, view_of};
 ghost use Rattle.script.specs.declared.misread.Misread.TheVariants.{NoMemory};
 
 use crate::misread::Misread;
 use crate::views::NamedView;
 use crate::words::{number, text};
-use fs_types::{CpName, Fault, Path, View};
+use fs_types::{CpName, Fault, Name, Path, View};
 use std::alloc::Global;
 
 /// The path that bytes spell, or its refusal.
@@ -19,6 +19,29 @@ pub fn parse_path(alloc: Global, bytes: &[u8]) -> Result<Path, Misread>
         Err(Fault::NoMemory) => Err(Misread::NoMemory),
         Err(fault) => Err(Misread::Refused(fault)),
     }
+}
+
+/// The name of an entry that bytes spell, or its refusal.
+fn parse_entry_name(alloc: Global, bytes: &[u8]) -> Result<Name, Misread>
+    ensures ok { IfOk result (λ name. entry_name_of bytes.now ≡ Ok name) }
+    ensures err { IfErr result (λ e. e ≢ NoMemory → entry_name_of bytes.now ≡ Err e) }
+{
+    match Name::parse(alloc, bytes) {
+        Ok(name) => Ok(name),
+        Err(Fault::NoMemory) => Err(Misread::NoMemory),
+        Err(fault) => Err(Misread::Refused(fault)),
+    }
+}
+
+/// The name of an entry that bytes spell, or its refusal; no bytes name none.
+pub fn parse_from(alloc: Global, bytes: &[u8]) -> Result<Option<Name>, Misread>
+    ensures ok { IfOk result (λ name. from_of bytes.now ≡ Ok name) }
+    ensures err { IfErr result (λ e. e ≢ NoMemory → from_of bytes.now ≡ Err e) }
+{
+    if bytes.is_empty() {
+        return Ok(None);
+    }
+    Ok(Some(parse_entry_name(alloc, bytes)?))
 }
 
 /// The name of a checkpoint that bytes spell, or its refusal.

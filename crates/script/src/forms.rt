@@ -1,10 +1,10 @@
 //! Lines by the words after the first.
 ghost use Rattle.std.specs.Prelude.{◌≡◌, ◌≢◌, Ok, Err, IfOk, IfErr, map};
 ghost use Rattle.script.specs.declared.misread.Misread.TheVariants.{NoMemory};
-ghost use Rattle.script.specs.Lines.{fault_line, open_line, pread_line, pwrite_line, ftruncate_line, write_line, rename_line, read_line, only_number, only_path, lone_name, path_and_view, path_in_view, stat_line, list_line};
+ghost use Rattle.script.specs.Lines.{fault_line, open_line, pread_line, pwrite_line, ftruncate_line, write_line, rename_line, read_line, entries_line, only_number, only_path, lone_name, path_and_view, path_in_view, stat_line, list_line};
 
 use crate::arguments::{
-    named_view, one_word, one_word_and_view, parse_name, parse_path, three_words,
+    named_view, one_word, one_word_and_view, parse_from, parse_name, parse_path, three_words,
     three_words_and_view, two_words, view_of,
 };
 use crate::kinds::kind_of;
@@ -108,6 +108,27 @@ pub fn read(alloc: Global, words: &[&[u8]]) -> Result<Line, Misread>
         path,
         offset,
         count,
+    }))
+}
+
+/// `entries`: a path, the name after which they begin, a count and perhaps a view.
+pub fn entries(alloc: Global, words: &[&[u8]]) -> Result<Line, Misread>
+    ensures ok { IfOk result (λ line. entries_line (map (λ w. w.now) words.now) ≡ Ok line) }
+    ensures err { IfErr result (λ e. e ≢ NoMemory → entries_line (map (λ w. w.now) words.now) ≡ Err e) }
+{
+    let (path, from, most, view) = three_words_and_view(words)?;
+    let path = text(alloc, path)?;
+    let from = text(alloc, from)?;
+    let most = number(most)?;
+    let view = named_view(alloc, view)?;
+    let path = parse_path(alloc, path.as_slice())?;
+    let from = parse_from(alloc, from.as_slice())?;
+    let view = view_of(&view)?;
+    Ok(Line::Call(Call::Entries {
+        view,
+        path,
+        from,
+        most,
     }))
 }
 

@@ -6,8 +6,8 @@ ghost use Rattle.script.specs.Lines.{alone, asked, line_of, line_of_words};
 
 use crate::arguments::no_words;
 use crate::forms::{
-    fault, ftruncate, list, only_name, only_number, only_path, open, pread, pwrite, read, rename,
-    stat, write_file,
+    entries, fault, ftruncate, list, only_name, only_number, only_path, open, pread, pwrite, read,
+    rename, stat, write_file,
 };
 use crate::misread::Misread;
 use crate::verb::{Verb, verb_of};
@@ -65,6 +65,7 @@ fn line_by_verb(alloc: Global, verb: Verb, words: &[&[u8]]) -> Result<Line, Misr
         Verb::Stat => stat(alloc, words),
         Verb::Ls => list(alloc, words),
         Verb::Read => read(alloc, words),
+        Verb::Entries => entries(alloc, words),
         Verb::Undo => line_without_words(words, Line::Call(Call::Undo)),
         Verb::Redo => line_without_words(words, Line::Call(Call::Redo)),
         Verb::Goto => only_number(words).map(|serial| Line::Call(Call::Goto { serial })),

@@ -1,7 +1,7 @@
 //! What is printed for an answer.
 ghost use Rattle.std.specs.Prelude.{◌≡◌, ◌++◌, [], ◌∷◌, length, decimal, codes, OnOk, if◌then◌else◌};
 ghost use Rattle.std.specs.List.{flat_map, enumerate_from};
-ghost use Rattle.script.specs.Replies.{data_text, entry_text, marked_serial, serial_text, name_text, log_text, df_text, stat_text, reply_text, refusal_text, told_text, text_of};
+ghost use Rattle.script.specs.Replies.{data_text, entry_text, standing_text, marked_serial, serial_text, name_text, log_text, df_text, stat_text, reply_text, refusal_text, told_text, text_of};
 
 use crate::digits::{print_hex, print_name, print_number};
 use crate::line_answer::LineAnswer;
@@ -52,6 +52,35 @@ fn print_names(out: &mut Vec<u8>, entries: &[(Name, bool)]) -> Result<(), AllocE
     out.extend_from_slice(b"entries ")?;
     print_number(out, entries.len() as u64)?;
     print_entries(out, entries)
+}
+
+/// A name with what stands there.
+fn print_standing(out: &mut Vec<u8>, name: &Name, stat: Stat) -> Result<(), AllocError>
+    ensures { OnOk result (out.new.items ≡ out.old.items ++ standing_text (name.now, stat)) }
+{
+    out.push(b' ')?;
+    print_name(out, name.as_bytes())?;
+    match stat {
+        Stat::Dir(entries) => print_labelled(out, b"/ ", entries),
+        Stat::File(length) => print_labelled(out, b" ", length),
+    }
+}
+
+fn print_standings(out: &mut Vec<u8>, entries: &[(Name, Stat)]) -> Result<(), AllocError>
+    ensures { OnOk result (out.new.items ≡ out.old.items ++ flat_map standing_text entries.now) }
+{
+    for (name, stat) in entries {
+        print_standing(out, name, *stat)?;
+    }
+    Ok(())
+}
+
+fn print_listing(out: &mut Vec<u8>, entries: &[(Name, Stat)]) -> Result<(), AllocError>
+    ensures { OnOk result (out.new.items ≡ out.old.items ++ codes "entries " ++ decimal (length entries.now) ++ flat_map standing_text entries.now) }
+{
+    out.extend_from_slice(b"entries ")?;
+    print_number(out, entries.len() as u64)?;
+    print_standings(out, entries)
 }
 
 fn print_serial(out: &mut Vec<u8>, serial: u64, is_present: bool) -> Result<(), AllocError>
@@ -149,6 +178,7 @@ fn print_reply(out: &mut Vec<u8>, reply: &Reply) -> Result<(), AllocError>
         Reply::Count(count) => print_labelled(out, b"wrote ", *count),
         Reply::Stat(stat) => print_stat(out, *stat),
         Reply::Names(names) => print_names(out, names.as_slice()),
+        Reply::Entries(entries) => print_listing(out, entries.as_slice()),
         Reply::Log {
             next,
             dropped,

@@ -24,6 +24,7 @@ pub enum Verb {
     Stat,
     Ls,
     Read,
+    Entries,
     Undo,
     Redo,
     Goto,
@@ -41,7 +42,7 @@ pub enum Verb {
     PlanFault,
 }
 
-const VERBS: [(&[u8], Verb); 30] = [
+const VERBS: [(&[u8], Verb); 31] = [
     (b"open", Verb::Open),
     (b"close", Verb::Close),
     (b"pread", Verb::Pread),
@@ -57,6 +58,7 @@ const VERBS: [(&[u8], Verb); 30] = [
     (b"stat", Verb::Stat),
     (b"ls", Verb::Ls),
     (b"read", Verb::Read),
+    (b"entries", Verb::Entries),
     (b"undo", Verb::Undo),
     (b"redo", Verb::Redo),
     (b"goto", Verb::Goto),

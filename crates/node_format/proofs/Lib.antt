@@ -9,5 +9,6 @@ pub mod Edited
 pub mod BodyFields
 pub mod LinkLaws
 pub mod FirstNames
+pub mod FrontCounts
 pub mod Known
 pub mod OnePass

@@ -1,5 +1,5 @@
 -- One node of a directory: its entries, and the block of the node after it.
-use Rattle.std.specs.Prelude.{◌≡◌, ℕ, zero, suc, ◌==◌, ◌^◌, ◌<◌, ◌≤◌, ◌⊎◌, ◌||◌, Bool, true, false, nat_lt, Option, None, List, [], ◌++◌, length, drop, codes, slice_get, if◌then◌else◌}
+use Rattle.std.specs.Prelude.{◌≡◌, ℕ, zero, suc, ◌==◌, ◌^◌, ◌<◌, ◌≤◌, ◌⊎◌, ◌||◌, Bool, true, false, nat_lt, Option, Some, None, List, [], ◌++◌, length, drop, codes, slice_get, if◌then◌else◌}
 use Rattle.std.specs.Option.{option_map, option_map_or}
 use Rattle.byteorder.specs.Endian.{little_bytes}
 use Rattle.fs_types.specs.declared.limits.TheConstants.{NODE_ENTRIES}
@@ -32,6 +32,16 @@ link_at bytes =
     else if field bytes 0 == directory_magic then option_map (link false 0) (entries_at (field bytes 4) (field bytes 8) (drop directory_header bytes))
     else if field bytes 0 == chain_magic then
     (if may_go_on (field bytes 12) (field bytes 4) then option_map (link true (field bytes 12)) (entries_at (field bytes 4) (field bytes 8) (drop directory_header bytes)) else None)
+    else None
+
+-- how many entries the header says that a node of a directory has, and the block of the node after it; none where the
+-- bytes do not begin as such a node
+abbrev pub header_says : List ℕ → Option (ℕ × ℕ)
+header_says bytes =
+    if nat_lt (length bytes) directory_header then None
+    else if nat_lt NODE_ENTRIES (field bytes 4) then None
+    else if field bytes 0 == directory_magic then Some (field bytes 4, 0)
+    else if field bytes 0 == chain_magic then Some (field bytes 4, field bytes 12)
     else None
 
 -- the spelling of a node: magic, count of entries, used bytes, four bytes more, entries

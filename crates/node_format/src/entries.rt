@@ -151,6 +151,40 @@ fn read(bytes: &[u8]) -> Option<Entries<'_>>
     })
 }
 
+/// What the header says of a node of a directory: how many entries it has, at most 32, and the block of
+/// the node after it.
+fn counted_header(bytes: &[u8]) -> Option<(u32, u32)>
+    ensures exact { result ≡ spec.header_says bytes.now }
+    ensures few { IfSome result (λ r. r.0 ≤ NODE_ENTRIES) }
+{
+    if bytes.len() < 16 {
+        return None;
+    }
+    let count = u32_at(bytes, 4);
+    if count > MOST_ENTRIES {
+        return None;
+    }
+    let magic = u32_at(bytes, 0);
+    if magic == DIRECTORY_MAGIC {
+        return Some((count, 0));
+    }
+    if magic == CHAIN_MAGIC {
+        return Some((count, u32_at(bytes, 12)));
+    }
+    None
+}
+
+/// How many entries the node of a directory has that begins with these bytes, at most 32, and the block
+/// of the node after it, 0 where none comes. 16 bytes of the node tell it; None where no such node
+/// begins so.
+pub fn front_count(front: &[u8]) -> Option<(u32, u32)>
+    ensures told { (bytes : List ℕ) (l : Link) → take (length bytes) front.now ≡ take (length front.now) bytes → min 16 (length bytes) ≤ length front.now
+        → link_at bytes ≡ Some l → result ≡ Some (length l.items, l.next) }
+    ensures few { IfSome result (λ r. r.0 ≤ NODE_ENTRIES) }
+{
+    counted_header(front)
+}
+
 /// Whether a node of a chain that has entries begins so.
 fn begins_entries(front: &[u8]) -> bool
     ensures exact { result ≡ (nat_le 16 (length front.now) && (field front.now 0 == chain_magic && nat_lt 0 (field front.now 4))) }

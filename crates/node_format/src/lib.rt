@@ -11,7 +11,7 @@ mod spelled;
 mod split;
 
 pub use body_nodes::{BodyNode, body_node, body_room};
-pub use entries::{Entries, chain_node, empty_directory, first_name};
+pub use entries::{Entries, chain_node, empty_directory, first_name, front_count};
 pub use entry::Entry;
 pub use entry_list::EntryList;
 pub use headers::{BODY_HEADER, SLOTS, node_size, slot_law};

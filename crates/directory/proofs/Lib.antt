@@ -15,6 +15,8 @@ pub mod LevelNodes
 pub mod Ways
 pub mod LookupSteps
 pub mod ReadNodes
+pub mod Placed
+pub mod FrontReads
 pub mod TrailEdits
 pub mod Forks
 pub mod Held

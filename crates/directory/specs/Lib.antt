@@ -6,6 +6,7 @@ pub mod Edits
 pub mod Making
 pub mod Moves
 pub mod Depths
+pub mod Places
 pub mod Reads
 pub mod Written
 pub mod Beside

@@ -8,6 +8,8 @@ mod listings;
 mod lookups;
 mod moves;
 mod node_lists;
+mod place_stats;
+mod places;
 mod trail;
 
 pub use depths::{any_is_deeper, depth_laws, is_deeper};
@@ -15,4 +17,6 @@ pub use edits::{put_directory, put_entry, remove_entry};
 pub use listings::{entry_count, is_empty, names};
 pub use lookups::{Found, lookup, lookup_laws};
 pub use moves::move_entry;
+pub use place_stats::stats;
+pub use places::places_after;
 pub use trail::{Trail, find, find_beside};

@@ -6,8 +6,9 @@ use Rattle.fs_types.specs.declared.call.View.{View}
 use Rattle.inquiries.specs.declared.inquiry.Inquiry.{Inquiry}
 use Rattle.shell.specs.Asking.{IsMisspelled, file_at, file_in, tree_in, differences_between, differences_from}
 use Rattle.host_files.specs.Files.{Held, takes_away}
-use Rattle.shell.specs.Tools.{IsTold, IsUnclaimed, Unsaved, GetEnds, TellEnds}
-use Rattle.shell.specs.declared.failure.Failure.{Failure}
+use Rattle.image_jobs.specs.Images.{IsUnclaimed, Unsaved}
+use Rattle.shell.specs.Tools.{IsTold, GetEnds, TellEnds}
+use Rattle.image_jobs.specs.declared.failure.Failure.{Failure}
 
 -- the bytes that are told are put into a file
 pub got_saved : (spelled : Result Inquiry Failure) (name file : List ℕ) (held saved : Held) (inquiry : Inquiry) (bytes lent : List ℕ) (result : Result (Unit {0}) Failure)

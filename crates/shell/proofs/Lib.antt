@@ -1,6 +1,0 @@
-pub mod AskLemmas
-pub mod ImageLemmas
-pub mod MemoryWords
-pub mod PutLemmas
-pub mod SourceLemmas
-pub mod ToolLemmas

@@ -19,21 +19,22 @@ use Rattle.system.specs.declared.systems.System.{System}
 use Rattle.undofs.specs.Runs.{World, Happens, Run}
 use Rattle.undofs.specs.Sessions.{Stands, world}
 use Rattle.undofs.proofs.SessionSteps.{mount_begins, serve_law}
-use Rattle.shell.specs.Failures.{of_refusal}
+use Rattle.image_jobs.specs.Failures.{of_refusal}
 use Rattle.host_files.specs.Files.{Held, AreBytesRead, takes_away}
 use Rattle.shell.specs.Puts.{thing_events, group_start, group_end, put_events, stop_of, GoOn, StopLast, IsThingBy, IsThing, AreThings, Puts, Stops, IsUnput, PlaceCause, PutsBy, PutCause, GatherCause, SpellingCause, path_spelled}
 use Rattle.shell.specs.Served.{Place, place, Turns, ServesAll, Halts, ServesPut, PutsOne, PutsEach, PutsAll}
 use Rattle.host_files.specs.Sources.{Found, source_found}
 use Rattle.shell.specs.Places.{put_place, way_fault, kind_fault, either_fault, source_fault, Unplaced, AreOthers}
 use Rattle.script_runs.specs.Flashes.{IsDecoded}
-use Rattle.shell.specs.Tools.{DecodeCause, IsUnclaimed, IsUnread, IsSpelledFlash, LoadCause, SavesChange, ChangeUnsaved, SourcesEnd}
-use Rattle.shell.specs.declared.failure.Failure.{Failure}
+use Rattle.image_jobs.specs.Images.{DecodeCause, IsUnclaimed, IsUnread, IsSpelledFlash, LoadCause, SavesChange, ChangeUnsaved}
+use Rattle.shell.specs.Tools.{SourcesEnd}
+use Rattle.image_jobs.specs.declared.failure.Failure.{Failure}
 use Rattle.shell.specs.declared.put.Mounted.{Mounted}
 use Rattle.script_runs.specs.declared.scripts.Refusal.{Refusal}
 use Rattle.host_files.specs.declared.source.Source.{Source}
 use Rattle.host_files.specs.declared.source.SourceKind.{SourceKind}
 use Rattle.shell.specs.declared.thing.Thing.{Thing}
-use Rattle.shell.proofs.ImageLemmas.{loaded_front, cause_front, cause_unread}
+use Rattle.image_jobs.proofs.ImageLemmas.{loaded_front, cause_front, cause_unread}
 
 -- ---- events
 

@@ -10,11 +10,12 @@ use Rattle.jobs.specs.Grammar.{uffs}
 use Rattle.jobs.specs.Jobs.{SaysJob, given, has_no_image}
 use Rattle.jobs.specs.declared.tasks.Job.{Job}
 use Rattle.jobs.specs.declared.tasks.Task.{Task}
-use Rattle.shell.specs.Failures.{of_script, failure_status, job_status, fault_status}
+use Rattle.image_jobs.specs.Failures.{of_script, failure_status, job_status, fault_status}
 use Rattle.host_files.specs.Files.{Held}
 use Rattle.script_runs.specs.Scripts.{streams_at}
-use Rattle.shell.specs.Tools.{Host, Known, streams_of, EndsAlone, EndsFor, MemoryEnds, MemoryBy, ToolEnds, refused_status, is_memory}
-use Rattle.shell.specs.declared.failure.Failure.{Failure}
+use Rattle.image_jobs.specs.Images.{Host, streams_of}
+use Rattle.shell.specs.Tools.{Known, EndsAlone, EndsFor, MemoryEnds, MemoryBy, ToolEnds, refused_status, is_memory}
+use Rattle.image_jobs.specs.declared.failure.Failure.{Failure}
 use Rattle.script_runs.specs.declared.scripts.ScriptFault.{ScriptFault}
 use Rattle.shell.proofs.MemoryWords.{memory_fault, memory_given}
 

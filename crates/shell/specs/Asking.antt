@@ -11,9 +11,9 @@ use Rattle.script.specs.declared.line.Line.{Line}
 use Rattle.inquiries.specs.Asked.{Tells, AskCause}
 use Rattle.inquiries.specs.declared.asking.AskFault.{AskFault}
 use Rattle.inquiries.specs.declared.inquiry.Inquiry.{Inquiry}
-use Rattle.shell.specs.Failures.{of_system, of_refusal}
+use Rattle.image_jobs.specs.Failures.{of_system, of_refusal}
 use Rattle.shell.specs.Puts.{path_spelled}
-use Rattle.shell.specs.declared.failure.Failure.{Failure}
+use Rattle.image_jobs.specs.declared.failure.Failure.{Failure}
 use Rattle.script_runs.specs.declared.scripts.Refusal.{Refusal}
 
 -- the view that a line `stat` names, or how the line is refused

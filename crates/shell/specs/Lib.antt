@@ -1,5 +1,4 @@
 pub mod Asking
-pub mod Failures
 pub mod Places
 pub mod Puts
 pub mod Served

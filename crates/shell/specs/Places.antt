@@ -6,8 +6,8 @@ use Rattle.fs_types.specs.declared.limits.TheConstants.{MAX_FILE_BYTES, MAX_NAME
 use Rattle.host_files.specs.Files.{takes_away}
 use Rattle.host_files.specs.Sources.{Found}
 use Rattle.host_files.specs.declared.source.SourceKind.{SourceKind}
-use Rattle.shell.specs.declared.failure.Failure.{Failure}
-use Rattle.shell.specs.declared.place.SourceFault.{SourceFault}
+use Rattle.image_jobs.specs.declared.failure.Failure.{Failure}
+use Rattle.image_jobs.specs.declared.source_fault.SourceFault.{SourceFault}
 
 -- where it is put, if it is put below a path
 abbrev pub put_place : Path → Found → Path

@@ -15,14 +15,14 @@ use Rattle.script.specs.Lines.{line_of}
 use Rattle.script.specs.declared.line.Line.{Line}
 use Rattle.undofs.specs.Runs.{World}
 use Rattle.undofs.specs.Sessions.{Session}
-use Rattle.shell.specs.Failures.{of_system, of_refusal}
+use Rattle.image_jobs.specs.Failures.{of_system, of_refusal}
 use Rattle.host_files.specs.Files.{Held, AreBytesRead}
 use Rattle.script_runs.specs.Scripts.{IsUnmounted}
 use Rattle.host_files.specs.Sources.{Found}
 use Rattle.shell.specs.Places.{put_place, source_fault, IsMisplaced}
-use Rattle.shell.specs.declared.failure.Failure.{Failure}
+use Rattle.image_jobs.specs.declared.failure.Failure.{Failure}
 use Rattle.script_runs.specs.declared.scripts.Refusal.{Refusal}
-use Rattle.shell.specs.declared.place.SourceFault.{SourceFault}
+use Rattle.image_jobs.specs.declared.source_fault.SourceFault.{SourceFault}
 use Rattle.host_files.specs.declared.source.SourceKind.{SourceKind}
 use Rattle.shell.specs.declared.thing.Thing.{Thing}
 

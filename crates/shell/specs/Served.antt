@@ -8,11 +8,11 @@ use Rattle.flash_model.specs.Device.{Device}
 use Rattle.flash_model.specs.Simulation.{device_of}
 use Rattle.system.specs.declared.systems.System.{System}
 use Rattle.undofs.specs.Sessions.{Serves}
-use Rattle.shell.specs.Failures.{of_refusal}
+use Rattle.image_jobs.specs.Failures.{of_refusal}
 use Rattle.host_files.specs.Files.{Held}
 use Rattle.shell.specs.Puts.{stop_of, thing_events, put_events, IsThing, AreThings, IsUnput, SourceCause}
 use Rattle.host_files.specs.Sources.{Found}
-use Rattle.shell.specs.declared.failure.Failure.{Failure}
+use Rattle.image_jobs.specs.declared.failure.Failure.{Failure}
 use Rattle.shell.specs.declared.put.Mounted.{Mounted}
 use Rattle.script_runs.specs.declared.scripts.Refusal.{Refusal}
 use Rattle.shell.specs.declared.thing.Thing.{Thing}

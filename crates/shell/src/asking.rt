@@ -2,15 +2,14 @@
 ghost use Rattle.std.specs.Prelude.{◌≡◌, ◌⊎◌, false, Ok, IfOk, OnOk, IfErr, IfSome};
 ghost use Rattle.shell.specs.Asking.{file_spelled, tree_spelled, differences_spelled, of_ask, IsMisspelled};
 ghost use Rattle.host_files.specs.Files.{KeepsOthers, takes_away};
-ghost use Rattle.shell.specs.Tools.{IsTold, UntoldCause, IsUnclaimed, Unsaved, TellEnds, GetEnds};
+ghost use Rattle.image_jobs.specs.Images.{IsUnclaimed, Unsaved};
+ghost use Rattle.shell.specs.Tools.{IsTold, UntoldCause, TellEnds, GetEnds};
 
-use crate::failure::Failure;
-use crate::image_bytes::{claim, write_image};
-use crate::images::load;
 use crate::path_word::path_of_word;
 use crate::view_word::view_of_word;
 use fs_types::Bytes;
 use host_files::{FileFault, ImageFiles, takes_away};
+use image_jobs::{Failure, claim, load, write_image};
 use inquiries::{AskFault, Inquiry, ask};
 use script::write_out;
 use script_runs::Refusal;

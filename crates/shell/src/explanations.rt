@@ -4,8 +4,8 @@ ghost use Rattle.fs_types.specs.Faults.{number_of};
 ghost use Rattle.fs_types.specs.declared.fault.Fault.{Fault};
 ghost use Rattle.shell.specs.Tools.{ExplainEnds, explanation};
 
-use crate::failure::Failure;
 use fs_types::Fault;
+use image_jobs::Failure;
 use script::{print_number, write_out};
 use script_runs::Refusal;
 use std::alloc::{AllocError, Global};

@@ -3,8 +3,8 @@ ghost use Rattle.std.specs.Prelude.{◌≡◌, ◌++◌, codes, Ok, IfOk, IfErr}
 ghost use Rattle.script.specs.Lines.{line_of};
 ghost use Rattle.shell.specs.Puts.{path_spelled, path_of_line, path_of_call, SpellingCause};
 
-use crate::failure::Failure;
 use fs_types::{Call, Path};
+use image_jobs::Failure;
 use script::{Line, read_line};
 use script_runs::Refusal;
 use std::alloc::{AllocError, Global};

@@ -4,41 +4,11 @@ ghost use Rattle.fs_types.specs.Names.{is_path};
 ghost use Rattle.host_files.specs.Sources.{source_found};
 ghost use Rattle.shell.specs.Places.{put_place, kind_fault, source_fault, Unplaced, unparsed};
 
-use crate::failure::Failure;
 use fs_types::{Fault, MAX_FILE_BYTES, MAX_NAMES, Name, Path};
 use host_files::{Source, SourceKind};
+use image_jobs::{Failure, SourceFault};
 use std::alloc::{AllocError, Global};
 use std::io::Write;
-use thiserror::Error;
-
-/// Why a source is not put into an image.
-#[derive(Clone, Copy, Debug, PartialEq, Eq, Error)]
-pub enum SourceFault {
-    /// It is missing, or cannot be read.
-    #[error("it cannot be read")]
-    Unreadable,
-    /// It is a link.
-    #[error("it is a link")]
-    Link,
-    /// It is neither a folder nor a plain file.
-    #[error("it is neither a folder nor a plain file")]
-    Special,
-    /// It is the image into which it is to be put, or stands where its new file is made.
-    #[error("it is the image, or in the place of its new file")]
-    Image,
-    /// It is a folder of over 1,024 entries.
-    #[error("it has over 1024 entries")]
-    Crowded,
-    /// It is a file of over 16,777,216 bytes.
-    #[error("it has over 16777216 bytes")]
-    TooBig,
-    /// A name is not lawful.
-    #[error("its name is not lawful")]
-    BadName,
-    /// Its name has over 64 bytes, or its path over 16 names.
-    #[error("its name has over 64 bytes, or its path over 16 names")]
-    TooLong,
-}
 
 /// Where a source is put, if it is put below a path.
 pub(crate) fn place_of(alloc: Global, base: &Path, source: &Source) -> Result<Path, Failure>

@@ -9,17 +9,16 @@ ghost use Rattle.shell.specs.Served.{place, ServesPut, PutsOne, PutsEach, PutsAl
 ghost use Rattle.host_files.specs.Sources.{Found, source_found};
 ghost use Rattle.shell.specs.Places.{AreOthers, IsMisplaced};
 ghost use Rattle.script_runs.specs.Flashes.{IsDecoded};
-ghost use Rattle.shell.specs.Tools.{DecodeCause, SourcesEnd, PutEnds};
+ghost use Rattle.image_jobs.specs.Images.{DecodeCause};
+ghost use Rattle.shell.specs.Tools.{SourcesEnd, PutEnds};
 
-use crate::failure::Failure;
-use crate::image_bytes::take_image;
-use crate::images::{flash_of, save_changed};
 use crate::path_word::path_of_word;
-use crate::place::{SourceFault, place_of, tell_unput};
+use crate::place::{place_of, tell_unput};
 use crate::thing::{events_of, thing_of};
 use flash_model::SimFlash;
 use fs_types::{Answer, Call, Event, Fault, Path, Reply, Stat};
 use host_files::{ImageFiles, Source, Sources, takes_away};
+use image_jobs::{Failure, SourceFault, flash_of, save_changed, take_image};
 use script_runs::Refusal;
 use std::alloc::Global;
 use std::io::Write;

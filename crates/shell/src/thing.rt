@@ -3,10 +3,10 @@ ghost use Rattle.std.specs.Prelude.{◌≡◌, IfOk, IfErr};
 ghost use Rattle.shell.specs.Puts.{thing_events, IsThing, IsUnput};
 ghost use Rattle.host_files.specs.Sources.{source_found};
 
-use crate::failure::Failure;
-use crate::place::{SourceFault, place_of};
+use crate::place::place_of;
 use fs_types::{Bytes, Call, Event, Path, View};
 use host_files::{FileFault, ImageFiles, Source, SourceKind};
+use image_jobs::{Failure, SourceFault};
 use std::alloc::{AllocError, Global};
 
 /// What is put at a path.

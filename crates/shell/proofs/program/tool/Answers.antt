@@ -4,7 +4,8 @@ use Rattle.jobs.specs.Grammar.{uffs}
 use Rattle.jobs.specs.Jobs.{AsksFor}
 use Rattle.jobs.specs.declared.tasks.Job.{Job}
 use Rattle.host_files.specs.Files.{ReadsClaimed}
-use Rattle.shell.specs.Tools.{known_by, host_at}
+use Rattle.image_jobs.specs.Images.{host_at}
+use Rattle.shell.specs.Tools.{known_by}
 use Rattle.shell.proofs.ToolLemmas.{refused_why, memory_ends}
 use Rattle.shell.proofs.program.tool.Goals as goal
 

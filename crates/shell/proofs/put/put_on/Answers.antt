@@ -2,7 +2,7 @@ use Rattle.std.proofs.Common.{inl, inr, map}
 use Rattle.shell.specs.Served.{place}
 use Rattle.host_files.specs.Sources.{source_found}
 use Rattle.script_runs.specs.Flashes.{IsDecoded}
-use Rattle.shell.specs.Tools.{DecodeCause}
+use Rattle.image_jobs.specs.Images.{DecodeCause}
 use Rattle.shell.proofs.PutLemmas.{all_put, not_put}
 use Rattle.shell.proofs.put.put_on.Goals as goal
 

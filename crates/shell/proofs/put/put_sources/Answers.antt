@@ -1,7 +1,7 @@
 use Rattle.std.proofs.Common.{◌∙◌, sym, map, subst}
 use Rattle.host_files.specs.Files.{ReadsClaimed}
 use Rattle.host_files.specs.Sources.{source_found}
-use Rattle.shell.proofs.ImageLemmas.{front_same}
+use Rattle.image_jobs.proofs.ImageLemmas.{front_same}
 use Rattle.shell.proofs.PutLemmas.{sources_untaken, sources_unput, sources_saved}
 use Rattle.shell.proofs.put.put_sources.Goals as goal
 

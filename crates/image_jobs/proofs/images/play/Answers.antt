@@ -1,6 +1,6 @@
 use Rattle.std.proofs.Common.{Some, Ok, Err, inr, refl, sym, ap}
-use Rattle.shell.specs.declared.failure.Failure.{Failure}
-use Rattle.shell.proofs.images.play.Goals as goal
+use Rattle.image_jobs.specs.declared.failure.Failure.{Failure}
+use Rattle.image_jobs.proofs.images.play.Goals as goal
 
 pub returns-in-Ok-None : goal.returns-in-Ok-None
 returns-in-Ok-None g c =

@@ -1,7 +1,7 @@
 use Rattle.std.proofs.Common.{◌∙◌, sym, subst}
 use Rattle.host_files.specs.Files.{ReadsClaimed}
-use Rattle.shell.proofs.ImageLemmas.{front_same, run_saved, run_broken, run_untaken}
-use Rattle.shell.proofs.images.run_image.Goals as goal
+use Rattle.image_jobs.proofs.ImageLemmas.{front_same, run_saved, run_broken, run_untaken}
+use Rattle.image_jobs.proofs.images.run_image.Goals as goal
 
 pub save_changed-requires-clause-read : goal.save_changed-requires-clause-read
 save_changed-requires-clause-read g c = subst (g.F.ImageFiles.reads c.take_image.new.files c.args.name.now) (sym c.deref-in-Ok-play.ensures.value) c.in-Ok.ensures.now

@@ -5,7 +5,7 @@ ghost use Rattle.flash_model.specs.Simulation.{device_of};
 ghost use Rattle.flash_image.specs.Images.{image_of};
 ghost use Rattle.host_files.specs.Files.{KeepsOthers, AreBytesRead, ReadsClaimed};
 ghost use Rattle.script_runs.specs.Flashes.{IsDecoded};
-ghost use Rattle.shell.specs.Tools.{DecodeCause, IsUnclaimed, IsUnread, IsSpelledFlash, LoadCause, IsImageFile, Unsaved, SavesChange, ChangeUnsaved, FormatEnds, PlaysBy, host_at, RunEnds, CheckEnds, LookEnds};
+ghost use Rattle.image_jobs.specs.Images.{DecodeCause, IsUnclaimed, IsUnread, IsSpelledFlash, LoadCause, IsImageFile, Unsaved, SavesChange, ChangeUnsaved, FormatEnds, PlaysBy, host_at, RunEnds, CheckEnds, LookEnds};
 ghost use Rattle.script_runs.specs.Scripts.{streams_at};
 
 use crate::failure::Failure;
@@ -102,7 +102,7 @@ pub fn check_image<F: ImageFiles, W: Write>(
 }
 
 /// Writes the replies to a script on an image, which stays as it is.
-pub(crate) fn look_at_image<F: ImageFiles, W: Write>(
+pub fn look_at_image<F: ImageFiles, W: Write>(
     files: &F,
     alloc: Global,
     name: &str,
@@ -145,7 +145,7 @@ fn play<R: Read, W: Write>(
 }
 
 /// The flash of an image.
-pub(crate) fn load<F: ImageFiles>(files: &F, alloc: Global, name: &str) -> Result<SimFlash, Failure>
+pub fn load<F: ImageFiles>(files: &F, alloc: Global, name: &str) -> Result<SimFlash, Failure>
     ensures ok { IfOk result (IsSpelledFlash (F.held files.now name.now)) }
     ensures err { IfErr result (LoadCause (F.held files.now name.now)) }
 {
@@ -156,7 +156,7 @@ pub(crate) fn load<F: ImageFiles>(files: &F, alloc: Global, name: &str) -> Resul
 }
 
 /// The flash that bytes spell.
-pub(crate) fn flash_of(alloc: Global, bytes: &[u8]) -> Result<SimFlash, Failure>
+pub fn flash_of(alloc: Global, bytes: &[u8]) -> Result<SimFlash, Failure>
     ensures ok { IfOk result (IsDecoded bytes.now) }
     ensures err { IfErr result (DecodeCause bytes.now) }
 {
@@ -186,7 +186,7 @@ fn save<F: ImageFiles>(
 
 /// Puts the image of a flash in the place of a claimed one of these bytes, which were read since then,
 /// unless it is the same.
-pub(crate) fn save_changed<F: ImageFiles>(
+pub fn save_changed<F: ImageFiles>(
     files: &mut F,
     alloc: Global,
     name: &str,

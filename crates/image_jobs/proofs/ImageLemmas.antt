@@ -13,12 +13,12 @@ use Rattle.flash_image.specs.Images.{image_of, IsFault}
 use Rattle.mounting.specs.Formats.{FormatCause}
 use Rattle.system.specs.Mounts.{IsMountOf}
 use Rattle.system.specs.declared.systems.System.{System}
-use Rattle.shell.specs.Failures.{of_system}
+use Rattle.image_jobs.specs.Failures.{of_system}
 use Rattle.host_files.specs.Files.{Held, AreBytesRead}
 use Rattle.script_runs.specs.Flashes.{IsNewFlash, AreLawful, IsDecoded, IsMade}
-use Rattle.shell.specs.Tools.{DecodeCause, IsUnclaimed, IsUnread, IsSpelledFlash, LoadCause, IsImageFile, Unsaved, SavesChange, ChangeUnsaved, FormatEnds, FormatFailure, PlaysBy, Plays, host_at, RunEnds, CheckEnds}
+use Rattle.image_jobs.specs.Images.{DecodeCause, IsUnclaimed, IsUnread, IsSpelledFlash, LoadCause, IsImageFile, Unsaved, SavesChange, ChangeUnsaved, FormatEnds, FormatFailure, PlaysBy, Plays, host_at, RunEnds, CheckEnds}
 use Rattle.script_runs.specs.Scripts.{streams_at}
-use Rattle.shell.specs.declared.failure.Failure.{Failure}
+use Rattle.image_jobs.specs.declared.failure.Failure.{Failure}
 
 -- a limit that is not refused
 pub lawful_limit : (sizes : Geometry) (limit : ℕ) → IsGeometry sizes → (limit < MIN_VERSIONS → ⊥) → (MAX_VERSIONS < limit → ⊥) → AreLawful sizes limit

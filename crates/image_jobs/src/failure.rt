@@ -1,13 +1,11 @@
 //! Why a job of the program did not run to its end, with its status.
-use crate::place::SourceFault;
+use crate::source_fault::SourceFault;
 use flash_image::ImageFault;
 use fs_types::Fault;
 use script_runs::{Refusal, ScriptFault, Stop};
 use std::io;
 use std::io::Write;
 use thiserror::Error;
-use told_flash::StartFault;
-use told_sessions::SessionFault;
 
 /// Why a job did not run to its end.
 #[derive(Clone, Copy, Debug, PartialEq, Eq, Error)]
@@ -53,10 +51,10 @@ pub enum Failure {
 
 impl Failure {
     ghost use Rattle.std.specs.Prelude.{◌≡◌};
-    ghost use Rattle.shell.specs.Failures.{failure_status, of_script, of_system, of_refusal, of_image, of_session};
+    ghost use Rattle.image_jobs.specs.Failures.{failure_status, of_script, of_system, of_refusal, of_image};
 
     /// By why a script ended.
-    pub(crate) fn of_script(fault: ScriptFault) -> Failure
+    pub fn of_script(fault: ScriptFault) -> Failure
         ensures { result ≡ of_script fault }
     {
         match fault {
@@ -68,7 +66,7 @@ impl Failure {
     }
 
     /// By why there is no system.
-    pub(crate) fn of_system(fault: Fault) -> Failure
+    pub fn of_system(fault: Fault) -> Failure
         ensures { result ≡ of_system fault }
     {
         match fault {
@@ -78,7 +76,7 @@ impl Failure {
     }
 
     /// By how a call was refused.
-    pub(crate) fn of_refusal(refusal: Refusal) -> Failure
+    pub fn of_refusal(refusal: Refusal) -> Failure
         ensures { result ≡ of_refusal refusal }
     {
         match refusal {
@@ -88,24 +86,12 @@ impl Failure {
     }
 
     /// By why a file is no image.
-    pub(crate) fn of_image(fault: ImageFault) -> Failure
+    pub fn of_image(fault: ImageFault) -> Failure
         ensures { result ≡ of_image fault }
     {
         match fault {
             ImageFault::Memory => Failure::Memory,
             _ => Failure::Image(fault),
-        }
-    }
-
-    /// By why a script on a driver's flash ended.
-    pub(crate) fn of_session(fault: SessionFault) -> Failure
-        ensures { result ≡ of_session fault }
-    {
-        match fault {
-            SessionFault::Start(StartFault::Read) => Failure::CannotRead,
-            SessionFault::Start(StartFault::Image(fault)) => Failure::of_image(fault),
-            SessionFault::Format(fault) => Failure::of_system(fault),
-            SessionFault::Script(fault) => Failure::of_script(fault),
         }
     }
 
@@ -122,7 +108,7 @@ impl Failure {
     }
 
     /// Writes the line that says why, with the name of what was to be read, or of what was to be written.
-    pub(crate) fn explain<E: Write>(self, read: &str, written: &str, err: &mut E) {
+    pub fn explain<E: Write>(self, read: &str, written: &str, err: &mut E) {
         let _ = match self {
             Failure::CannotRead => writeln!(err, "uffs: cannot read {read}"),
             Failure::Unavailable | Failure::CannotWrite | Failure::Unsynced => {

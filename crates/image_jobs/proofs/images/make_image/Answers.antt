@@ -1,9 +1,9 @@
 use Rattle.std.proofs.Common.{◌<◌, inl, inr, refl, sym, subst}
 use Rattle.fs_types.specs.declared.limits.TheConstants.{MIN_VERSIONS, MAX_VERSIONS}
 use Rattle.script_runs.specs.Flashes.{IsNewFlash, IsFormatOf}
-use Rattle.shell.specs.Tools.{FormatFailure}
-use Rattle.shell.proofs.ImageLemmas.{lawful_limit, format_saved, format_refused}
-use Rattle.shell.proofs.images.make_image.Goals as goal
+use Rattle.image_jobs.specs.Images.{FormatFailure}
+use Rattle.image_jobs.proofs.ImageLemmas.{lawful_limit, format_saved, format_refused}
+use Rattle.image_jobs.proofs.images.make_image.Goals as goal
 
 pub returns-in-Ok-format : goal.returns-in-Ok-format
 returns-in-Ok-format g c =

@@ -1,6 +1,6 @@
 use Rattle.std.proofs.Common.{inl, inr, refl}
-use Rattle.shell.proofs.ImageLemmas.{check_said}
-use Rattle.shell.proofs.images.check_image.Goals as goal
+use Rattle.image_jobs.proofs.ImageLemmas.{check_said}
+use Rattle.image_jobs.proofs.images.check_image.Goals as goal
 
 pub returns-in-Ok-mount : goal.returns-in-Ok-mount
 returns-in-Ok-mount g c =

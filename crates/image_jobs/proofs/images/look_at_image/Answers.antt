@@ -1,6 +1,6 @@
 use Rattle.std.proofs.Common.{false, Some, Ok, Err, inl, refl}
-use Rattle.shell.proofs.ImageLemmas.{front_same, cause_unread, plays_front}
-use Rattle.shell.proofs.images.look_at_image.Goals as goal
+use Rattle.image_jobs.proofs.ImageLemmas.{front_same, cause_unread, plays_front}
+use Rattle.image_jobs.proofs.images.look_at_image.Goals as goal
 
 pub returns-in-Err : goal.returns-in-Err
 returns-in-Err g c = (Some c.args.script.now, inl (cause_unread (g.F.ImageFiles.held c.args.files.now c.args.name.now) c.in-Err.failure c.in-Err.ensures.err, refl, refl))

@@ -1,14 +1,14 @@
 //! The bytes of an image, claimed, read and written.
 ghost use Rattle.std.specs.Prelude.{◌≡◌, ◌⊎◌, IfOk, OnOk, IfErr, IfSome};
 ghost use Rattle.host_files.specs.Files.{KeepsOthers, AreBytesRead};
-ghost use Rattle.shell.specs.Tools.{IsUnclaimed, IsUnread, Unsaved};
+ghost use Rattle.image_jobs.specs.Images.{IsUnclaimed, IsUnread, Unsaved};
 
 use crate::failure::Failure;
 use host_files::{FileFault, ImageFiles};
 use std::alloc::Global;
 
 /// Claims a name for reading and writing together.
-pub(crate) fn claim<F: ImageFiles>(files: &mut F, alloc: Global, name: &str) -> Result<(), Failure>
+pub fn claim<F: ImageFiles>(files: &mut F, alloc: Global, name: &str) -> Result<(), Failure>
     ensures ok { OnOk result (F.claims files.new name.now) }
     ensures why { IfErr result IsUnclaimed }
     ensures same { F.held files.new ≡ F.held files.old }
@@ -21,7 +21,7 @@ pub(crate) fn claim<F: ImageFiles>(files: &mut F, alloc: Global, name: &str) -> 
 }
 
 /// Claims a name, and gives the bytes that the file has then.
-pub(crate) fn take_image<F: ImageFiles>(
+pub fn take_image<F: ImageFiles>(
     files: &mut F,
     alloc: Global,
     name: &str,
@@ -56,7 +56,7 @@ pub(crate) fn read_image<F: ImageFiles>(
 }
 
 /// Puts a file of these bytes in the place of what has a claimed name.
-pub(crate) fn write_image<F: ImageFiles>(
+pub fn write_image<F: ImageFiles>(
     files: &mut F,
     alloc: Global,
     name: &str,

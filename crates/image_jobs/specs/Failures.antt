@@ -3,10 +3,8 @@ use Rattle.std.specs.Prelude.{ℕ, Result, Ok, Err}
 use Rattle.fs_types.specs.declared.fault.Fault.{Fault}
 use Rattle.flash_image.specs.declared.image_fault.ImageFault.{ImageFault}
 use Rattle.script_runs.specs.declared.scripts.ScriptFault.{ScriptFault}
-use Rattle.shell.specs.declared.failure.Failure.{Failure}
+use Rattle.image_jobs.specs.declared.failure.Failure.{Failure}
 use Rattle.script_runs.specs.declared.scripts.Refusal.{Refusal}
-use Rattle.told_flash.specs.declared.start.StartFault.{StartFault}
-use Rattle.told_sessions.specs.declared.session_fault.SessionFault.{SessionFault}
 
 -- a refused system; want of memory is told alike wherever it comes
 abbrev pub of_system : Fault → Failure
@@ -29,13 +27,6 @@ of_refusal refusal = Failure.Refused refusal
 abbrev pub of_image : ImageFault → Failure
 of_image ImageFault.Memory = Failure.Memory
 of_image fault = Failure.Image fault
-
--- a script on a driver's flash that did not run to its end
-abbrev pub of_session : SessionFault → Failure
-of_session (SessionFault.Start StartFault.Read) = Failure.CannotRead
-of_session (SessionFault.Start (StartFault.Image fault)) = of_image fault
-of_session (SessionFault.Format fault) = of_system fault
-of_session (SessionFault.Script fault) = of_script fault
 
 -- 3 where the image, a format or a mount was refused, 4 where a call or a line of a script was, else 1
 abbrev pub failure_status : Failure → ℕ

@@ -1,0 +1,18 @@
+//! What is done with the file of an image: it is made, run, mounted, looked at and written, and why not.
+//!
+//! The file is claimed, read and replaced by `host_files`, and its bytes are those of `flash_image`.
+#![tactic(auto)]
+
+mod failure;
+mod image_bytes;
+mod images;
+mod laws;
+mod source_fault;
+
+pub use failure::Failure;
+pub use image_bytes::{claim, take_image, write_image};
+pub use images::{
+    check_image, flash_of, format_image, load, look_at_image, run_image, save_changed,
+};
+pub use laws::image_laws;
+pub use source_fault::SourceFault;

@@ -1,7 +1,6 @@
 pub mod Orders
 pub mod Streams
 pub mod Drivers
-pub mod Mirrors
 pub mod Flashes
 pub mod Starts
 pub mod Attempts

@@ -8,7 +8,6 @@
 
 mod driver;
 mod laws;
-mod mirror;
 mod start;
 mod told_flash;
 

@@ -4,8 +4,8 @@ use Rattle.flash_model.specs.declared.geometry.Geometry.{Geometry}
 use Rattle.flash_model.specs.Contents.{PutsPage}
 use Rattle.flash_model.specs.Stored.{shown_page}
 use Rattle.flash_model.specs.Simulation.{device_of}
-use Rattle.told_flash.proofs.Shown.{SetsBelow, SetsBelow-more, SetsBelow-own}
-use Rattle.told_flash.proofs.mirror.set_pages.Goals as goal
+use Rattle.mirrored_flash.proofs.Shown.{SetsBelow, SetsBelow-more, SetsBelow-own}
+use Rattle.mirrored_flash.proofs.shown_pages.set_pages.Goals as goal
 
 pub loop-place-preserved : goal.loop-place-preserved
 loop-place-preserved c =

@@ -6,7 +6,7 @@ use Rattle.flash_model.specs.declared.flash.PageState.{PageState}
 use Rattle.flash_model.specs.Device.{Device, Page, ReportsPage, Reads, Operates, failed, cut, AfterProgram, AfterErase, Programs, Erases, Wears, block_of}
 use Rattle.flash_model.specs.Simulation.{LeavesBeside}
 use Rattle.flash_model.proofs.Ending.{Begins, operates_on}
-use Rattle.told_flash.specs.Mirrors.{page_after, erased_after}
+use Rattle.mirrored_flash.specs.Shown.{page_after, erased_after}
 
 -- what is shown is what an operation may leave
 after_program : (result : Result (Unit {0}) DevFault) (was : Page) (bytes : List ℕ) → AfterProgram was bytes (page_after result was bytes) result

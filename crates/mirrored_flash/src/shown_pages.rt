@@ -5,7 +5,7 @@ ghost use Rattle.flash_model.specs.Device.{block_of};
 ghost use Rattle.flash_model.specs.Contents.{IsWhole};
 ghost use Rattle.flash_model.specs.Stored.{shown_page};
 ghost use Rattle.flash_model.specs.Simulation.{device_of};
-ghost use Rattle.told_flash.specs.Mirrors.{page_after, erased_after};
+ghost use Rattle.mirrored_flash.specs.Shown.{page_after, erased_after};
 
 use flash_model::{DevFault, Flash, PageView, SimFlash};
 

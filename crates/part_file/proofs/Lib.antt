@@ -1,2 +1,6 @@
 pub mod StepLemmas
 pub mod Sizes
+pub mod Overwriting
+pub mod Placing
+pub mod PagesRead
+pub mod Keeping

@@ -1,3 +1,5 @@
 pub mod Steps
 pub mod Layout
+pub mod Pages
+pub mod Flashes
 pub mod Parts

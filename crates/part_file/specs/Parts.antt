@@ -1,5 +1,6 @@
 -- A part in a flat file.
 use Rattle.flash_model.specs.declared.geometry.Geometry.{Geometry}
+use Rattle.part_file.specs.declared.file_driver.FileDriver.{FileDriver}
 use Rattle.part_file.specs.declared.part_file.PartFile.{PartFile}
 
 -- its sizes
@@ -9,3 +10,10 @@ sizes_of part = part.sizes
 -- the bytes behind it
 abbrev pub backing_of : {B : Type 0} → PartFile B → B
 backing_of part = part.backing
+
+-- the part of a driver, and its sizes
+abbrev pub driven_part : {B : Type 0} → FileDriver B → PartFile B
+driven_part driver = driver.part
+
+abbrev pub sizes_driven : {B : Type 0} → FileDriver B → Geometry
+sizes_driven driver = driver.part.sizes

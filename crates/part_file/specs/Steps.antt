@@ -1,5 +1,5 @@
 -- What is done to the bytes behind a part, in order.
-use Rattle.std.specs.Prelude.{◌≡◌, ℕ, List, ◌++◌, Option, None, Some, ⊤}
+use Rattle.std.specs.Prelude.{◌≡◌, ℕ, ◌+◌, List, [], ◌∷◌, ◌++◌, length, take, drop, Option, None, Some, ⊤}
 
 -- bytes are written from a place on, or all that was written is brought to the medium
 pub data Step : Type 0 where
@@ -11,3 +11,22 @@ abbrev pub Does : Option (List Step) → List Step → Option (List Step) → Ty
 Does None steps new = ⊤
 Does (Some old) steps None = ⊥
 Does (Some old) steps (Some new) = new ≡ old ++ steps
+
+-- bytes with others written over them from a place on
+abbrev pub overwritten : ℕ → List ℕ → List ℕ → List ℕ
+overwritten place new bytes = take place bytes ++ (new ++ drop (place + length new) bytes)
+
+-- the bytes after a step, and after steps in order
+abbrev pub bytes_after : Step → List ℕ → List ℕ
+bytes_after (writes place new) bytes = overwritten place new bytes
+bytes_after barrier bytes = bytes
+
+abbrev pub all_after : List Step → List ℕ → List ℕ
+all_after [] bytes = bytes
+all_after (step ∷ more) bytes = all_after more (bytes_after step bytes)
+
+-- bytes become others by these steps, where they are known
+abbrev pub Becomes : Option (List ℕ) → List Step → Option (List ℕ) → Type 0
+Becomes None steps new = ⊤
+Becomes (Some old) steps None = ⊥
+Becomes (Some old) steps (Some new) = new ≡ all_after steps old

@@ -1,6 +1,6 @@
 //! The trait of the bytes behind a part.
 ghost use Rattle.std.specs.Prelude.{◌≡◌, ℕ, List, [], ◌∷◌, Option, IfSome, OnOk, length, take, drop};
-ghost use Rattle.part_file.specs.Steps.{Step, writes, barrier, Does};
+ghost use Rattle.part_file.specs.Steps.{Step, writes, barrier, Does, Becomes};
 
 use std::io;
 
@@ -13,16 +13,19 @@ pub trait Backing {
     // What was done to them so far, where it is known.
     ghost steps: { Self → Option (List Step) };
 
-    /// Reads as many bytes as the buffer has, from a place on.
+    /// Reads as many bytes as the buffer has, from a place on. Fails where there are fewer.
     fn read_at(&mut self, place: u64, buffer: &mut [u8]) -> io::Result<()>
         ensures bytes { OnOk result (IfSome (held self.old) (λ bytes. buffer.new ≡ take (length buffer.old) (drop place bytes))) }
-        ensures steps { steps self.new ≡ steps self.old };
+        ensures steps { steps self.new ≡ steps self.old }
+        ensures same { held self.new ≡ held self.old };
 
     /// Writes bytes from a place on. Where that fails nothing is known of them.
     fn write_at(&mut self, place: u64, bytes: &[u8]) -> io::Result<()>
-        ensures { OnOk result (Does (steps self.old) (writes place bytes.now ∷ []) (steps self.new)) };
+        ensures steps { OnOk result (Does (steps self.old) (writes place bytes.now ∷ []) (steps self.new)) }
+        ensures bytes { OnOk result (Becomes (held self.old) (writes place bytes.now ∷ []) (held self.new)) };
 
     /// Brings all that was written to the medium.
     fn barrier(&mut self) -> io::Result<()>
-        ensures { OnOk result (Does (steps self.old) (barrier ∷ []) (steps self.new)) };
+        ensures steps { OnOk result (Does (steps self.old) (barrier ∷ []) (steps self.new)) }
+        ensures same { held self.new ≡ held self.old };
 }

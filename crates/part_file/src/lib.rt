@@ -6,8 +6,13 @@
 #![tactic(auto)]
 
 mod backing;
+mod file_driver;
 mod part_file;
+mod part_flash;
 mod places;
+mod reading;
 
 pub use backing::Backing;
 pub use part_file::{PartFault, PartFile};
+pub use part_flash::PartFlash;
+pub use reading::read_part;

@@ -1,12 +1,13 @@
 //! A part in place in a flat file.
-ghost use Rattle.std.specs.Prelude.{◌≡◌, IfSome, IfOk, take};
+ghost use Rattle.std.specs.Prelude.{◌≡◌, IfSome, IfOk, IfErr, take};
+ghost use Rattle.part_file.specs.Pages.{state_code};
 ghost use Rattle.flash_model.specs.Geometry.{IsGeometry};
 ghost use Rattle.part_file.specs.Layout as spec;
 
 use crate::backing::Backing;
 use crate::places::{data_place, state_place};
 use fields::u32_at;
-use flash_model::Geometry;
+use flash_model::{Geometry, PageState};
 use fs_types::ANCHORS;
 use std::io;
 use thiserror::Error;
@@ -23,15 +24,24 @@ const ERASED: [u8; 1024] = [0; 1024];
 /// Why there is no part.
 #[derive(Clone, Copy, Debug, PartialEq, Eq, Error)]
 pub enum PartFault {
-    /// The bytes could not be read.
-    #[error("part failed")]
+    /// The head could not be read.
+    #[error("the head cannot be read")]
     Read,
+    /// This page, or its state, could not be read.
+    #[error("page {0} cannot be read")]
+    Page(u32),
     /// One of the first eight bytes is not that of a part.
     #[error("NotPart")]
     NotPart,
     /// The sizes are not lawful.
     #[error("BadGeometry")]
     BadGeometry,
+    /// The state of a page is none of 0, 1 and 2.
+    #[error("BadState")]
+    BadState,
+    /// Memory could not be had.
+    #[error("out of memory")]
+    Memory,
 }
 
 impl From<io::Error> for PartFault {
@@ -56,11 +66,13 @@ pub struct PartFile<B> {
 }
 
 impl<B: Backing> PartFile<B> {
-    ghost use Rattle.std.specs.Prelude.{◌≡◌, ◌≢◌, ◌<◌, codes, Err, IfOk, IfSome, OnOk, length, take};
+    ghost use Rattle.std.specs.Prelude.{◌≡◌, ◌≢◌, ◌<◌, ◌≤◌, ◌+◌, ◌⊎◌, codes, Err, IfOk, IfErr, IfSome, OnOk, length, take};
     ghost use Rattle.flash_model.specs.Geometry.{IsGeometry, page_count};
     ghost use Rattle.part_file.specs.Layout as spec;
     ghost use Rattle.part_file.specs.Parts.{sizes_of, backing_of};
-    ghost use Rattle.part_file.specs.Steps.{Does};
+    ghost use Rattle.part_file.specs.Steps.{Does, Becomes};
+    ghost use Rattle.part_file.specs.Pages.{HasPage};
+    ghost use Rattle.flash_model.specs.Stored.{page_of};
 
     /// Programs a page, which is erased: its bytes, and then its state. On an anchor there is a barrier
     /// after each.
@@ -68,6 +80,7 @@ impl<B: Backing> PartFile<B> {
         requires in_range { page < page_count (sizes_of self.old) }
         requires whole { length bytes.now ≡ (sizes_of self.old).page }
         ensures done { OnOk result (Does (B.steps (backing_of self.old)) (spec.program_steps (sizes_of self.old) page bytes.now) (B.steps (backing_of self.new))) }
+        ensures bytes { OnOk result (Becomes (B.held (backing_of self.old)) (spec.program_steps (sizes_of self.old) page bytes.now) (B.held (backing_of self.new))) }
         ensures sizes { sizes_of self.new ≡ sizes_of self.old }
     {
         let block = page / self.sizes.pages;
@@ -82,6 +95,7 @@ impl<B: Backing> PartFile<B> {
     pub fn erase(&mut self, block: u32) -> io::Result<()>
         requires { block < (sizes_of self.old).blocks }
         ensures done { OnOk result (Does (B.steps (backing_of self.old)) (spec.erase_steps (sizes_of self.old) block) (B.steps (backing_of self.new))) }
+        ensures bytes { OnOk result (Becomes (B.held (backing_of self.old)) (spec.erase_steps (sizes_of self.old) block) (B.held (backing_of self.new))) }
         ensures sizes { sizes_of self.new ≡ sizes_of self.old }
     {
         let states = &ERASED[..self.sizes.pages as usize];
@@ -91,9 +105,40 @@ impl<B: Backing> PartFile<B> {
         self.settle(block)
     }
 
+    /// Puts the bytes that stand at a page's place into the buffer, and tells its state.
+    pub fn read_page(&mut self, page: u32, buffer: &mut [u8]) -> Result<PageState, PartFault>
+        requires in_range { page < page_count (sizes_of self.old) }
+        requires whole { length buffer.old ≡ (sizes_of self.old).page }
+        // What stands there.
+        ensures page { IfOk result (λ state. IfSome (B.held (backing_of self.old)) (λ bytes. HasPage bytes (sizes_of self.old) page (page_of state buffer.new))) }
+        ensures inside { OnOk result (IfSome (B.held (backing_of self.old)) (λ bytes. spec.data_place (sizes_of self.old) page + (sizes_of self.old).page ≤ length bytes)) }
+        ensures fault { IfErr result (λ fault. (fault ≡ PartFault.Page page) ⊎ (fault ≡ PartFault.BadState)) }
+        // Nothing changes.
+        ensures len { length buffer.new ≡ length buffer.old }
+        ensures sizes { sizes_of self.new ≡ sizes_of self.old }
+        ensures same { B.held (backing_of self.new) ≡ B.held (backing_of self.old) }
+        ensures steps { B.steps (backing_of self.new) ≡ B.steps (backing_of self.old) }
+    {
+        let mut state = [0];
+        let looked = self.backing.read_at(state_place(page), &mut state);
+        let read = self.backing.read_at(data_place(self.sizes, page), buffer);
+        if looked.is_err() || read.is_err() {
+            return Err(PartFault::Page(page));
+        }
+        state_of(state[0])
+    }
+
+    /// The sizes of the flash.
+    pub fn sizes(&self) -> Geometry
+        ensures { result ≡ sizes_of self.now }
+    {
+        self.sizes
+    }
+
     /// On an anchor, brings what was written to the medium.
     fn settle(&mut self, block: u32) -> io::Result<()>
         ensures done { OnOk result (Does (B.steps (backing_of self.old)) (spec.barrier_at block) (B.steps (backing_of self.new))) }
+        ensures same { B.held (backing_of self.new) ≡ B.held (backing_of self.old) }
         ensures sizes { sizes_of self.new ≡ sizes_of self.old }
     {
         if block < ANCHORS {
@@ -114,6 +159,7 @@ impl<B: Backing + Drop> PartFile<B> {
     pub fn open(mut backing: B) -> Result<PartFile<B>, PartFault>
         ensures head { IfOk result (λ part. IfSome (B.held backing) (λ bytes. spec.IsHead (take 20 bytes) (sizes_of part))) }
         ensures steps { IfOk result (λ part. B.steps (backing_of part) ≡ B.steps backing) }
+        ensures same { IfOk result (λ part. B.held (backing_of part) ≡ B.held backing) }
         ensures other_magic { (result ≡ Err PartFault.NotPart) → IfSome (B.held backing) (λ bytes. take 8 (take 20 bytes) ≢ codes "UFFSPART") }
         ensures other_sizes { (result ≡ Err PartFault.BadGeometry) → IfSome (B.held backing) (λ bytes. ¬ IsGeometry (spec.sizes_in (take 20 bytes))) }
     {
@@ -127,6 +173,19 @@ impl<B: Backing + Drop> PartFile<B> {
             return Err(PartFault::BadGeometry);
         }
         Ok(PartFile { backing, sizes })
+    }
+}
+
+/// The state that a byte tells.
+fn state_of(state: u8) -> Result<PageState, PartFault>
+    ensures ok { IfOk result (λ is. state_code is ≡ state) }
+    ensures err { IfErr result (λ fault. fault ≡ PartFault.BadState) }
+{
+    match state {
+        0 => Ok(PageState::Erased),
+        1 => Ok(PageState::Data),
+        2 => Ok(PageState::Unreadable),
+        _ => Err(PartFault::BadState),
     }
 }
 

@@ -1,7 +1,7 @@
 use Rattle.std.proofs.Common.{[], ◌∷◌, ◌++◌, ◌/◌, subst}
 use Rattle.part_file.specs.Layout.{data_place, state_place, barrier_at}
-use Rattle.part_file.specs.Steps.{writes, Does}
-use Rattle.part_file.proofs.StepLemmas.{Does-then, on_ok}
+use Rattle.part_file.specs.Steps.{writes, Does, Becomes}
+use Rattle.part_file.proofs.StepLemmas.{Does-then, Becomes-then, Becomes-barrier, on_ok, on_ok_always}
 use Rattle.part_file.proofs.part_file.PartFile.program.Goals as goal
 
 pub returns-clause-done : goal.returns-clause-done
@@ -14,10 +14,27 @@ returns-clause-done g c =
     let settled = g.B.Backing.steps c.settle.new.self.backing in
     let marked = g.B.Backing.steps c.write_at-2.new.self in
     let end = g.B.Backing.steps c.settle-2.new.self.backing in
-    let first : Does start first_write written = subst (λ p. Does start (writes p c.args.bytes.now ∷ []) written) c.data_place-place.ensures c.in_ok-write_at.ensures in
-    let third : Does settled state marked = subst (λ p. Does settled (writes p (1 ∷ []) ∷ []) marked) c.state_place.ensures c.in_ok-write_at-2.ensures in
+    let first : Does start first_write written = subst (λ p. Does start (writes p c.args.bytes.now ∷ []) written) c.data_place-place.ensures c.in_ok-write_at.ensures.steps in
+    let third : Does settled state marked = subst (λ p. Does settled (writes p (1 ∷ []) ∷ []) marked) c.state_place.ensures c.in_ok-write_at-2.ensures.steps in
     on_ok c.settle-2.result _ _
     (λ last. Does-then start written end first_write (barrier_at block ++ (state ++ barrier_at block)) first
     (Does-then written settled end (barrier_at block) (state ++ barrier_at block) c.in_ok-settle.ensures.done
     (Does-then settled marked end state (barrier_at block) third last)))
     c.settle-2.ensures.done
+
+pub returns-clause-bytes : goal.returns-clause-bytes
+returns-clause-bytes g c =
+    let block = c.args.page / c.args.self.now.sizes.pages in
+    let first_write = writes (data_place c.args.self.now.sizes c.args.page) c.args.bytes.now ∷ [] in
+    let state = writes (state_place c.args.page) (1 ∷ []) ∷ [] in
+    let start = g.B.Backing.held c.args.self.now.backing in
+    let written = g.B.Backing.held c.write_at.new.self in
+    let settled = g.B.Backing.held c.settle.new.self.backing in
+    let marked = g.B.Backing.held c.write_at-2.new.self in
+    let end = g.B.Backing.held c.settle-2.new.self.backing in
+    let first : Becomes start first_write written = subst (λ p. Becomes start (writes p c.args.bytes.now ∷ []) written) c.data_place-place.ensures c.in_ok-write_at.ensures.bytes in
+    let third : Becomes settled state marked = subst (λ p. Becomes settled (writes p (1 ∷ []) ∷ []) marked) c.state_place.ensures c.in_ok-write_at-2.ensures.bytes in
+    on_ok_always c.settle-2.result _
+    (Becomes-then start written end first_write (barrier_at block ++ (state ++ barrier_at block)) first
+    (Becomes-then written settled end (barrier_at block) (state ++ barrier_at block) (Becomes-barrier written settled block c.settle.ensures.same)
+    (Becomes-then settled marked end state (barrier_at block) third (Becomes-barrier marked end block c.settle-2.ensures.same))))

@@ -1,0 +1,38 @@
+-- What the bytes of a part say that a flash holds.
+use Rattle.std.specs.Prelude.{◌≡◌, ℕ, ◌<◌, ◌≤◌, List, [], ◌∷◌, length, take, drop, Option, IfSome}
+use Rattle.flash_model.specs.declared.geometry.Geometry.{Geometry}
+use Rattle.flash_model.specs.declared.flash.PageState.{PageState}
+use Rattle.flash_model.specs.declared.flash.PageState.TheVariants.{Erased, Data, Unreadable}
+use Rattle.flash_model.specs.Geometry.{page_count}
+use Rattle.flash_model.specs.Device.{Device, Page, erased, bytes_of, unreadable}
+use Rattle.part_file.specs.Layout.{IsHead, state_place, data_place}
+
+-- the byte of a state
+abbrev pub state_code : PageState → ℕ
+state_code Erased = 0
+state_code Data = 1
+state_code Unreadable = 2
+
+-- the byte of a page's state
+abbrev pub HasState : List ℕ → ℕ → ℕ → Type 0
+HasState bytes p state = take 1 (drop (state_place p) bytes) ≡ state ∷ []
+
+-- a page stands there: its state, and its bytes where it has data
+abbrev pub HasPage : List ℕ → Geometry → ℕ → Page → Type 0
+HasPage bytes g p erased = HasState bytes p 0
+HasPage bytes g p (bytes_of content) = HasState bytes p 1 × (take g.page (drop (data_place g p) bytes) ≡ content)
+HasPage bytes g p unreadable = HasState bytes p 2
+
+-- each page stands there, and the bytes go up to the end of the last one
+pub record HasPages (d : Device) (bytes : List ℕ) : Type 0 where
+  pub whole : data_place d.geometry (page_count d.geometry) ≤ length bytes
+  pub pages : (p : ℕ) → p < page_count d.geometry → HasPage bytes d.geometry p (d.pages p)
+
+-- the bytes are the part of a flash: the head has its sizes, and its pages stand there
+pub record IsPart (d : Device) (bytes : List ℕ) : Type 0 where
+  pub head : IsHead (take 20 bytes) d.geometry
+  pub content : HasPages d bytes
+
+-- bytes that were the part of a flash are that of what it has become, where they are known
+abbrev pub KeepsPart : Option (List ℕ) → Device → Option (List ℕ) → Device → Type 0
+KeepsPart old d new e = IfSome old (λ bytes. IsPart d bytes → IfSome new (IsPart e))

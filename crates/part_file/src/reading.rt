@@ -1,0 +1,51 @@
+//! What a part holds.
+ghost use Rattle.std.specs.Prelude.{◌≡◌, ◌+◌, ℕ, ◌<◌, IfOk, OnOk, IfSome, false, length};
+ghost use Rattle.flash_image.specs.Images.{IsFresh};
+ghost use Rattle.flash_model.specs.Geometry.{page_count};
+ghost use Rattle.flash_model.specs.Simulation.{device_of};
+ghost use Rattle.flash_model.specs.Stored.{shown_page, page_of};
+ghost use Rattle.part_file.specs.Pages.{HasPages};
+ghost use Rattle.part_file.specs.Parts.{sizes_of, backing_of};
+
+use crate::backing::Backing;
+use crate::part_file::{PartFault, PartFile};
+use flash_model::{PageState, PageView, SimFlash};
+use std::alloc::Global;
+
+/// The flash of a part: its pages, with power on and no block worn. Each page is read, also one without
+/// data.
+pub fn read_part<B: Backing>(alloc: Global, part: &mut PartFile<B>) -> Result<SimFlash, PartFault>
+    ensures pages { IfOk result (λ flash. IfSome (B.held (backing_of part.old)) (HasPages (device_of flash))) }
+    ensures fresh { IfOk result (λ flash. IsFresh (device_of flash)) }
+    ensures unworn { IfOk result (λ flash. (b : ℕ) → (device_of flash).worn b ≡ false) }
+    ensures sizes { IfOk result (λ flash. (device_of flash).geometry ≡ sizes_of part.old) }
+    ensures same { B.held (backing_of part.new) ≡ B.held (backing_of part.old) }
+    ensures steps { B.steps (backing_of part.new) ≡ B.steps (backing_of part.old) }
+    ensures part { sizes_of part.new ≡ sizes_of part.old }
+{
+    let sizes = part.sizes();
+    let mut flash = match SimFlash::new(alloc, sizes, &[]) {
+        Ok(flash) => flash,
+        Err(_) => return Err(PartFault::Memory),
+    };
+    let mut buffer = match vec![in alloc; 0; sizes.page as usize] {
+        Ok(buffer) => buffer,
+        Err(_) => return Err(PartFault::Memory),
+    };
+    for page in 0..sizes.page_count() as u32 {
+        let state = part.read_page(page, &mut buffer)?;
+        flash.set_page(page, view_of(state, &buffer));
+    }
+    Ok(flash)
+}
+
+/// What a page shows of this state, whose room holds these bytes.
+fn view_of(state: PageState, bytes: &[u8]) -> PageView<'_>
+    ensures { shown_page result ≡ page_of state bytes.now }
+{
+    match state {
+        PageState::Erased => PageView::Erased,
+        PageState::Data => PageView::Data(bytes),
+        PageState::Unreadable => PageView::Unreadable,
+    }
+}

@@ -1,5 +1,5 @@
 -- What reads cost: sums over the blocks that were read.
-use Rattle.std.proofs.Common.{◌≡◌, ℕ, zero, suc, inl, inr, ◌+◌, ◌*◌, ◌<◌, ◌≤◌, Bool, true, false, cond, Option, Some, None, List, [], ◌∷◌, length, take, refl, sym, ap, subst, ◌∙◌, arith, rules}
+use Rattle.std.proofs.Common.{◌≡◌, ℕ, zero, suc, inl, inr, ◌+◌, ◌*◌, ◌<◌, ◌≤◌, Bool, true, false, cond, Option, Some, None, List, [], ◌∷◌, length, take, refl, sym, ap, subst, ◌∙◌, arith}
 use Rattle.std.specs.Prelude.{Contains, slice_index, is_some, not}
 use Rattle.std.specs.FinSet as set
 use Rattle.std.specs.Ordering.{nat_cmp}
@@ -22,7 +22,7 @@ use Rattle.directory.proofs.Counting.{filter_has}
 use Rattle.directory.proofs.Levels.{any_contains, directory_is}
 use Rattle.reclaim.specs.Looks.{look_reads}
 use Rattle.reclaim.specs.Sound.{HoldsLink, IsSoundNode, IsSoundPlace}
-use Rattle.reclaim.specs.Passes.{Pass, AreReached, HasRead, IsPass, IsFinished, Begins}
+use Rattle.reclaim.specs.Passes.{Pass, AreReached, HasRead, IsPass, Begins}
 use Rattle.reclaim.specs.Verified.{HasCost, HasLookedOnce, depth_reads, name_any_directory}
 
 -- ---- sums

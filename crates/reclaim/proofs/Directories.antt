@@ -1,9 +1,9 @@
 -- Directories are read node by node: each comes after the one before it, by its first name.
-use Rattle.std.proofs.Common.{◌≡◌, ◌≢◌, ◌↔◌, ◌⊎◌, inl, inr, ℕ, zero, suc, ◌+◌, ◌-◌, ◌<◌, ◌≤◌, Bool, true, false, cond, eqb, Option, Some, None, List, [], ◌∷◌, ◌++◌, length, refl, sym, ap, subst, ◌∙◌, arith}
+use Rattle.std.proofs.Common.{◌≡◌, ◌≢◌, ◌↔◌, ◌⊎◌, inl, inr, ℕ, zero, suc, ◌<◌, Bool, true, false, cond, eqb, Option, Some, None, List, [], ◌∷◌, ◌++◌, length, refl, sym, ap, subst, ◌∙◌, arith}
 use Rattle.std.specs.Prelude.{IsTrue, nat_lt}
 use Rattle.std.specs.Option.{option_map, option_map_or}
 use Rattle.std.specs.List.{list_all}
-use Rattle.std.proofs.lemmas.Bool.{true≢false, eq-eqb, ltb-true}
+use Rattle.std.proofs.lemmas.Bool.{true≢false, ltb-true}
 use Rattle.fs_types.specs.Names.{Name}
 use Rattle.node_format.specs.Items.{Item, is_before, are_ascending}
 use Rattle.node_format.specs.Order.{both_true, and_true, all_after, ascending_parts}
@@ -15,7 +15,6 @@ use Rattle.block_trees.proofs.Chains.{by_test, same_items, first_parts, first_la
 use Rattle.block_trees.proofs.ChainCounts.{linked_filled}
 use Rattle.reclaim.specs.Looks.{last_name, are_after, may_follow, edge_of}
 use Rattle.reclaim.specs.Sound.{IsDirectoryAt}
-use Rattle.fields.proofs.Found.{some_is}
 
 -- ---- order across two lists
 

@@ -1,13 +1,13 @@
 -- What the first page of a node tells of the order of a chain.
-use Rattle.std.proofs.Common.{◌≡◌, ◌⊎◌, inl, inr, ℕ, ◌+◌, ◌<◌, ◌≤◌, Bool, true, false, cond, ltb, Option, Some, None, List, [], ◌∷◌, length, take, refl, sym, ap, ◌∙◌, arith}
+use Rattle.std.proofs.Common.{◌≡◌, ℕ, ◌≤◌, Bool, true, false, cond, ltb, Option, Some, None, List, [], ◌∷◌, length, refl, arith}
 use Rattle.std.specs.Prelude.{◌&&◌, min, slice_get}
-use Rattle.std.specs.Option.{option_map, option_map_or, option_and_then}
+use Rattle.std.specs.Option.{option_map, option_map_or}
 use Rattle.std.proofs.lemmas.Bool.{lt-ltb}
 use Rattle.fs_types.specs.Names.{Name}
 use Rattle.node_format.specs.Items.{Item, is_before}
 use Rattle.node_format.specs.Links.{Link, link_at, first_of}
 use Rattle.node_store.specs.Fronts.{IsFront}
-use Rattle.block_trees.specs.Chains.{link_of, is_later}
+use Rattle.block_trees.specs.Chains.{link_of}
 use Rattle.reclaim.specs.Looks.{may_follow, are_after}
 
 -- a node comes after a name where its first entry does

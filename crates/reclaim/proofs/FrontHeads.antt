@@ -1,22 +1,18 @@
 -- What the beginning of a node tells of it: whether it is one of a body, its index, how many data bytes it has, and its slots.
 use Rattle.std.proofs.Common.{◌≡◌, ◌≢◌, ◌↔◌, inl, inr, ℕ, zero, suc, ◌+◌, ◌<◌, ◌≤◌, Bool, true, false, cond, Option, Some, None, List, [], ◌∷◌, length, drop, length-drop, refl, sym, ap, subst, ◌∙◌, arith}
-use Rattle.std.specs.Prelude.{◌==◌, nat_le, is_some, map, slice_index, Contains, IsTrue}
+use Rattle.std.specs.Prelude.{◌==◌, nat_le, map, slice_index, Contains}
 use Rattle.std.proofs.lemmas.List.Elements.{Contains-append_right}
-use Rattle.std.specs.Option.{option_map, option_map_or}
-use Rattle.std.proofs.lemmas.Bool.{true≢false}
+use Rattle.std.specs.Option.{option_map}
 use Rattle.node_format.specs.Headers.{field, body_magic, body_size, directory_magic, chain_magic, directory_header, directory_size, IsNode}
 use Rattle.node_format.specs.Items.{Item}
-use Rattle.node_format.specs.Links.{Link}
 use Rattle.fs_types.specs.declared.limits.TheConstants.{NODE_ENTRIES}
 use Rattle.node_format.specs.declared.headers.TheConstants.{SLOTS}
 use Rattle.node_format.specs.declared.place.Place.{Place}
 use Rattle.node_format.proofs.HeaderLaws.{field-take}
 use Rattle.node_store.specs.Fronts.{IsFront}
 use Rattle.block_trees.specs.Bodies.{Blocks, index_of, pointer_of, data_of}
-use Rattle.block_trees.specs.Chains.{link_of, link_items}
-use Rattle.block_trees.specs.Reached.{PlaceNames, BodyNames}
-use Rattle.block_trees.proofs.Entries.{directory_no_index}
-use Rattle.reclaim.specs.Looks.{body_of, NamesNodes, LeadToNodes, SlotsHold}
+use Rattle.block_trees.specs.Reached.{BodyNames}
+use Rattle.reclaim.specs.Looks.{body_of, NamesNodes, SlotsHold}
 use Rattle.reclaim.specs.Sound.{HoldsSlot}
 use Rattle.reclaim.proofs.FrontNames.{size_is, body_long, front_pointer}
 
@@ -41,7 +37,7 @@ node_long block bytes node = on (field bytes 0 == body_magic) (field bytes 0 == 
     on false false false size = absurd cc
 
 -- the bytes of a body node after its header are those that it uses
-used_bytes : (block index : ℕ) (bytes : List ℕ) → IsNode block bytes → index_of (Some bytes) ≡ Some index → field bytes 8 ≡ length (drop 80 bytes)
+pub used_bytes : (block index : ℕ) (bytes : List ℕ) → IsNode block bytes → index_of (Some bytes) ≡ Some index → field bytes 8 ≡ length (drop 80 bytes)
 used_bytes block index bytes node is = on (field bytes 0 == body_magic) is node
   where
     on : (t : Bool) → cond t (Some (field bytes 4)) None ≡ Some index
@@ -112,12 +108,7 @@ slots_hold f node pointers i holds is each x has none =
     let names : BodyNames (index_of node) (pointer_of node) (pointer_of node x) = subst (λ (o : Option ℕ). BodyNames o (pointer_of node) (pointer_of node x)) (sym is) (x, has, refl) in
     holds (pointer_of node x) (inr (inl names)) (ap f (sym (each x has.0)) ∙ none)
 
-item_of : (items : List Item) (at : Place) → Contains (map (λ (item : Item). item.place) items) at → (item : Item) × Contains items item × (item.place ≡ at)
+pub item_of : (items : List Item) (at : Place) → Contains (map (λ (item : Item). item.place) items) at → (item : Item) × Contains items item × (item.place ≡ at)
 item_of [] at (k, lt, is) = absurd (omega arith)
 item_of (x ∷ xs) at (zero, lt, is) = (x, (0, omega arith, refl), is)
 item_of (x ∷ xs) at (suc k, lt, is) = let rest = item_of xs at (k, omega arith, is) in (rest.0, Contains-append_right (x ∷ []) xs rest.0 rest.1, rest.2)
-
-pub places_lead : (f : Blocks) (node : Option (List ℕ)) (places : List Place) → NamesNodes f node → places ≡ map (λ (item : Item). item.place) (link_items node) → LeadToNodes f places
-places_lead f node places holds are at has c names =
-    let found = item_of (link_items node) at (subst (λ (l : List Place). Contains l at) are has) in
-    holds c (inl (found.0, found.1, subst (λ (p : Place). PlaceNames p c) (sym found.2) names))

@@ -15,3 +15,5 @@ pub mod Linked
 pub mod Looked
 pub mod Follows
 pub mod Telling
+pub mod Heads
+pub mod HeadLengths

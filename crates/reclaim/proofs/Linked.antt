@@ -1,12 +1,12 @@
 -- Directories are whole where each node may follow the one before it, and the nodes lead to an end.
-use Rattle.std.proofs.Common.{◌≡◌, ◌≢◌, ◌↔◌, ◌⊎◌, inl, inr, ℕ, zero, suc, ◌+◌, ◌<◌, ◌≤◌, Bool, true, false, cond, eqb, Option, Some, None, List, [], ◌∷◌, length, refl, sym, ap, subst, ◌∙◌, arith}
-use Rattle.std.specs.Prelude.{Contains, IsTrue, slice_index, nat_lt, not, ◌&&◌}
+use Rattle.std.proofs.Common.{◌≡◌, ◌≢◌, ℕ, zero, suc, Bool, true, false, cond, eqb, Option, Some, None, List, [], refl, sym, ap, subst, ◌∙◌}
+use Rattle.std.specs.Prelude.{◌&&◌}
 use Rattle.std.specs.Option.{option_map_or}
 use Rattle.std.proofs.lemmas.Bool.{true≢false, eqb-true, eq-eqb, and_parts, and_from}
 use Rattle.fs_types.specs.Names.{Name}
 use Rattle.node_format.specs.Links.{Link}
 use Rattle.block_trees.specs.Bodies.{Blocks}
-use Rattle.block_trees.specs.Chains.{link_of, next_of, most_after}
+use Rattle.block_trees.specs.Chains.{link_of, next_of}
 use Rattle.reclaim.specs.Looks.{edge_of, last_name, may_follow, IsFollowed}
 use Rattle.reclaim.specs.Sound.{HoldsLink, IsDirectoryAt}
 use Rattle.reclaim.specs.Tables.{ends_from}

@@ -1,10 +1,9 @@
 -- Roots have trees exactly where each look finds a node sound, and the table whole.
-use Rattle.std.proofs.Common.{◌≡◌, ◌≢◌, ◌↔◌, ◌⊎◌, inl, inr, ℕ, zero, suc, ◌+◌, ◌-◌, ◌<◌, ◌≤◌, Bool, true, false, cond, Option, Some, None, List, [], length, refl, sym, ap, subst, ◌∙◌, arith}
+use Rattle.std.proofs.Common.{◌≡◌, ◌≢◌, inl, inr, ℕ, ◌-◌, ◌<◌, ◌≤◌, Bool, true, false, cond, Option, Some, None, List, [], refl, sym, ap, subst, ◌∙◌, arith}
 use Rattle.std.specs.FinSet as set
-use Rattle.std.specs.Ordering.{nat_cmp}
-use Rattle.std.specs.Prelude.{Contains, IsTrue, All, slice_index, nat_lt, not, ◌&&◌}
+use Rattle.std.specs.Prelude.{Contains, All, slice_index, nat_lt, not}
 use Rattle.std.specs.Option.{option_map_or}
-use Rattle.std.proofs.lemmas.Bool.{true≢false, cases_lt, and_parts, lt-ltb, ltb-true}
+use Rattle.std.proofs.lemmas.Bool.{true≢false, cases_lt, and_parts, ltb-true}
 use Rattle.std.proofs.lemmas.List.Elements.{Contains-get_or, All-contains}
 use Rattle.node_format.specs.Items.{Item}
 use Rattle.node_format.specs.Links.{Link}
@@ -13,14 +12,14 @@ use Rattle.node_format.specs.declared.place.Place.TheVariants.{Dir, File}
 use Rattle.block_trees.specs.Bodies.{Blocks}
 use Rattle.block_trees.specs.Chains.{link_of, next_of, link_items, most_after}
 use Rattle.block_trees.specs.Reached.{Reached, IsNamed, Names, PlaceNames}
-use Rattle.reclaim.specs.Looks.{edge_of, NamesNodes, NextHoldsLink, IsSoundFile, IsLooked}
+use Rattle.reclaim.specs.Looks.{NamesNodes, NextHoldsLink, IsSoundFile, IsLooked}
 use Rattle.reclaim.specs.Passes.{Pass, IsPass, IsFinished}
 use Rattle.reclaim.specs.Sound.{HoldsLink, IsSoundPlace, IsSoundNode, IsPlain, IsPlainNode}
 use Rattle.reclaim.specs.Tables.{IsTold, HasSeen, NamesDirectory, has_link, ends_after, ends_from, is_whole_at}
-use Rattle.reclaim.specs.Verified.{AreRoots, AreAllowed, AreLooked}
+use Rattle.reclaim.specs.Verified.{AreRoots, AreLooked}
 use Rattle.reclaim.specs.declared.table.Table.{Table}
 use Rattle.reclaim.proofs.Costs.{next_held}
-use Rattle.reclaim.proofs.Directories.{goes_on, begun_exact}
+use Rattle.reclaim.proofs.Directories.{begun_exact}
 use Rattle.reclaim.proofs.Linked.{ends_go, goes_end, ends_first, directory_followed, next_is}
 use Rattle.reclaim.proofs.Marking.{pass_marks}
 use Rattle.reclaim.proofs.Soundness.{trees_are_sound, trees_hold_nodes}
@@ -48,7 +47,7 @@ module _ (f : Blocks) (p : Pass) (pass : IsPass f p) (end : IsFinished p) where
   reached_seen : (b : ℕ) → Reached f p.roots b → HasSeen p b
   reached_seen b reached = all_seen b ((pass_marks f p pass end b).1 reached)
 
-  names_seen : (a b : ℕ) → HasSeen p a → Names (f a) b → HasSeen p b
+  pub names_seen : (a b : ℕ) → HasSeen p a → Names (f a) b → HasSeen p b
   names_seen a b seen names = reached_seen b (IsNamed (seen_reached f p a pass seen) names)
 
   seen_holds : (b : ℕ) → HasSeen p b → f b ≢ None
@@ -57,11 +56,11 @@ module _ (f : Blocks) (p : Pass) (pass : IsPass f p) (end : IsFinished p) where
 -- ---- where all was looked at, and the table is whole
 
 module _ (capacity : ℕ) (f : Blocks) (plain : Bool) (p : Pass) (t : Table) (pass : IsPass f p) (end : IsFinished p) (told : IsTold f p t) (high : (b : ℕ) → p.blocks ≤ b → f b ≡ None)
-    (looked : AreLooked capacity f plain p) (whole : (b : ℕ) → b < t.links.blocks → is_whole_at t b ≡ true) where
+    (looked : AreLooked capacity f plain p) (files : (b : ℕ) (item : Item) → HasSeen p b → Contains (link_items (f b)) item → IsSoundFile capacity f item.place) (whole : (b : ℕ) → b < t.links.blocks → is_whole_at t b ≡ true) where
   parts_of : (b : ℕ) → has_link t b ≡ true → (nat_lt b t.links.blocks ≡ true) × (set.contains t.links.members b ≡ true)
   parts_of b has = and_parts (nat_lt b t.links.blocks) (set.contains t.links.members b) has
 
-  tells : (b : ℕ) → has_link t b ≡ true → HoldsLink f b × (slice_index t.nexts.items b ≡ next_of (f b))
+  tells : (b : ℕ) → has_link t b ≡ true → HoldsLink f b × (slice_index t.words.items b ≡ next_of (f b))
   tells b has = let own = told.held b (parts_of b has).1 in (own.0, own.1)
 
   ends : (b : ℕ) → has_link t b ≡ true → ends_after t b ≡ true
@@ -78,8 +77,8 @@ module _ (capacity : ℕ) (f : Blocks) (plain : Bool) (p : Pass) (t : Table) (pa
   next_holds : (b : ℕ) → HasSeen p b → NextHoldsLink f (f b)
   next_holds b seen l is some =
       let has = told.links b seen (l, is) in
-      let at : slice_index t.nexts.items b ≡ l.next = (tells b has).1 ∙ next_is (f b) l is in
-      (tells l.next (ends_first 30 (has_link t) (slice_index t.nexts.items) l.next some (ap (ends_from most_after (has_link t) (slice_index t.nexts.items)) (sym at) ∙ ends b has))).0
+      let at : slice_index t.words.items b ≡ l.next = (tells b has).1 ∙ next_is (f b) l is in
+      (tells l.next (ends_first 30 (has_link t) (slice_index t.words.items) l.next some (ap (ends_from most_after (has_link t) (slice_index t.words.items)) (sym at) ∙ ends b has))).0
 
   names_nodes : (b : ℕ) → HasSeen p b → NamesNodes f (f b)
   names_nodes b seen c names = seen_holds f p pass end c (names_seen f p pass end b c seen names)
@@ -88,7 +87,7 @@ module _ (capacity : ℕ) (f : Blocks) (plain : Bool) (p : Pass) (t : Table) (pa
   own b seen = looked b seen (names_nodes b seen) (next_holds b seen)
 
   entry : (b : ℕ) → HasSeen p b → (l : Link) → link_of (f b) ≡ Some l → (item : Item) → Contains l.items item → IsSoundPlace capacity f item.place
-  entry b seen l is item within = subst (IsSoundPlace capacity f) refl (on item.place refl ((own b seen).parts.entries l is item within))
+  entry b seen l is item within = subst (IsSoundPlace capacity f) refl (on item.place refl (files b item seen there))
     where
       there : Contains (link_items (f b)) item
       there = subst (λ (xs : List Item). Contains xs item) (sym (list_is (f b) l is)) within
@@ -107,10 +106,10 @@ module _ (capacity : ℕ) (f : Blocks) (plain : Bool) (p : Pass) (t : Table) (pa
         names = record { entries = entry b seen; pointers = (own b seen).parts.pointers; short = (own b seen).parts.short };
         directory = λ (l, is).
             let has = told.links b seen (l, is) in
-            let at : slice_index t.nexts.items b ≡ l.next = (tells b has).1 ∙ next_is (f b) l is in
+            let at : slice_index t.words.items b ≡ l.next = (tells b has).1 ∙ next_is (f b) l is in
             (begun_exact f b l is).0
-            (ends_go f (has_link t) (slice_index t.nexts.items) tells (λ a own_link. (own a (told.held a (parts_of a own_link).1).2).followed) most_after b l has is
-            (ap (ends_from most_after (has_link t) (slice_index t.nexts.items)) (sym at) ∙ ends b has));
+            (ends_go f (has_link t) (slice_index t.words.items) tells (λ a own_link. (own a (told.held a (parts_of a own_link).1).2).followed) most_after b l has is
+            (ap (ends_from most_after (has_link t) (slice_index t.words.items)) (sym at) ∙ ends b has));
       }
 
   pub looked_plain : plain ≡ true → IsPlain f p.roots
@@ -133,21 +132,17 @@ module _ (limit : ℕ) (f : Blocks) (roots : List ℕ) (trees : AreRoots limit f
       let at = next_is (f b) l is in
       subst (HoldsLink f) at (next_held (limit - 80) f b (sound_at b reached) (l, is) (omega (arith, at, some)))
 
-  file_of : (place : Place) → IsSoundPlace (limit - 80) f place → IsSoundFile (limit - 80) f place
-  file_of (Dir block) sound = tt
-  file_of (File head size) sound = sound
-
   pub tree_looked : (plain : Bool) (b : ℕ) → Reached f roots b → (plain ≡ true → IsPlainNode (f b)) → IsLooked (limit - 80) f plain (f b)
   tree_looked plain b reached alone =
       let own = sound_at b reached in
       record {
-        parts = record { entries = λ l is item within. file_of item.place (own.names.entries l is item within); pointers = own.names.pointers; short = own.names.short };
+        parts = record { pointers = own.names.pointers; short = own.names.short };
         followed = directory_followed f b own.directory;
         alone = alone;
       }
 
 module _ (limit : ℕ) (f : Blocks) (p : Pass) (t : Table) (pass : IsPass f p) (end : IsFinished p) (told : IsTold f p t) (trees : AreRoots limit f p.roots) where
-  held_at : (b : ℕ) → has_link t b ≡ true → HoldsLink f b × ((slice_index t.nexts.items b ≡ next_of (f b)) × HasSeen p b)
+  held_at : (b : ℕ) → has_link t b ≡ true → HoldsLink f b × ((slice_index t.words.items b ≡ next_of (f b)) × HasSeen p b)
   held_at b has = let own = told.held b (and_parts (nat_lt b t.links.blocks) (set.contains t.links.members b) has).1 in (own.0, (own.1, own.2))
 
   pub tree_links : (roots : List ℕ) → p.roots ≡ roots → All (λ b. has_link t b ≡ true) roots
@@ -171,10 +166,10 @@ module _ (limit : ℕ) (f : Blocks) (p : Pass) (t : Table) (pass : IsPass f p) (
           let is : link_of (f b) ≡ Some l = own.0.1 in
           let reached = seen_reached f p b pass own.1.1 in
           let goes = (begun_exact f b l is).1 ((sound_at limit f p.roots trees b reached).directory (l, is)) in
-          let all : ends_from most_after (has_link t) (slice_index t.nexts.items) l.next ≡ true =
-          goes_end f (has_link t) (slice_index t.nexts.items) (λ a h. (held_at a h).1.0) (HasSeen p) told.links on_seen most_after b l own.1.1 is goes in
+          let all : ends_from most_after (has_link t) (slice_index t.words.items) l.next ≡ true =
+          goes_end f (has_link t) (slice_index t.words.items) (λ a h. (held_at a h).1.0) (HasSeen p) told.links on_seen most_after b l own.1.1 is goes in
           ap (λ (s : Bool). cond s (ends_after t b) (not (set.contains t.named.members b))) has
-          ∙ ap (ends_from most_after (has_link t) (slice_index t.nexts.items)) (own.1.0 ∙ next_is (f b) l is) ∙ all
+          ∙ ap (ends_from most_after (has_link t) (slice_index t.words.items)) (own.1.0 ∙ next_is (f b) l is) ∙ all
 
       other : has_link t b ≡ false → is_whole_at t b ≡ true
       other lacks = ap (λ (s : Bool). cond s (ends_after t b) (not (set.contains t.named.members b))) lacks ∙ by_bool (not (set.contains t.named.members b) ≡ true) (set.contains t.named.members b) named (λ none. ap not none)

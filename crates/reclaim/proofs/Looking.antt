@@ -1,24 +1,18 @@
 -- What one look at a block shows.
-use Rattle.std.proofs.Common.{◌≡◌, ◌≢◌, ◌↔◌, ◌⊎◌, inl, inr, ℕ, zero, suc, ◌+◌, ◌-◌, ◌*◌, ◌/◌, ◌%◌, ◌^◌, ◌<◌, ◌≤◌, Bool, true, false, ◌&&◌, Option, Some, None, List, [], ◌∷◌, length, drop, length-drop, refl, sym, ap, subst, ◌∙◌, arith}
-use Rattle.std.specs.Prelude.{Contains, not, IsTrue, All, is_some, nat_eq, nat_lt, unwrap_or, map, slice_index, slice_index_or}
+use Rattle.std.proofs.Common.{◌≡◌, ◌≢◌, ◌↔◌, ◌⊎◌, inl, inr, ℕ, zero, suc, ◌+◌, ◌-◌, ◌*◌, ◌^◌, ◌<◌, ◌≤◌, Bool, true, false, ◌&&◌, Option, Some, None, List, [], length, drop, length-drop, refl, sym, ap, subst, ◌∙◌, arith}
+use Rattle.std.specs.Prelude.{not, IsTrue, is_some, nat_eq, nat_lt, unwrap_or, slice_index}
 use Rattle.std.specs.Option.{option_map, option_map_or, option_eq}
-use Rattle.std.proofs.Math.Nat.{div-add-mod'}
-use Rattle.std.proofs.lemmas.Bool.{true≢false, cases_lt, and_parts, and_from, ltb-true, lt-ltb, eqb-true, eq-eqb}
-use Rattle.std.proofs.lemmas.List.{length-map}
-use Rattle.std.proofs.lemmas.List.Elements.{All-nil, All-cons, All-get_or, All-head, All-tail, All-map, All-contains, All-contains_itself, All-weaker}
+use Rattle.std.proofs.lemmas.Bool.{true≢false, cases_lt, and_parts, ltb-true, lt-ltb, eqb-true}
 use Rattle.fs_types.specs.declared.fault.Fault.{Fault}
 use Rattle.fs_types.specs.declared.fault.Fault.TheVariants.{ReadFailed, PowerCut, NoMemory, Damaged}
 use Rattle.node_store.specs.Faults.{IsLookFault, IsReadFault}
-use Rattle.node_format.specs.Items.{Item}
-use Rattle.node_format.specs.Links.{Link, link_at}
-use Rattle.node_format.specs.declared.place.Place.{Place}
-use Rattle.block_trees.specs.Bodies.{Blocks, index_of, pointer_of, data_of, head_index}
-use Rattle.block_trees.specs.Chains.{link_of, next_of, link_items}
-use Rattle.block_trees.proofs.Entries.{directory_no_index}
+use Rattle.node_format.specs.Links.{Link}
+use Rattle.block_trees.specs.Bodies.{Blocks, index_of, pointer_of, data_of}
+use Rattle.block_trees.specs.Chains.{link_of, next_of}
 use Rattle.reclaim.specs.Naming.{has_slot}
 use Rattle.reclaim.specs.declared.edge.Edge.{Edge}
-use Rattle.reclaim.specs.Sound.{IsPlainNode, IsHead, HoldsSlot, IsSoundBody}
-use Rattle.reclaim.specs.Looks.{LeadsToNodes, LeadToNodes, SlotsHold, NextHoldsLink, IsFollowed, IsLooked, is_chained, edge_of, edge_at, last_name, may_follow, body_of, name_reads, AreSteppedTo, ArePartsOf, IsSoundAt, IsSoundFile, AreSoundParts}
+use Rattle.reclaim.specs.Sound.{IsPlainNode, HoldsSlot, IsSoundBody}
+use Rattle.reclaim.specs.Looks.{SlotsHold, NextHoldsLink, IsFollowed, IsLooked, is_chained, edge_of, edge_at, last_name, may_follow, body_of, pointer_reads, AreSteppedTo, ArePartsOf, IsSoundAt, AreSoundParts}
 use Rattle.fs_types.specs.Names.{Name}
 use Rattle.fields.proofs.Found.{some_is as found_is}
 use Rattle.reclaim.proofs.Chains.{fewer_slots}
@@ -81,28 +75,6 @@ same_pair (Some (i, n)) index held differs is equal =
 some_is : (a b : ℕ) → Some a ≡ Some b → a ≡ b
 some_is a b is = ap (λ (o : Option ℕ). unwrap_or o a) is
 
-pub head_none : (capacity : ℕ) (f : Blocks) (head size : ℕ) → size ≢ 0 → body_of (f head) ≡ None → IsTrue false ↔ IsHead capacity f head size
-head_none capacity f head zero some none = absurd (some refl)
-head_none capacity f head (suc n) some none = (λ t. absurd (never t), λ is. absurd (no_index (f head) (head_index capacity (suc n)) none is.0))
-
-pub head_some : (capacity : ℕ) (f : Blocks) (head size index held : ℕ) (good : Bool) → size ≢ 0 → body_of (f head) ≡ Some (index, held)
-    → good ≡ (nat_eq index ((size - 1) / capacity) && nat_lt ((size - 1) % capacity) held) → IsTrue good ↔ IsHead capacity f head size
-head_some capacity f head zero index held good some is same = absurd (some refl)
-head_some capacity f head (suc n) index held good some is same = (
-  λ t.
-      let both = and_parts (nat_eq index ((suc n - 1) / capacity)) (nat_lt ((suc n - 1) % capacity) held) (sym same ∙ t) in
-      let at = eqb-true index ((suc n - 1) / capacity) both.0 in
-      let less = ltb-true ((suc n - 1) % capacity) held both.1 in
-      (parts.0 ∙ ap (λ (i : ℕ). Some i) at, omega (arith, less, parts.1, div-add-mod' (suc n - 1) capacity)),
-  λ h.
-      let at = some_is index ((suc n - 1) / capacity) (sym parts.0 ∙ h.0) in
-      let less : (suc n - 1) % capacity < held = omega (arith, h.1, parts.1, div-add-mod' (suc n - 1) capacity) in
-      same ∙ and_from (nat_eq index ((suc n - 1) / capacity)) (nat_lt ((suc n - 1) % capacity) held) (eq-eqb index ((suc n - 1) / capacity) at) (lt-ltb ((suc n - 1) % capacity) held less),
-)
-  where
-    parts : (index_of (f head) ≡ Some index) × (length (data_of (f head)) ≡ held)
-    parts = body_parts (f head) index held is
-
 -- ---- pointers
 
 pub stepped_not : (f : Blocks) (p : ℕ → ℕ) (index x : ℕ) (holds : Bool) → x < 12 → has_slot index (suc x) ≡ true → holds ≡ false
@@ -162,66 +134,21 @@ body_same capacity f p q (suc i) same h = (
     first : p 0 ≡ q 0
     first = same 0 (omega arith)
 
--- ---- entries
-
--- the entries of a node are sound
-abbrev pub AreSoundEntries : ℕ → Blocks → Option (List ℕ) → Type 0
-AreSoundEntries capacity f node = (l : Link) → link_of node ≡ Some l → (item : Item) → Contains l.items item → IsSoundFile capacity f item.place
-
-places_back : (P : Place → Type 0) (items : List Item) → All P (map (λ (item : Item). item.place) items) → All (λ (item : Item). P item.place) items
-places_back P [] all = All-nil (λ (item : Item). P item.place)
-places_back P (item ∷ items) all =
-    let rest = map (λ (item : Item). item.place) items in
-    All-cons (λ (item : Item). P item.place) item items (All-head P item.place rest all) (places_back P items (All-tail P item.place rest all))
-
-pub entries_all : (capacity : ℕ) (f : Blocks) (node : Option (List ℕ)) (places : List Place) → places ≡ map (λ (item : Item). item.place) (link_items node)
-    → All (IsSoundFile capacity f) places → AreSoundEntries capacity f node
-entries_all capacity f node places is all l some item within =
-    let own : link_items node ≡ l.items = ap (λ (o : Option Link). option_map_or (λ x. x.items) o []) some in
-    let here : All (IsSoundFile capacity f) (map (λ (item : Item). item.place) l.items) =
-    subst (λ (l : List Item). All (IsSoundFile capacity f) (map (λ (item : Item). item.place) l)) own (subst (All (IsSoundFile capacity f)) is all) in
-    All-contains (λ (item : Item). IsSoundFile capacity f item.place) l.items item (places_back (IsSoundFile capacity f) l.items here) within
-
-pub all_entries : (capacity : ℕ) (f : Blocks) (node : Option (List ℕ)) (places : List Place) → places ≡ map (λ (item : Item). item.place) (link_items node)
-    → AreSoundEntries capacity f node → All (IsSoundFile capacity f) places
-all_entries capacity f node places is sound = subst (All (IsSoundFile capacity f)) (sym is) (on (link_of node) sound)
-  where
-    on : (o : Option Link) → ((l : Link) → o ≡ Some l → (item : Item) → Contains l.items item → IsSoundFile capacity f item.place)
-        → All (IsSoundFile capacity f) (map (λ (item : Item). item.place) (option_map_or (λ x. x.items) o []))
-    on None sound = All-nil (IsSoundFile capacity f)
-    on (Some l) sound =
-        All-map (IsSoundFile capacity f) (λ (item : Item). item.place) l.items
-        (All-weaker (Contains l.items) (λ (item : Item). IsSoundFile capacity f item.place) (sound l refl) l.items (All-contains_itself l.items))
-
 -- ---- nodes
 
-pub node_bad : (capacity : ℕ) (f : Blocks) (node : Option (List ℕ)) (places : List Place) (good : Bool) → places ≡ map (λ (item : Item). item.place) (link_items node)
-    → (IsTrue good ↔ All (IsSoundFile capacity f) places) → good ≡ false → IsTrue false ↔ AreSoundParts capacity f node
-node_bad capacity f node places good is exact bad = (λ t. absurd (never t), λ h. sym bad ∙ exact.1 (all_entries capacity f node places is h.entries))
-
-pub node_plain : (capacity : ℕ) (f : Blocks) (node : Option (List ℕ)) (places : List Place) (good : Bool) → places ≡ map (λ (item : Item). item.place) (link_items node)
-    → (IsTrue good ↔ All (IsSoundFile capacity f) places) → good ≡ true → index_of node ≡ None → IsTrue true ↔ AreSoundParts capacity f node
-node_plain capacity f node places good is exact well none = (
+pub node_plain : (capacity : ℕ) (f : Blocks) (node : Option (List ℕ)) → index_of node ≡ None → IsTrue true ↔ AreSoundParts capacity f node
+node_plain capacity f node none = (
   λ t. record {
-    entries = entries_all capacity f node places is (exact.0 well);
     pointers = λ index some. absurd (true≢false (ap is_some (sym some ∙ none)));
     short = λ index some. absurd (true≢false (ap is_some (sym some ∙ none)));
   },
   λ h. refl,
 )
 
--- no file has a node of such an index
-pub node_long : (capacity : ℕ) (f : Blocks) (held : Option (List ℕ)) (index : ℕ) (short : Bool) → index_of held ≡ Some index → short ≡ nat_lt (index * capacity) MAX_FILE_BYTES
-    → short ≡ false → IsTrue false ↔ AreSoundParts capacity f held
-node_long capacity f held index short has is long = (λ t. absurd (never t), λ h. sym long ∙ is ∙ lt-ltb (index * capacity) MAX_FILE_BYTES (h.short index has))
-
-pub node_body : (capacity : ℕ) (f : Blocks) (node : Option (List ℕ)) (places : List Place) (good : Bool) → places ≡ map (λ (item : Item). item.place) (link_items node)
-    → (IsTrue good ↔ All (IsSoundFile capacity f) places) → good ≡ true
-    → (index : ℕ) (pointers : ℕ → ℕ) (sound : Bool) → index_of node ≡ Some index → ((x : ℕ) → x < SLOTS → pointers x ≡ pointer_of node x) → index * capacity < MAX_FILE_BYTES
-    → (IsTrue sound ↔ IsSoundBody capacity f pointers index) → IsTrue sound ↔ AreSoundParts capacity f node
-node_body capacity f node places good is exact well index pointers sound has same short body = (
+pub node_body : (capacity : ℕ) (f : Blocks) (node : Option (List ℕ)) (index : ℕ) (pointers : ℕ → ℕ) (sound : Bool) → index_of node ≡ Some index → ((x : ℕ) → x < SLOTS → pointers x ≡ pointer_of node x)
+    → index * capacity < MAX_FILE_BYTES → (IsTrue sound ↔ IsSoundBody capacity f pointers index) → IsTrue sound ↔ AreSoundParts capacity f node
+node_body capacity f node index pointers sound has same short body = (
   λ t. record {
-    entries = entries_all capacity f node places is (exact.0 well);
     pointers = λ i some.
         let own : index ≡ i = some_is index i (sym has ∙ some) in
         subst (IsSoundBody capacity f (pointer_of node)) own (body_same capacity f pointers (pointer_of node) index same (body.0 t));
@@ -231,31 +158,21 @@ node_body capacity f node places good is exact well index pointers sound has sam
 )
 
 -- the same parts in other words
-pub parts_same : (node : Option (List ℕ)) (places : List Place) (pointers : List ℕ) (places' : List Place) (pointers' : List ℕ) (index : Option ℕ) → places' ≡ places → pointers' ≡ pointers
-    → ArePartsOf node places pointers index → ArePartsOf node places' pointers' index
-parts_same node places pointers places' pointers' index same_places same_pointers parts =
-    subst (λ (p : List Place). ArePartsOf node p pointers' index) (sym same_places) (subst (λ (p : List ℕ). ArePartsOf node places p index) (sym same_pointers) parts)
+pub parts_same : (node : Option (List ℕ)) (pointers pointers' : List ℕ) (index : Option ℕ) → pointers' ≡ pointers → ArePartsOf node pointers index → ArePartsOf node pointers' index
+parts_same node pointers pointers' index same_pointers parts = subst (λ (p : List ℕ). ArePartsOf node p index) (sym same_pointers) parts
 
--- a node by its parts: entries that are not sound, no index, and an index
-pub parts_bad : (capacity : ℕ) (f : Blocks) (places : List Place) (pointers : List ℕ) (index : Option ℕ) (good : Bool) → (IsTrue good ↔ All (IsSoundFile capacity f) places) → good ≡ false
-    → (node : Option (List ℕ)) → ArePartsOf node places pointers index → IsTrue false ↔ AreSoundParts capacity f node
-parts_bad capacity f places pointers index good exact bad node parts = node_bad capacity f node places good parts.places_are exact bad
+-- a node by its parts: no index, and an index
+pub parts_plain : (capacity : ℕ) (f : Blocks) (pointers : List ℕ) (index : Option ℕ) → index ≡ None → (node : Option (List ℕ)) → ArePartsOf node pointers index → IsTrue true ↔ AreSoundParts capacity f node
+parts_plain capacity f pointers index none node parts = node_plain capacity f node (sym parts.index_is ∙ none)
 
-pub parts_plain : (capacity : ℕ) (f : Blocks) (places : List Place) (pointers : List ℕ) (index : Option ℕ) (good : Bool) → (IsTrue good ↔ All (IsSoundFile capacity f) places) → good ≡ true → index ≡ None
-    → (node : Option (List ℕ)) → ArePartsOf node places pointers index → IsTrue true ↔ AreSoundParts capacity f node
-parts_plain capacity f places pointers index good exact well none node parts = node_plain capacity f node places good parts.places_are exact well (sym parts.index_is ∙ none)
-
-pub parts_body : (capacity : ℕ) (f f' : Blocks) (places : List Place) (pointers : List ℕ) (index : ℕ) (good sound : Bool) → f' ≡ f → (IsTrue good ↔ All (IsSoundFile capacity f) places) → good ≡ true
-    → (IsTrue sound ↔ IsSoundAt capacity f' (slice_index pointers) index) → (node : Option (List ℕ)) → ArePartsOf node places pointers (Some index) → IsTrue sound ↔ AreSoundParts capacity f node
-parts_body capacity f f' places pointers index good sound same exact well own node parts = (λ t. (whole t).0 t, λ h. here.1 (h.short index (sym parts.index_is), body_same capacity f (pointer_of node) (slice_index pointers) index (λ x below. sym (parts.pointers_are x below)) (h.pointers index (sym parts.index_is))))
+pub parts_body : (capacity : ℕ) (f : Blocks) (pointers : List ℕ) (index : ℕ) (sound : Bool) → (IsTrue sound ↔ IsSoundAt capacity f (slice_index pointers) index) → (node : Option (List ℕ)) → ArePartsOf node pointers (Some index)
+    → IsTrue sound ↔ AreSoundParts capacity f node
+parts_body capacity f pointers index sound here node parts = (λ t. (whole t).0 t, λ h. here.1 (h.short index (sym parts.index_is), body_same capacity f (pointer_of node) (slice_index pointers) index (λ x below. sym (parts.pointers_are x below)) (h.pointers index (sym parts.index_is))))
   where
-    here : IsTrue sound ↔ IsSoundAt capacity f (slice_index pointers) index
-    here = subst (λ (h : Blocks). IsTrue sound ↔ IsSoundAt capacity h (slice_index pointers) index) same own
-
     whole : IsTrue sound → IsTrue sound ↔ AreSoundParts capacity f node
     whole t =
         let at = here.0 t in
-        node_body capacity f node places good parts.places_are exact well index (slice_index pointers) sound (sym parts.index_is) parts.pointers_are at.0 (λ s. (here.0 s).1, λ b. t)
+        node_body capacity f node index (slice_index pointers) sound (sym parts.index_is) parts.pointers_are at.0 (λ s. (here.0 s).1, λ b. t)
 
 -- a test that is answered by another, where a file can have the index
 pub at_long : (capacity : ℕ) (f : Blocks) (p : ℕ → ℕ) (index : ℕ) (short : Bool) → short ≡ nat_lt (index * capacity) MAX_FILE_BYTES → short ≡ false → IsTrue false ↔ IsSoundAt capacity f p index
@@ -264,42 +181,12 @@ at_long capacity f p index short is long = (λ t. absurd (never t), λ h. sym lo
 pub at_short : (capacity : ℕ) (f : Blocks) (p : ℕ → ℕ) (index : ℕ) (short sound : Bool) → short ≡ nat_lt (index * capacity) MAX_FILE_BYTES → short ≡ true → (IsTrue sound ↔ IsSoundBody capacity f p index) → IsTrue sound ↔ IsSoundAt capacity f p index
 at_short capacity f p index short sound is well body = (λ t. (ltb-true (index * capacity) MAX_FILE_BYTES (sym is ∙ well), body.0 t), λ h. body.1 h.1)
 
--- ---- reads of what a node names
+-- ---- reads for pointers
 
--- one for each entry
-pub name_places : (node : Option (List ℕ)) (places : List Place) → places ≡ map (λ (item : Item). item.place) (link_items node) → length places ≤ name_reads node
-name_places node places is = on (link_of node) (ap length is)
-  where
-    on : (o : Option Link) → length places ≡ length (map (λ (item : Item). item.place) (option_map_or (λ x. x.items) o [])) → length places ≤ option_map_or (λ x. length x.items) o 13
-    on None size = omega (arith, size)
-    on (Some l) size = omega (arith, size, length-map l.items (λ (item : Item). item.place))
-
--- a body node has no entries
-pub name_body : (node : Option (List ℕ)) (places : List Place) (index : ℕ) → places ≡ map (λ (item : Item). item.place) (link_items node) → index_of node ≡ Some index
-    → 13 + length places ≤ name_reads node
-name_body node places index is has = on (link_of node) refl (ap length is)
-  where
-    on : (o : Option Link) → link_of node ≡ o → length places ≡ length (map (λ (item : Item). item.place) (option_map_or (λ x. x.items) o [])) → 13 + length places ≤ option_map_or (λ x. length x.items) o 13
-    on None none size = omega (arith, size)
-    on (Some l) some size = absurd (true≢false (ap is_some (sym has ∙ directory_no_index node l some)))
-
--- one look at each entry, or those of a body
-pub parts_places : (node : Option (List ℕ)) (places : List Place) (pointers : List ℕ) (index : Option ℕ) (before now : ℕ) → now ≤ before + length places → ArePartsOf node places pointers index → now ≤ before + name_reads node
-parts_places node places pointers index before now few parts = (let most = name_places node places parts.places_are in omega (arith, most, few))
-
-pub parts_at : (node : Option (List ℕ)) (places : List Place) (pointers : List ℕ) (index before now now' : ℕ) → now ≤ before + length places → now' ≤ now + 13 → ArePartsOf node places pointers (Some index) → now' ≤ before + name_reads node
-parts_at node places pointers index before now now' few more parts = (let most = name_body node places index parts.places_are (sym parts.index_is) in omega (arith, most, few, more))
+pub parts_at : (node : Option (List ℕ)) (pointers : List ℕ) (index before now : ℕ) → now ≤ before + 13 → ArePartsOf node pointers (Some index) → now ≤ before + pointer_reads node
+parts_at node pointers index before now few parts = (let most : pointer_reads node ≡ 13 = ap (λ (o : Option ℕ). option_map_or (λ i. 13) o 0) (sym parts.index_is) in omega (arith, most, few))
 
 -- ---- what calls answered
-
--- a place of a list, where the places lead to nodes
-pub file_here : (capacity : ℕ) (f h : Blocks) (places : List Place) (place : Place) (good : Bool) → h ≡ f → Contains places place → LeadToNodes f places
-    → (LeadsToNodes h place → IsTrue good ↔ IsSoundFile capacity h place) → IsTrue good ↔ IsSoundFile capacity f place
-file_here capacity f h places place good same within lead exact =
-    subst (λ (k : Blocks). (LeadsToNodes k place → IsTrue good ↔ IsSoundFile capacity k place)) same exact (lead place within)
-
-pub files_bad : (P : Place → Type 0) (xs : List Place) (i : ℕ) (d : Place) (good : Bool) → i < length xs → (IsTrue good ↔ P (slice_index_or xs i d)) → good ≡ false → IsTrue false ↔ All P xs
-files_bad P xs i d good below exact bad = (λ t. absurd (never t), λ all. sym bad ∙ exact.1 (All-get_or P xs i d below all))
 
 -- the node that a slot before another leads to
 pub slot_there : (f h : Blocks) (p : ℕ → ℕ) (index x : ℕ) → h ≡ f → suc x < SLOTS → has_slot index (suc x) ≡ true → SlotsHold f p index → h (p x) ≢ None
@@ -374,6 +261,18 @@ pub look_exact : (capacity : ℕ) (f h : Blocks) (plain : Bool) (node : Option (
 look_exact capacity f h plain node good same exact followed alone =
     let own : IsTrue good ↔ AreSoundParts capacity f node = subst (λ (k : Blocks). IsTrue good ↔ AreSoundParts capacity k node) same exact in
     (λ t. record { parts = own.0 t; followed = followed; alone = alone }, λ h. own.1 h.parts)
+
+-- what is told of the node after one that says this
+pub edge_some : (node : Option (List ℕ)) (edge : Option Edge) → option_map (λ (e : Edge). (e.last.items, e.next)) edge ≡ edge_at node → is_some edge ≡ is_some (link_of node)
+edge_some node edge says = first edge ∙ ap is_some says ∙ second (link_of node)
+  where
+    first : (o : Option Edge) → is_some o ≡ is_some (option_map {U = Name × ℕ} (λ (e : Edge). (e.last.items, e.next)) o)
+    first None = refl
+    first (Some e) = refl
+
+    second : (o : Option Link) → is_some (option_map edge_of o) ≡ is_some o
+    second None = refl
+    second (Some l) = refl
 
 -- the block of the node after one that says this
 pub next_said : (node : Option (List ℕ)) (edge : Option Edge) → option_map (λ (e : Edge). (e.last.items, e.next)) edge ≡ edge_at node → option_map (λ (e : Edge). e.next) edge ≡ option_map (λ (l : Link). l.next) (link_of node)

@@ -1,14 +1,14 @@
 -- What a table tells after one node more was read.
-use Rattle.std.proofs.Common.{◌≡◌, ◌≢◌, ◌↔◌, ◌⊎◌, inl, inr, ℕ, zero, suc, ◌+◌, ◌<◌, ◌≤◌, Bool, true, false, cond, Option, Some, None, Result, Ok, Err, List, [], ◌∷◌, length, take, drop, refl, sym, ap, subst, ◌∙◌, arith}
+use Rattle.std.proofs.Common.{◌≡◌, ◌≢◌, ◌↔◌, ◌⊎◌, inl, inr, ℕ, zero, suc, ◌+◌, ◌<◌, Bool, true, false, cond, Option, Some, None, Result, Ok, Err, List, [], ◌∷◌, length, take, refl, sym, ap, subst, ◌∙◌, arith}
 use Rattle.std.specs.FinSet as set
 use Rattle.std.specs.Ordering.{nat_cmp}
-use Rattle.std.specs.Prelude.{Contains, slice_index, slice_set, nat_lt, is_some, ◌&&◌, ◌||◌, OnOk, eqb}
-use Rattle.std.specs.Option.{option_map, option_map_or}
+use Rattle.std.specs.Prelude.{Contains, slice_index, nat_lt, is_some, ◌&&◌, ◌||◌, OnOk, IfOk, eqb}
+use Rattle.std.specs.Option.{option_map_or}
 use Rattle.std.specs.List.{sum_by}
 use Rattle.std.proofs.lemmas.Bool.{true≢false, cases_lt, and_parts, and_from, ne_eqb, lt-ltb, eqb-true, eq-eqb}
 use Rattle.std.proofs.lemmas.Cmp.{nat_cmp_total}
 use Rattle.std.specs.Cmp.{unsigned_tied}
-use Rattle.std.proofs.lemmas.List.{get_or-set_same, get_or-set_other, take-append-le}
+use Rattle.std.proofs.lemmas.List.{take-append-le}
 use Rattle.std.proofs.lemmas.List.Elements.{Contains-get_or}
 use Rattle.node_format.specs.Items.{Item, is_dir_place}
 use Rattle.node_format.specs.declared.place.Place.TheVariants.{Dir}
@@ -19,8 +19,8 @@ use Rattle.block_trees.specs.Bodies.{Blocks}
 use Rattle.block_trees.specs.Chains.{link_of, next_of, link_items}
 use Rattle.block_trees.specs.Reached.{Reached}
 use Rattle.allocator.proofs.RingOrder.{contains-insert_same, contains-kept}
-use Rattle.reclaim.specs.Passes.{Pass, IsPass, Advances, AreNoted, Begins, IsMarkFault}
-use Rattle.reclaim.specs.Looks.{look_reads, NamesNodes, NextHoldsLink, IsLooked}
+use Rattle.reclaim.specs.Passes.{Pass, IsPass, Advances, AreNoted, IsMarkFault}
+use Rattle.reclaim.specs.Looks.{NamesNodes, NextHoldsLink, IsLooked}
 use Rattle.reclaim.specs.Sound.{HoldsLink}
 use Rattle.reclaim.specs.Tables.{IsSized, IsTold, HasSeen, NamesDirectory, has_link}
 use Rattle.reclaim.specs.Verified.{AreLooked, name_any_directory}
@@ -80,7 +80,7 @@ module _ (p q : Pass) (block : ℕ) (on : Advances p q) (left : p.next < length 
   -- ---- what is told
 
   module _ (f : Blocks) (t u : Table) (named : List ℕ) (told : IsTold f p t) (below : block < p.blocks) (sized : IsSized t.links.blocks u) (directories : (b : ℕ) → Contains named b ↔ NamesDirectory (f block) b)
-      (noted : AreNoted t.named.members named t.links.blocks u.named.members) where
+      (noted : AreNoted t.named.members named t.links.blocks u.named.members) (stay : (b : ℕ) → b ≢ block → set.contains t.links.members b ≡ true → slice_index u.words.items b ≡ slice_index t.words.items b) where
     quiet_on : (silent : Bool) → u.quiet.members ≡ cond silent (set.insert t.quiet.members block) t.quiet.members → ((b : ℕ) → set.contains t.links.members b ≡ true → set.contains u.links.members b ≡ true)
         → (silent ≡ true → (set.contains u.links.members block ≡ true) × ((c : ℕ) → NamesDirectory (f block) c → ⊥)) → (b : ℕ) → set.contains u.quiet.members b ≡ true
         → (b < q.blocks) × (set.contains u.links.members b ≡ true) × ((c : ℕ) → NamesDirectory (f b) c → ⊥)
@@ -130,12 +130,12 @@ module _ (p q : Pass) (block : ℕ) (on : Advances p q) (left : p.next < length 
         by (inr same) = noted.all b ((directories b).1 (subst (λ (c : ℕ). NamesDirectory (f c) b) (sym same) names)) (omega (arith, less, on.blocks, told.sized.links))
 
     -- the node is none of a directory
-    pub told_other : link_of (f block) ≡ None → u.links.members ≡ t.links.members → u.nexts.items ≡ t.nexts.items → u.quiet.members ≡ t.quiet.members → IsTold f q u
-    told_other none links nexts quiet = record {
+    pub told_other : link_of (f block) ≡ None → u.links.members ≡ t.links.members → u.quiet.members ≡ t.quiet.members → IsTold f q u
+    told_other none links quiet = record {
       sized = all_sized;
       held = λ b has.
           let own = told.held b (ap (λ s. set.contains s b) (sym links) ∙ has) in
-          (own.0, ap (λ (xs : List ℕ). slice_index xs b) nexts ∙ own.1, seen_on b own.2);
+          (own.0, stay b (λ same. true≢false (ap is_some (sym own.0.1 ∙ ap (λ (c : ℕ). link_of (f c)) same ∙ none))) (ap (λ s. set.contains s b) (sym links) ∙ has) ∙ own.1, seen_on b own.2);
       links = λ b seen holds. by b holds (seen_back b seen);
       names = new_names;
       named = new_named;
@@ -150,9 +150,9 @@ module _ (p q : Pass) (block : ℕ) (on : Advances p q) (left : p.next < length 
         by b holds (inr same) = absurd (true≢false (ap is_some (sym holds.1 ∙ ap (λ (c : ℕ). link_of (f c)) (sym same) ∙ none)))
 
     -- it is one
-    pub told_link : (l : Link) → link_of (f block) ≡ Some l → u.links.members ≡ set.insert t.links.members block → u.nexts.items ≡ slice_set t.nexts.items block l.next
+    pub told_link : (l : Link) → link_of (f block) ≡ Some l → u.links.members ≡ set.insert t.links.members block → slice_index u.words.items block ≡ l.next
         → u.quiet.members ≡ cond (eqb (length named) 0) (set.insert t.quiet.members block) t.quiet.members → IsTold f q u
-    told_link l is links nexts quiet = record {
+    told_link l is links next quiet = record {
       sized = all_sized;
       held = λ b has. held b (eqb b block) refl (ap (λ s. set.contains s b) (sym links) ∙ has);
       links = λ b seen holds.
@@ -172,31 +172,32 @@ module _ (p q : Pass) (block : ℕ) (on : Advances p q) (left : p.next < length 
         there b holds (inl before) = contains-kept t.links.members block b (and_parts (nat_lt b t.links.blocks) (set.contains t.links.members b) (told.links b before holds)).1
         there b holds (inr same) = subst (λ (c : ℕ). set.contains (set.insert t.links.members block) c ≡ true) same (contains-insert_same t.links.members block)
 
-        held : (b : ℕ) (here : Bool) → eqb b block ≡ here → set.contains (set.insert t.links.members block) b ≡ true → HoldsLink f b × (slice_index u.nexts.items b ≡ next_of (f b)) × HasSeen q b
+        held : (b : ℕ) (here : Bool) → eqb b block ≡ here → set.contains (set.insert t.links.members block) b ≡ true → HoldsLink f b × (slice_index u.words.items b ≡ next_of (f b)) × HasSeen q b
         held b true e has =
             let same : block ≡ b = sym (eqb-true b block e) in
-            subst (λ (c : ℕ). HoldsLink f c × (slice_index u.nexts.items c ≡ next_of (f c)) × HasSeen q c) same
-            ((l, is), ap (λ (xs : List ℕ). slice_index xs block) nexts ∙ get_or-set_same t.nexts.items block l.next 0 (omega (arith, below, told.sized.nexts)) ∙ sym (ap (λ (o : Option Link). option_map_or (λ k. k.next) o 0) is), seen_new)
+            subst (λ (c : ℕ). HoldsLink f c × (slice_index u.words.items c ≡ next_of (f c)) × HasSeen q c) same
+            ((l, is), next ∙ sym (ap (λ (o : Option Link). option_map_or (λ k. k.next) o 0) is), seen_new)
         held b false e has =
             let other : b ≢ block = λ same. true≢false (sym (eq-eqb b block same) ∙ e) in
-            let own = told.held b (contains_other t.links.members block b other has) in
-            (own.0, ap (λ (xs : List ℕ). slice_index xs b) nexts ∙ get_or-set_other t.nexts.items block b l.next 0 other ∙ own.1, seen_on b own.2)
+            let before = contains_other t.links.members block b other has in
+            let own = told.held b before in
+            (own.0, stay b other before ∙ own.1, seen_on b own.2)
 
     -- by what was noted
-    pub told_on : (next : Option ℕ) → next ≡ option_map (λ (l : Link). l.next) (link_of (f block)) → u.links.members ≡ cond (is_some next) (set.insert t.links.members block) t.links.members
-        → u.nexts.items ≡ option_map_or (λ n. slice_set t.nexts.items block n) next t.nexts.items
-        → u.quiet.members ≡ cond (is_some next && eqb (length named) 0) (set.insert t.quiet.members block) t.quiet.members → IsTold f q u
-    told_on next is links nexts quiet = by (link_of (f block)) refl
+    pub told_on : (linked : Bool) → linked ≡ is_some (link_of (f block)) → u.links.members ≡ cond linked (set.insert t.links.members block) t.links.members
+        → ((l : Link) → link_of (f block) ≡ Some l → slice_index u.words.items block ≡ l.next)
+        → u.quiet.members ≡ cond (linked && eqb (length named) 0) (set.insert t.quiet.members block) t.quiet.members → IsTold f q u
+    told_on linked is links next quiet = by (link_of (f block)) refl
       where
         by : (o : Option Link) → link_of (f block) ≡ o → IsTold f q u
         by None own =
-            let none : next ≡ None = is ∙ ap (option_map (λ (l : Link). l.next)) own in
-            told_other own (links ∙ ap (λ (o : Option ℕ). cond (is_some o) (set.insert t.links.members block) t.links.members) none) (nexts ∙ ap (λ (o : Option ℕ). option_map_or (λ n. slice_set t.nexts.items block n) o t.nexts.items) none)
-            (quiet ∙ ap (λ (o : Option ℕ). cond (is_some o && eqb (length named) 0) (set.insert t.quiet.members block) t.quiet.members) none)
+            let none : linked ≡ false = is ∙ ap is_some own in
+            told_other own (links ∙ ap (λ (s : Bool). cond s (set.insert t.links.members block) t.links.members) none)
+            (quiet ∙ ap (λ (s : Bool). cond (s && eqb (length named) 0) (set.insert t.quiet.members block) t.quiet.members) none)
         by (Some l) own =
-            let some : next ≡ Some l.next = is ∙ ap (option_map (λ (l : Link). l.next)) own in
-            told_link l own (links ∙ ap (λ (o : Option ℕ). cond (is_some o) (set.insert t.links.members block) t.links.members) some) (nexts ∙ ap (λ (o : Option ℕ). option_map_or (λ n. slice_set t.nexts.items block n) o t.nexts.items) some)
-            (quiet ∙ ap (λ (o : Option ℕ). cond (is_some o && eqb (length named) 0) (set.insert t.quiet.members block) t.quiet.members) some)
+            let some : linked ≡ true = is ∙ ap is_some own in
+            told_link l own (links ∙ ap (λ (s : Bool). cond s (set.insert t.links.members block) t.links.members) some) (next l own)
+            (quiet ∙ ap (λ (s : Bool). cond (s && eqb (length named) 0) (set.insert t.quiet.members block) t.quiet.members) some)
 
 -- nothing was read
 pub looked_none : (capacity : ℕ) (f : Blocks) (plain : Bool) (p : Pass) → p.next ≡ 0 → AreLooked capacity f plain p
@@ -215,10 +216,10 @@ told_none f p t none sized links named quiet = record {
 
 -- ---- what the walk of depths is told
 
-pub told_quiet : (f : Blocks) (p : Pass) (t : Table) → IsTold f p t → AreQuiet f t.quiet.members t.nexts.items
+pub told_quiet : (f : Blocks) (p : Pass) (t : Table) → IsTold f p t → AreQuiet f t.quiet.members t.words.items
 told_quiet f p t told b has =
     let own = told.quiet b has in
-    (omega (arith, own.0, told.sized.nexts), sym (told.held b own.1).1, λ c. none c (names_directory (link_items (f b)) c) refl own.2)
+    (omega (arith, own.0, told.sized.words), sym (told.held b own.1).1, λ c. none c (names_directory (link_items (f b)) c) refl own.2)
   where
     none : (c : ℕ) (s : Bool) → names_directory (link_items (f b)) c ≡ s → ((c : ℕ) → NamesDirectory (f b) c → ⊥) → names_directory (link_items (f b)) c ≡ false
     none c false is silent = is
@@ -245,6 +246,10 @@ told_silent f p t b l told seen is none =
 pub on_any : {T E : Type 0} (r : Result T E) (P : Type 0) → P → OnOk r P
 on_any (Ok x) P h = h
 on_any (Err e) P h = tt
+
+pub ok_any : {T E : Type 0} (r : Result T E) (P : T → Type 0) → ((x : T) → P x) → IfOk r P
+ok_any (Ok x) P h = h x
+ok_any (Err e) P h = tt
 
 -- marking is refused for memory, or a node is damaged
 pub mark_why : (P : Fault → Type 0) (blocks : ℕ) (names : List ℕ) (fault : Fault) → IsMarkFault blocks names fault → P NoMemory → fault ≢ Damaged → P fault

@@ -5,3 +5,4 @@ pub mod Sound
 pub mod Verified
 pub mod Kinds
 pub mod Tables
+pub mod Heads

@@ -1,13 +1,14 @@
 -- What a look at a block brings.
-use Rattle.std.specs.Prelude.{◌≡◌, ◌≢◌, ℕ, suc, ◌+◌, ◌*◌, ◌<◌, ◌==◌, ◌&&◌, Bool, true, false, Option, Some, None, List, [], ◌∷◌, length, map, slice_index, Contains, if◌then◌else◌}
+use Rattle.std.specs.Prelude.{◌≡◌, ◌≢◌, ℕ, suc, ◌+◌, ◌*◌, ◌<◌, ◌==◌, ◌&&◌, Bool, true, false, Option, Some, None, List, [], ◌∷◌, length, map, slice_index, if◌then◌else◌}
 use Rattle.std.specs.Option.{option_map, option_map_or}
 use Rattle.fs_types.specs.declared.limits.TheConstants.{MAX_FILE_BYTES}
 use Rattle.fs_types.specs.Names.{Name}
 use Rattle.node_format.specs.Items.{Item, is_before}
+use Rattle.node_format.specs.Headers.{field}
 use Rattle.node_format.specs.Links.{Link}
 use Rattle.node_format.specs.declared.place.Place.{Place}
 use Rattle.block_trees.specs.Bodies.{Blocks, index_of, data_of, pointer_of}
-use Rattle.block_trees.specs.Reached.{PlaceNames, Names}
+use Rattle.block_trees.specs.Reached.{Names}
 use Rattle.node_format.specs.BodyNodes.{HasSlot}
 use Rattle.block_trees.specs.Chains.{link_of, next_of, link_items, is_later}
 use Rattle.reclaim.specs.Naming.{has_slot}
@@ -15,14 +16,6 @@ use Rattle.reclaim.specs.Sound.{HoldsLink, HoldsSlot, IsHead, IsSoundBody, IsPla
 use Rattle.reclaim.specs.declared.looks.Parts.{Parts}
 use Rattle.node_format.specs.declared.place.Place.TheVariants.{Dir, File}
 use Rattle.node_format.specs.declared.headers.TheConstants.{SLOTS}
-
--- a place leads to blocks that hold nodes
-abbrev pub LeadsToNodes : Blocks → Place → Type 0
-LeadsToNodes f at = (c : ℕ) → PlaceNames at c → f c ≢ None
-
--- and so do places of a list
-abbrev pub LeadToNodes : Blocks → List Place → Type 0
-LeadToNodes f places = (place : Place) → Contains places place → LeadsToNodes f place
 
 -- the slots that an index has name blocks that hold nodes
 abbrev pub SlotsHold : Blocks → (ℕ → ℕ) → ℕ → Type 0
@@ -71,25 +64,33 @@ IsFollowed f node = (l m : Link) → link_of node ≡ Some l → l.next ≢ 0 �
 abbrev pub is_chained : Option (List ℕ) → Bool
 is_chained node = option_map_or (λ link. link.chained) (link_of node) false
 
--- the most reads of blocks that a node names: one for each entry, or those for the pointers of a body node
-abbrev pub name_reads : Option (List ℕ) → ℕ
-name_reads node = option_map_or (λ link. length link.items) (link_of node) 13
+-- the most reads for the pointers of a node: a body node has them
+abbrev pub pointer_reads : Option (List ℕ) → ℕ
+pointer_reads node = option_map_or (λ index. 13) (index_of node) 0
 
 -- the reads for the node after one
 abbrev pub link_reads : ℕ → ℕ
 link_reads next = if next == 0 then 0 else 1
 
--- the most reads of a look at a node that was read: of what it names, and of the node after it
+-- the most reads of a look at a node that was read: for its pointers, and of the node after it
 abbrev pub look_reads : Option (List ℕ) → ℕ
-look_reads node = name_reads node + link_reads (next_of node)
+look_reads node = pointer_reads node + link_reads (next_of node)
 
 -- the pointers of an index are stepped at the slots below n
 abbrev pub AreSteppedTo : Blocks → (ℕ → ℕ) → ℕ → ℕ → Type 0
 AreSteppedTo f pointer index n = (x : ℕ) → x < n → has_slot index (suc x) ≡ true → HoldsSlot (f (pointer x)) x (pointer (suc x))
 
--- the places of the entries of a node, what stands in its slots, and its index
-pub record ArePartsOf (node : Option (List ℕ)) (places : List Place) (pointers : List ℕ) (index : Option ℕ) : Type 0 where
-  pub places_are : places ≡ map (λ (item : Item). item.place) (link_items node)
+-- the places of the entries of a node
+abbrev pub places_of : Option (List ℕ) → List Place
+places_of node = map (λ (item : Item). item.place) (link_items node)
+
+-- how many data bytes a body node has, by its first bytes
+abbrev pub used_of : Option (List ℕ) → ℕ
+used_of None = 0
+used_of (Some bytes) = field bytes 8
+
+-- what stands in the slots of a node, and its index
+pub record ArePartsOf (node : Option (List ℕ)) (pointers : List ℕ) (index : Option ℕ) : Type 0 where
   pub count : length pointers ≡ SLOTS
   pub pointers_are : (x : ℕ) → x < SLOTS → slice_index pointers x ≡ pointer_of node x
   pub index_is : index ≡ index_of node
@@ -98,14 +99,13 @@ pub record ArePartsOf (node : Option (List ℕ)) (places : List Place) (pointers
 abbrev pub IsSoundAt : ℕ → Blocks → (ℕ → ℕ) → ℕ → Type 0
 IsSoundAt capacity f pointer index = (index * capacity < MAX_FILE_BYTES) × IsSoundBody capacity f pointer index
 
--- a place of a file leads to the head of its file
+-- a place of a file leads to the head of that file
 abbrev pub IsSoundFile : ℕ → Blocks → Place → Type 0
 IsSoundFile capacity f (Dir block) = Unit {0}
 IsSoundFile capacity f (File head size) = IsHead capacity f head size
 
--- the files of a node are sound, and so are a body node's pointers; its index is one that a file can have
+-- a body node's pointers are sound, and its index is one that a file can have
 pub record AreSoundParts (capacity : ℕ) (f : Blocks) (node : Option (List ℕ)) : Type 0 where
-  pub entries : (l : Link) → link_of node ≡ Some l → (item : Item) → Contains l.items item → IsSoundFile capacity f item.place
   pub pointers : (index : ℕ) → index_of node ≡ Some index → IsSoundBody capacity f (pointer_of node) index
   pub short : (index : ℕ) → index_of node ≡ Some index → index * capacity < MAX_FILE_BYTES
 
@@ -117,6 +117,8 @@ pub record IsLooked (capacity : ℕ) (f : Blocks) (plain : Bool) (node : Option 
 
 -- these are the parts of a node
 pub record Says (node : Option (List ℕ)) (parts : Parts) : Type 0 where
-  pub named : ArePartsOf node parts.places.items parts.pointers.items parts.index
+  pub places : parts.places.items ≡ places_of node
+  pub named : ArePartsOf node parts.pointers.items parts.index
+  pub used : parts.used ≡ used_of node
   pub edge : option_map (λ e. (e.last.items, e.next)) parts.edge ≡ edge_at node
   pub chained : parts.is_chained ≡ is_chained node

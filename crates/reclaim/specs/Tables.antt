@@ -1,6 +1,6 @@
 -- What a verification keeps of the nodes that it read: which are of directories, the block of the node after each of these, which
 -- of them name no directory, and which blocks are named as directories.
-use Rattle.std.specs.Prelude.{◌≡◌, ◌↔◌, ◌⊎◌, ℕ, zero, suc, ◌<◌, ◌==◌, ◌&&◌, nat_lt, not, Bool, true, false, Option, Some, List, length, slice_index, Contains, if◌then◌else◌}
+use Rattle.std.specs.Prelude.{◌≡◌, ℕ, zero, suc, ◌<◌, ◌==◌, ◌&&◌, nat_lt, not, Bool, true, Option, List, length, slice_index, Contains, if◌then◌else◌}
 use Rattle.std.specs.FinSet as set
 use Rattle.node_format.specs.Items.{Item}
 use Rattle.node_format.specs.declared.place.Place.TheVariants.{Dir}
@@ -12,10 +12,11 @@ use Rattle.reclaim.specs.declared.table.Table.{Table}
 
 -- the table is of so many blocks
 pub record IsSized (blocks : ℕ) (t : Table) : Type 0 where
-  pub nexts : length t.nexts.items ≡ blocks
+  pub words : length t.words.items ≡ blocks
   pub links : t.links.blocks ≡ blocks
   pub named : t.named.blocks ≡ blocks
   pub quiet : t.quiet.blocks ≡ blocks
+  pub read : t.read.blocks ≡ blocks
 
 -- a block is known to hold a node of a directory
 abbrev pub has_link : Table → ℕ → Bool
@@ -28,7 +29,7 @@ ends_from (suc n) has next b = if b == 0 then true else has b && ends_from n has
 
 -- by a table, after a node of a directory
 abbrev pub ends_after : Table → ℕ → Bool
-ends_after t b = ends_from most_after (has_link t) (slice_index t.nexts.items) (slice_index t.nexts.items b)
+ends_after t b = ends_from most_after (has_link t) (slice_index t.words.items) (slice_index t.words.items b)
 
 -- a directory begins in a block, or none is named
 abbrev pub is_whole_at : Table → ℕ → Bool
@@ -45,7 +46,7 @@ HasSeen p b = (k : ℕ) × (k < p.next) × (slice_index p.order k ≡ b)
 -- the table tells of the nodes that a pass has read
 pub record IsTold (f : Blocks) (p : Pass) (t : Table) : Type 0 where
   pub sized : IsSized p.blocks t
-  pub held : (b : ℕ) → set.contains t.links.members b ≡ true → HoldsLink f b × (slice_index t.nexts.items b ≡ next_of (f b)) × HasSeen p b
+  pub held : (b : ℕ) → set.contains t.links.members b ≡ true → HoldsLink f b × (slice_index t.words.items b ≡ next_of (f b)) × HasSeen p b
   pub links : (b : ℕ) → HasSeen p b → HoldsLink f b → has_link t b ≡ true
   pub names : (b : ℕ) → set.contains t.named.members b ≡ true → (a : ℕ) × HasSeen p a × NamesDirectory (f a) b
   pub named : (a b : ℕ) → HasSeen p a → NamesDirectory (f a) b → b < p.blocks → set.contains t.named.members b ≡ true

@@ -1,14 +1,12 @@
 //! One look at a block, and at the blocks that it names.
 ghost use Rattle.std.specs.Option.{option_map};
-ghost use Rattle.std.specs.Prelude.{◌≡◌, ◌≢◌, ℕ, ◌+◌, ◌*◌, ◌^◌, ◌-◌, ◌≤◌, ◌<◌, ◌↔◌, ◌++◌, ◌/◌, ◌%◌, ◌&&◌, nat_eq, nat_lt, Bool, All, Contains, true, false, IsTrue, map, length, List, Option, Some, None, OnOk, IfOk, IfErr, slice_index};
+ghost use Rattle.std.specs.Prelude.{◌≡◌, ◌≢◌, ℕ, ◌+◌, ◌*◌, ◌^◌, ◌≤◌, ◌<◌, ◌↔◌, ◌++◌, nat_lt, true, IsTrue, map, length, List, Option, Some, None, OnOk, IfOk, IfErr, slice_index};
 ghost use Rattle.fs_types.specs.declared.limits.TheConstants.{MAX_FILE_BYTES};
 ghost use Rattle.node_format.specs.Headers.{field};
-ghost use Rattle.node_format.specs.declared.place.Place.{Place};
-ghost use Rattle.node_format.specs.declared.place.Place.TheVariants.{Dir, File};
 ghost use Rattle.node_format.specs.declared.headers.TheConstants.{SLOTS};
 ghost use Rattle.block_trees.specs.Bodies.{index_of, pointer_of};
 ghost use Rattle.block_trees.specs.Chains.{link_items, next_of};
-ghost use Rattle.reclaim.specs.Sound.{IsHead, HoldsSlot, IsSoundBody};
+ghost use Rattle.reclaim.specs.Sound.{HoldsSlot, IsSoundBody};
 ghost use Rattle.reclaim.specs.Looks as spec;
 ghost use Rattle.node_store.specs.Faults.{IsLookFault};
 ghost use Rattle.node_store.specs.Frames.{OnlyLooks};
@@ -47,59 +45,6 @@ fn body_at<N: Nodes>(nodes: &mut N, block: u32) -> Result<Option<(u32, usize)>, 
     Ok(body_in(nodes.fronted()))
 }
 
-/// Whether the last node of a file, whose length is not 0, has the index and bytes enough.
-fn ends_file(capacity: u32, index: u32, held: usize, length: u32) -> bool
-    requires capacity { 0 < capacity }
-    requires some { 0 < length }
-    ensures { result ≡ (nat_eq index ((length - 1) / capacity) && nat_lt ((length - 1) % capacity) held) }
-{
-    index == (length - 1) / capacity && (((length - 1) % capacity) as usize) < held
-}
-
-/// Whether a block holds the last node of a file of a length; an empty file has head 0.
-fn is_head<N: Nodes>(nodes: &mut N, capacity: u32, head: u32, length: u32) -> Result<bool, Fault>
-    requires sound { N.is_sound nodes.old }
-    requires capacity { 0 < capacity }
-
-    // What is answered where the head is there.
-    ensures exact { IfOk result (λ good. spec.LeadsToNodes (N.node nodes.old) (File head length) → IsTrue good ↔ IsHead capacity (N.node nodes.old) head length) }
-
-    // Why not, and what is read.
-    ensures why { IfErr result (λ fault. N.causes nodes.old nodes.new fault) }
-    ensures faults { IfErr result IsLookFault }
-    ensures looks { OnlyLooks N.node N.kept N.writes N.follows N.is_sound N.limit N.blocks nodes.old nodes.new }
-    ensures reads { N.reads nodes.new ≤ N.reads nodes.old + 1 }
-{
-    if length == 0 {
-        return Ok(head == 0);
-    }
-    let found = body_at(nodes, head)?;
-    let Some((index, held)) = found else {
-        return Ok(false);
-    };
-    Ok(ends_file(capacity, index, held, length))
-}
-
-/// Whether a place leads to the head of its file, where it is one of a file.
-fn is_sound_file<N: Nodes>(nodes: &mut N, capacity: u32, place: Place) -> Result<bool, Fault>
-    requires sound { N.is_sound nodes.old }
-    requires capacity { 0 < capacity }
-
-    // What is answered where the head is there.
-    ensures exact { IfOk result (λ good. spec.LeadsToNodes (N.node nodes.old) place → IsTrue good ↔ spec.IsSoundFile capacity (N.node nodes.old) place) }
-
-    // Why not, and what is read.
-    ensures why { IfErr result (λ fault. N.causes nodes.old nodes.new fault) }
-    ensures faults { IfErr result IsLookFault }
-    ensures looks { OnlyLooks N.node N.kept N.writes N.follows N.is_sound N.limit N.blocks nodes.old nodes.new }
-    ensures reads { N.reads nodes.new ≤ N.reads nodes.old + 1 }
-{
-    match place {
-        Place::Dir { block: _ } => Ok(true),
-        Place::File { head, length } => is_head(nodes, capacity, head, length),
-    }
-}
-
 /// The places of the entries of a node; none where the bytes are of none.
 fn places_in(alloc: Global, bytes: &[u8]) -> Result<Vec<Place>, AllocError>
     ensures { IfOk result (λ v. v.items ≡ map (λ item. item.place) (link_items (Some bytes.now))) }
@@ -118,29 +63,6 @@ fn push_places_of(out: &mut Vec<Place>, entries: EntryList<'_>) -> Result<(), Al
         out.push(entry.place())?;
     }
     Ok(())
-}
-
-/// Whether all places of files lead to their heads.
-fn are_sound_files<N: Nodes>(nodes: &mut N, capacity: u32, places: &[Place]) -> Result<bool, Fault>
-    requires sound { N.is_sound nodes.old }
-    requires capacity { 0 < capacity }
-
-    // What is answered where the heads are there.
-    ensures exact { IfOk result (λ good. spec.LeadToNodes (N.node nodes.old) places.now → IsTrue good ↔ All (spec.IsSoundFile capacity (N.node nodes.old)) places.now) }
-
-    // Why not, and what is read.
-    ensures why { IfErr result (λ fault. N.causes nodes.old nodes.new fault) }
-    ensures faults { IfErr result IsLookFault }
-    ensures looks { OnlyLooks N.node N.kept N.writes N.follows N.is_sound N.limit N.blocks nodes.old nodes.new }
-    ensures reads { N.reads nodes.new ≤ N.reads nodes.old + length places.now }
-{
-    for place in places {
-        let good = is_sound_file(nodes, capacity, *place)?;
-        if !good {
-            return Ok(false);
-        }
-    }
-    Ok(true)
 }
 
 /// What stands in the slots of a node, those that are not in use too.
@@ -275,12 +197,14 @@ fn is_sound_at<N: Nodes>(
 }
 
 /// What the bytes of a node say: the places of its entries, what stands in its slots, the index of a
-/// body node, what a node of a directory says to the one after it, and whether it is one of a chain.
+/// body node and how many data bytes it has, what a node of a directory says to the one after it, and
+/// whether it is one of a chain.
 #[derive(Drop)]
 pub struct Parts {
     pub places: Vec<Place>,
     pub pointers: Vec<u32>,
     pub index: Option<u32>,
+    pub used: u32,
     pub edge: Option<Edge>,
     pub is_chained: bool,
 }
@@ -291,22 +215,24 @@ pub fn parts_in(alloc: Global, bytes: &[u8]) -> Result<Parts, AllocError>
     let places = places_in(alloc, bytes)?;
     let pointers = pointers_in(alloc, bytes)?;
     let index = index_in(bytes);
+    let used = used_in(bytes);
     let edge = edge_in(bytes);
     let is_chained = is_chained(bytes);
     Ok(Parts {
         places,
         pointers,
         index,
+        used,
         edge,
         is_chained,
     })
 }
 
-/// Whether the files and the pointers of a node, of which these are parts, are sound.
+/// Whether the pointers of a node, of which these are parts, are sound, and its index is one that a file
+/// can have.
 fn are_sound_parts<N: Nodes>(
     nodes: &mut N,
     capacity: u32,
-    places: &[Place],
     pointers: &[u32],
     index: Option<u32>,
 ) -> Result<bool, Fault>
@@ -315,18 +241,14 @@ fn are_sound_parts<N: Nodes>(
     requires count { length pointers.now ≡ SLOTS }
 
     // What is answered where the blocks that it names hold nodes.
-    ensures exact { IfOk result (λ good. (node : Option (List ℕ)) → spec.ArePartsOf node places.now pointers.now index → spec.NamesNodes (N.node nodes.old) node → IsTrue good ↔ spec.AreSoundParts capacity (N.node nodes.old) node) }
+    ensures exact { IfOk result (λ good. (node : Option (List ℕ)) → spec.ArePartsOf node pointers.now index → spec.NamesNodes (N.node nodes.old) node → IsTrue good ↔ spec.AreSoundParts capacity (N.node nodes.old) node) }
 
     // Why not, and what is read.
     ensures why { IfErr result (λ fault. N.causes nodes.old nodes.new fault) }
     ensures faults { IfErr result IsLookFault }
     ensures looks { OnlyLooks N.node N.kept N.writes N.follows N.is_sound N.limit N.blocks nodes.old nodes.new }
-    ensures reads { (node : Option (List ℕ)) → spec.ArePartsOf node places.now pointers.now index → N.reads nodes.new ≤ N.reads nodes.old + spec.name_reads node }
+    ensures reads { (node : Option (List ℕ)) → spec.ArePartsOf node pointers.now index → N.reads nodes.new ≤ N.reads nodes.old + spec.pointer_reads node }
 {
-    let good = are_sound_files(nodes, capacity, places)?;
-    if !good {
-        return Ok(false);
-    }
     match index {
         Some(index) => is_sound_at(nodes, capacity, pointers, index),
         None => Ok(true),
@@ -352,9 +274,9 @@ fn is_followed<N: Nodes>(nodes: &mut N, edge: &Option<Edge>) -> Result<bool, Fau
     }
 }
 
-/// Whether a node that says this is sound as far as its own entries of files, its slots and the node
-/// after it tell; where only plain directories are allowed, no node of a chain is. Of each block that it
-/// names the first page alone is read.
+/// Whether a node that says this is sound as far as its slots and the node after it tell; where only
+/// plain directories are allowed, no node of a chain is. Of each block of these the first page alone is
+/// read.
 pub fn look<N: Nodes>(
     nodes: &mut N,
     capacity: u32,
@@ -381,5 +303,5 @@ pub fn look<N: Nodes>(
     if !is_followed {
         return Ok(false);
     }
-    are_sound_parts(nodes, capacity, &parts.places, &parts.pointers, parts.index)
+    are_sound_parts(nodes, capacity, &parts.pointers, parts.index)
 }

@@ -1,72 +1,225 @@
 //! What a verification keeps of the nodes that it read.
-ghost use Rattle.std.specs.Prelude.{◌≡◌, ◌↔◌, ℕ, ◌+◌, ◌<◌, ◌≤◌, ◌&&◌, ◌==◌, true, is_some, length, All, IsTrue, IfOk, IfErr, slice_index, slice_set, if◌then◌else◌};
+ghost use Rattle.std.specs.Prelude.{◌≡◌, ◌≢◌, ◌↔◌, ℕ, ◌+◌, ◌*◌, ◌<◌, ◌≤◌, ◌&&◌, ◌||◌, ◌==◌, ◌++◌, [], ◌∷◌, true, false, is_some, length, List, All, IsTrue, IfOk, IfErr, Contains, slice_index, slice_set, if◌then◌else◌};
 ghost use Rattle.std.specs.FinSet as set;
-ghost use Rattle.std.specs.Option.{option_map_or};
+ghost use Rattle.std.specs.Option.{option_map, option_map_or};
+ghost use Rattle.node_format.specs.declared.place.Place.{Place};
+ghost use Rattle.node_format.specs.declared.place.Place.TheVariants.{File};
 ghost use Rattle.block_trees.specs.Chains.{most_after};
+ghost use Rattle.reclaim.specs.Heads as heads;
 ghost use Rattle.reclaim.specs.Passes.{AreNoted};
 ghost use Rattle.reclaim.specs.Tables as spec;
 
+use crate::edge::next_in;
+use crate::looks::Parts;
 use crate::pass::add_blocks;
 use allocator::BlockSet;
 use fs_types::{CHAIN_NODES, Fault};
+use node_format::Place;
 use std::alloc::Global;
 
-/// What nodes said that were read: which blocks hold nodes of directories, the block of the node after
-/// each of these, which of them name no directory, and which blocks are named as directories. Four bytes
-/// and three bits a block.
+/// Whether a file of a length ends in the same node as one of a greater length.
+fn fits(capacity: u32, length: u32, most: u32) -> bool
+    requires capacity { 0 < capacity }
+    requires some { 0 < length }
+    ensures { result ≡ heads.fits capacity length most }
+{
+    length <= most && (length - 1) / capacity == (most - 1) / capacity
+}
+
+/// The greatest length of a file whose last node has an index and so many data bytes; 0 where there is
+/// no index, and where four bytes cannot hold it.
+fn longest_in(capacity: u32, index: Option<u32>, used: u32) -> u32
+    ensures { result ≡ heads.longest_by capacity index used }
+{
+    let Some(index) = index else {
+        return 0;
+    };
+    let longest = index as u64 * capacity as u64 + used as u64;
+    if longest <= u32::MAX as u64 {
+        longest as u32
+    } else {
+        0
+    }
+}
+
+/// What nodes said that were read. Of a node of a directory the word is the block of the node after it.
+/// Of another block it is the greatest length that an entry told of a file with its head there, and from
+/// when that block was read the greatest length that its node allows. Four bytes and four bits a block.
 #[derive(Drop)]
 pub struct Table {
-    pub nexts: Vec<u32>,
+    pub words: Vec<u32>,
+    /// Which blocks hold nodes of directories.
     pub links: BlockSet,
+    /// Which blocks are named as directories.
     pub named: BlockSet,
+    /// Which nodes of directories name none.
     pub quiet: BlockSet,
+    /// Which blocks were read.
+    pub read: BlockSet,
 }
 
 impl Table {
     /// The table of a flash of `blocks` blocks of which none was read.
     pub fn new(alloc: Global, blocks: u32) -> Result<Table, Fault>
         ensures sized { IfOk result (λ t. spec.IsSized blocks t) }
-        ensures none { IfOk result (λ t. (t.links.members ≡ set.empty) × (t.named.members ≡ set.empty) × (t.quiet.members ≡ set.empty)) }
+        ensures words { IfOk result (λ t. (b : ℕ) → slice_index t.words.items b ≡ 0) }
+        ensures none { IfOk result (λ t. (t.links.members ≡ set.empty) × (t.named.members ≡ set.empty) × (t.quiet.members ≡ set.empty) × (t.read.members ≡ set.empty)) }
         ensures memory { IfErr result (λ fault. fault ≡ Fault.NoMemory) }
     {
-        let nexts = vec![in alloc; 0; blocks as usize]?;
+        let words = vec![in alloc; 0; blocks as usize]?;
         let links = BlockSet::new(alloc, blocks)?;
         let named = BlockSet::new(alloc, blocks)?;
         let quiet = BlockSet::new(alloc, blocks)?;
+        let read = BlockSet::new(alloc, blocks)?;
         Ok(Table {
-            nexts,
+            words,
             links,
             named,
             quiet,
+            read,
         })
+    }
+
+    /// Takes in what the node in a block says, which these are parts of, and the blocks that it names as
+    /// directories. False where a file, of this node or of one before, is longer than its head allows, or
+    /// has no head.
+    pub fn take_in(&mut self, capacity: u32, block: u32, parts: &Parts, directories: &[u32]) -> bool
+        requires sized { spec.IsSized self.old.links.blocks self.old }
+        requires within { block < self.old.links.blocks }
+        requires capacity { 0 < capacity }
+
+        // What is noted.
+        ensures sized { spec.IsSized self.old.links.blocks self.new }
+        ensures links { self.new.links.members ≡ (if is_some parts.now.edge then set.insert self.old.links.members block else self.old.links.members) }
+        ensures named { AreNoted self.old.named.members directories.now self.old.links.blocks self.new.named.members }
+        ensures quiet { self.new.quiet.members ≡ (if is_some parts.now.edge && (length directories.now == 0) then set.insert self.old.quiet.members block else self.old.quiet.members) }
+        ensures nexts { (n : ℕ) → option_map (λ e. e.next) parts.now.edge ≡ Some n → slice_index self.new.words.items block ≡ n }
+        ensures stay { (b : ℕ) → b ≢ block → set.contains self.old.links.members b ≡ true → slice_index self.new.words.items b ≡ slice_index self.old.words.items b }
+
+        // What is answered.
+        ensures told { (most : ℕ → ℕ) (seen : List ℕ) (told : List Place) → heads.KeepsHeads capacity most seen told self.old → heads.IsNew capacity most parts.now block self.old → result ≡ true → heads.KeepsHeads capacity most (seen ++ block ∷ []) (told ++ parts.now.places.items) self.new }
+        ensures bad { (most : ℕ → ℕ) (seen : List ℕ) (told : List Place) → heads.KeepsHeads capacity most seen told self.old → heads.IsNew capacity most parts.now block self.old → result ≡ false → heads.FitHeads capacity most (told ++ parts.now.places.items) → ⊥ }
+    {
+        let is_head = self.note_longest(
+            capacity,
+            block,
+            longest_in(capacity, parts.index, parts.used),
+        );
+        self.note(block, next_in(&parts.edge), directories);
+        let have_heads = self.note_places(capacity, &parts.places);
+        is_head && have_heads
+    }
+
+    /// Notes the greatest length that the node in a block allows, which was read; false where an entry told
+    /// of a longer file, or of one that ends in another node.
+    fn note_longest(&mut self, capacity: u32, block: u32, longest: u32) -> bool
+        requires sized { spec.IsSized self.old.links.blocks self.old }
+        requires within { block < self.old.links.blocks }
+        requires capacity { 0 < capacity }
+        ensures exact { result ≡ ((slice_index self.old.words.items block == 0) || heads.fits capacity (slice_index self.old.words.items block) longest) }
+        ensures words { self.new.words.items ≡ slice_set self.old.words.items block longest }
+        ensures read { self.new.read ≡ record self.old.read { members = set.insert self.old.read.members block } }
+        ensures same { self.new ≡ record self.old { words = self.new.words; read = self.new.read } }
+    {
+        let told = self.words[block as usize];
+        self.words[block as usize] = longest;
+        self.read.insert(block);
+        told == 0 || fits(capacity, told, longest)
     }
 
     /// Notes what the node in a block says: the block of the node after it, where it is one of a
     /// directory, and the blocks that it names as directories.
-    pub fn note(&mut self, block: u32, next: Option<u32>, directories: &[u32])
+    fn note(&mut self, block: u32, next: Option<u32>, directories: &[u32])
         requires sized { spec.IsSized self.old.links.blocks self.old }
         requires within { block < self.old.links.blocks }
         ensures sized { spec.IsSized self.old.links.blocks self.new }
         ensures links { self.new.links.members ≡ (if is_some next then set.insert self.old.links.members block else self.old.links.members) }
-        ensures nexts { self.new.nexts.items ≡ option_map_or (λ n. slice_set self.old.nexts.items block n) next self.old.nexts.items }
+        ensures words { self.new.words.items ≡ option_map_or (λ n. slice_set self.old.words.items block n) next self.old.words.items }
         ensures named { AreNoted self.old.named.members directories.now self.old.links.blocks self.new.named.members }
         ensures quiet { self.new.quiet.members ≡ (if is_some next && (length directories.now == 0) then set.insert self.old.quiet.members block else self.old.quiet.members) }
+        ensures read { self.new.read ≡ self.old.read }
     {
         add_blocks(&mut self.named, directories);
         if let Some(next) = next {
             self.links.insert(block);
-            self.nexts[block as usize] = next;
+            self.words[block as usize] = next;
             if directories.is_empty() {
                 self.quiet.insert(block);
             }
         }
     }
 
+    /// Notes what entries tell of the heads of their files; false where one cannot be so.
+    fn note_places(&mut self, capacity: u32, places: &[Place]) -> bool
+        requires sized { spec.IsSized self.old.links.blocks self.old }
+        requires capacity { 0 < capacity }
+
+        // Words of heads alone change.
+        ensures same { heads.KeepsLinks self.old self.new }
+
+        // What is answered.
+        ensures told { (most : ℕ → ℕ) (seen : List ℕ) (told : List Place) → heads.KeepsHeads capacity most seen told self.old → result ≡ true → heads.KeepsHeads capacity most seen (told ++ places.now) self.new }
+        ensures bad { (most : ℕ → ℕ) (seen : List ℕ) (told : List Place) → heads.KeepsHeads capacity most seen told self.old → result ≡ false → heads.FitHeads capacity most (told ++ places.now) → ⊥ }
+    {
+        for place in places {
+            if !self.note_place(capacity, *place) {
+                return false;
+            }
+        }
+        true
+    }
+
+    /// Notes what an entry tells of the head of its file; false where it cannot be so.
+    fn note_place(&mut self, capacity: u32, place: Place) -> bool
+        requires sized { spec.IsSized self.old.links.blocks self.old }
+        requires capacity { 0 < capacity }
+
+        // The word of its head alone changes.
+        ensures same { heads.KeepsLinks self.old self.new }
+
+        // What is answered.
+        ensures told { (most : ℕ → ℕ) (seen : List ℕ) (told : List Place) → heads.KeepsHeads capacity most seen told self.old → result ≡ true → heads.KeepsHeads capacity most seen (told ++ place ∷ []) self.new }
+        ensures bad { (most : ℕ → ℕ) (seen : List ℕ) (told : List Place) → heads.KeepsHeads capacity most seen told self.old → result ≡ false → heads.FitHeads capacity most (told ++ place ∷ []) → ⊥ }
+    {
+        match place {
+            Place::Dir { block: _ } => true,
+            Place::File { head, length: 0 } => head == 0,
+            Place::File { head, length } => self.note_head(capacity, head, length),
+        }
+    }
+
+    /// Notes the length of a file with its head in a block; false where that block cannot be its head.
+    fn note_head(&mut self, capacity: u32, head: u32, length: u32) -> bool
+        requires sized { spec.IsSized self.old.links.blocks self.old }
+        requires capacity { 0 < capacity }
+        requires some { 0 < length }
+
+        // The word of the head alone changes.
+        ensures same { heads.KeepsLinks self.old self.new }
+
+        // What is answered.
+        ensures told { (most : ℕ → ℕ) (seen : List ℕ) (told : List Place) → heads.KeepsHeads capacity most seen told self.old → result ≡ true → heads.KeepsHeads capacity most seen (told ++ File head length ∷ []) self.new }
+        ensures bad { (most : ℕ → ℕ) (seen : List ℕ) (told : List Place) → heads.KeepsHeads capacity most seen told self.old → result ≡ false → heads.FitHeads capacity most (told ++ File head length ∷ []) → ⊥ }
+    {
+        if head >= self.links.blocks() || self.links.contains(head) {
+            return false;
+        }
+        let word = self.words[head as usize];
+        if self.read.contains(head) {
+            return fits(capacity, length, word);
+        }
+        if word == 0 || fits(capacity, word, length) {
+            self.words[head as usize] = length;
+            return true;
+        }
+        fits(capacity, length, word)
+    }
+
     /// Whether nodes of directories follow one another from a block on, 31 at most, to a last one; true
     /// at 0, which names none.
     fn ends(&self, first: u32) -> bool
         requires { spec.IsSized self.now.links.blocks self.now }
-        ensures { result ≡ spec.ends_from most_after (spec.has_link self.now) (slice_index self.now.nexts.items) first }
+        ensures { result ≡ spec.ends_from most_after (spec.has_link self.now) (slice_index self.now.words.items) first }
     {
         let mut at = first;
         for node in 1..CHAIN_NODES {
@@ -76,7 +229,7 @@ impl Table {
             if !self.has_link(at) {
                 return false;
             }
-            at = self.nexts[at as usize];
+            at = self.words[at as usize];
         }
         at == 0
     }
@@ -96,7 +249,7 @@ impl Table {
         ensures { result ≡ spec.is_whole_at self.now block }
     {
         if self.has_link(block) {
-            return self.ends(self.nexts[block as usize]);
+            return self.ends(self.words[block as usize]);
         }
         !self.named.contains(block)
     }

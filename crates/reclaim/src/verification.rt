@@ -10,6 +10,7 @@ ghost use Rattle.directory.specs.Lookups.{LeadsToDirectories};
 ghost use Rattle.block_trees.specs.Reached.{Reached};
 ghost use Rattle.node_store.specs.Faults.{IsLookFault, IsReadFault};
 ghost use Rattle.node_store.specs.Frames.{OnlyLooks};
+ghost use Rattle.reclaim.specs.Heads.{HeadsAreTold};
 ghost use Rattle.reclaim.specs.Looks.{NamesNodes, NextHoldsLink, IsLooked, look_reads};
 ghost use Rattle.reclaim.specs.Passes.{IsPass, IsFinished, Advances};
 ghost use Rattle.reclaim.specs.Sound.{IsPlain};
@@ -17,7 +18,6 @@ ghost use Rattle.reclaim.specs.Tables.{IsTold};
 ghost use Rattle.reclaim.specs.Verified.{AreRoots, AreAllowed, AreLooked, AreWhole, HasLookedOnce, HasCost};
 ghost use Rattle.fs_types.specs.declared.limits.TheConstants.{MAX_NAMES};
 
-use crate::edge::next_in;
 use crate::looks::{look, parts_in};
 use crate::named::{list_directories, list_names};
 use crate::pass::Pass;
@@ -70,6 +70,7 @@ fn are_shallow<N: Nodes>(
 }
 
 /// Reads the block that a pass reads next, whole: marks what its node names, notes it, and looks at it.
+/// False where it is not sound, or an entry's file is longer than its head allows.
 fn look_at_next<N: Nodes>(
     alloc: Global,
     nodes: &mut N,
@@ -83,12 +84,15 @@ fn look_at_next<N: Nodes>(
     requires left { (pass.old.next < length pass.old.order) × (block ≡ slice_index pass.old.order pass.old.next) }
     requires pass { IsPass (N.node nodes.old) pass.old }
     requires told { IsTold (N.node nodes.old) pass.old table.old }
+    requires heads { HeadsAreTold (N.limit nodes.old - body_header) (N.node nodes.old) pass.old table.old }
 
     // The pass goes on, and what is found.
     ensures pass { OnOk result (IsPass (N.node nodes.new) pass.new × IsTold (N.node nodes.new) pass.new table.new) }
     ensures on { Advances pass.old pass.new }
     ensures next { OnOk result (pass.new.next ≡ pass.old.next + 1) }
-    ensures exact { IfOk result (λ good. NamesNodes (N.node nodes.old) (N.node nodes.old block) → NextHoldsLink (N.node nodes.old) (N.node nodes.old block) → IsTrue good ↔ IsLooked (N.limit nodes.old - body_header) (N.node nodes.old) plain (N.node nodes.old block)) }
+    ensures heads { IfOk result (λ good. good ≡ true → HeadsAreTold (N.limit nodes.old - body_header) (N.node nodes.old) pass.new table.new) }
+    ensures looked { IfOk result (λ good. good ≡ true → NamesNodes (N.node nodes.old) (N.node nodes.old block) → NextHoldsLink (N.node nodes.old) (N.node nodes.old block) → IsLooked (N.limit nodes.old - body_header) (N.node nodes.old) plain (N.node nodes.old block)) }
+    ensures bad { IfOk result (λ good. good ≡ false → AreAllowed (N.limit nodes.old) (N.node nodes.old) pass.old.roots plain → ⊥) }
 
     // Why not, and what is read.
     ensures damaged { IsErrOf result Fault.Damaged → (b : ℕ) × Reached (N.node nodes.old) pass.old.roots b × (N.node nodes.old b ≡ None) }
@@ -104,7 +108,10 @@ fn look_at_next<N: Nodes>(
     let names = list_names(alloc, bytes)?;
     let directories = list_directories(alloc, bytes)?;
     pass.mark_next(&names)?;
-    table.note(block, next_in(&parts.edge), &directories);
+    let have_heads = table.take_in(capacity, block, &parts, &directories);
+    if !have_heads {
+        return Ok(false);
+    }
     look(nodes, capacity, plain, &parts)
 }
 
@@ -120,11 +127,13 @@ fn look_at_all<N: Nodes>(
     requires blocks { pass.old.blocks ≡ N.blocks nodes.old }
     requires pass { IsPass (N.node nodes.old) pass.old }
     requires told { IsTold (N.node nodes.old) pass.old table.old }
+    requires heads { HeadsAreTold (N.limit nodes.old - body_header) (N.node nodes.old) pass.old table.old }
     requires begun { pass.old.next ≡ 0 }
 
     // All was read and is sound, or some is not.
     ensures told { OnOk result (IsPass (N.node nodes.new) pass.new × IsTold (N.node nodes.new) pass.new table.new) }
     ensures looked { IfOk result (λ good. good ≡ true → IsFinished pass.new × AreLooked (N.limit nodes.old - body_header) (N.node nodes.old) plain pass.new × (N.reads nodes.new ≤ N.reads nodes.old + sum_by (λ b. 1 + look_reads (N.node nodes.old b)) pass.new.order)) }
+    ensures heads { IfOk result (λ good. good ≡ true → HeadsAreTold (N.limit nodes.old - body_header) (N.node nodes.old) pass.new table.new) }
     ensures bad { IfOk result (λ good. good ≡ false → AreAllowed (N.limit nodes.old) (N.node nodes.old) pass.old.roots plain → ⊥) }
     ensures on { Advances pass.old pass.new }
 
@@ -157,6 +166,7 @@ fn are_whole<N: Nodes>(
     requires blocks { pass.old.blocks ≡ N.blocks nodes.old }
     requires pass { IsPass (N.node nodes.old) pass.old }
     requires told { IsTold (N.node nodes.old) pass.old table.old }
+    requires heads { HeadsAreTold (N.limit nodes.old - body_header) (N.node nodes.old) pass.old table.old }
     requires begun { (pass.old.roots ≡ roots.now) × (pass.old.next ≡ 0) }
 
     // What is answered, and the pass.
@@ -218,7 +228,7 @@ pub fn verify<N: Nodes>(
     if !are_whole {
         return Err(Fault::Damaged);
     }
-    let are_shallow = are_shallow(alloc, nodes, roots, &table.quiet, &table.nexts)?;
+    let are_shallow = are_shallow(alloc, nodes, roots, &table.quiet, &table.words)?;
     if !are_shallow {
         return Err(Fault::Damaged);
     }

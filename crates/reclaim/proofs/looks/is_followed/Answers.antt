@@ -1,10 +1,10 @@
-use Rattle.std.proofs.Common.{◌≡◌, ℕ, Option, ap, ◌∙◌, arith}
+use Rattle.std.proofs.Common.{ℕ, ap, ◌∙◌, arith}
 use Rattle.std.specs.Option.{option_map}
 use Rattle.std.proofs.lemmas.Result.{IfOk-weaker}
 use Rattle.fs_types.specs.Names.{Name}
 use Rattle.reclaim.specs.Looks.{link_reads}
 use Rattle.reclaim.specs.declared.edge.Edge.{Edge}
-use Rattle.reclaim.proofs.Looking.{followed_none, followed_some, next_reads, no_reads}
+use Rattle.reclaim.proofs.Looking.{followed_none, followed_some, next_reads}
 use Rattle.reclaim.proofs.looks.is_followed.Goals as goal
 
 abbrev said : Edge → Name × ℕ

@@ -1,4 +1,4 @@
-use Rattle.std.proofs.Common.{◌≡◌, true, false, ◌∙◌, sym, subst}
+use Rattle.std.proofs.Common.{◌≡◌, true, ◌∙◌, sym, subst}
 use Rattle.std.proofs.lemmas.Bool.{true≢false}
 use Rattle.std.proofs.lemmas.Result.{IfOk-weaker}
 use Rattle.block_trees.specs.Bodies.{Blocks}
@@ -20,7 +20,7 @@ returns-clause-exact g c =
       | else-plain-via-else-plain w ↦ λ plain. absurd (true≢false (sym plain ∙ w.if-plain.false))
     ] in
     look_exact c.args.capacity f f' c.args.plain node good same
-    (exact node (parts_same node c.args.parts.now.places.items c.args.parts.now.pointers.items c.deref.result.now c.deref-2.result.now c.args.parts.now.index c.deref.ensures.value c.deref-2.ensures.value says.named)
+    (exact node (parts_same node c.args.parts.now.pointers.items c.deref.result.now c.args.parts.now.index c.deref.ensures.value says.named)
     (subst (λ (h : Blocks). NamesNodes h node) (sym same) names))
     ((c.in_ok-is_followed.ensures.exact node (sym says.edge) next).0 c.if-not-is_followed.false) alone)
     c.are_sound_parts.ensures.exact

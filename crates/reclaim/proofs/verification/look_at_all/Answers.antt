@@ -1,17 +1,13 @@
-use Rattle.std.proofs.Common.{◌≡◌, ◌≢◌, ◌↔◌, ◌≤◌, ◌+◌, ◌-◌, ℕ, List, None, true, false, refl, ap, subst, sym, ◌∙◌, arith}
-use Rattle.std.specs.Prelude.{IsTrue, slice_index}
-use Rattle.std.proofs.lemmas.Bool.{true≢false}
-use Rattle.std.proofs.lemmas.Result.{err_from_is_err_and}
+use Rattle.std.proofs.Common.{◌≤◌, ◌+◌, ◌-◌, ℕ, List, refl, subst, sym, ◌∙◌, arith}
 use Rattle.block_trees.specs.Bodies.{Blocks}
-use Rattle.block_trees.specs.Reached.{Reached}
+use Rattle.reclaim.specs.Heads.{HeadsAreTold}
 use Rattle.reclaim.specs.Looks.{look_reads, NamesNodes, NextHoldsLink, IsLooked}
 use Rattle.reclaim.specs.Passes.{IsPass}
 use Rattle.reclaim.specs.Tables.{IsTold}
-use Rattle.reclaim.specs.Verified.{HasLookedOnce}
+use Rattle.reclaim.specs.Verified.{AreAllowed, HasLookedOnce}
 use Rattle.reclaim.proofs.Costs.{looked_one, looked_all}
 use Rattle.reclaim.proofs.Marking.{begins_itself, begins_on}
-use Rattle.reclaim.proofs.Telling.{looked_none, looked_on, reads_on, next_reached}
-use Rattle.reclaim.proofs.Looked.{tree_names, tree_next, tree_looked}
+use Rattle.reclaim.proofs.Telling.{looked_none, looked_on, reads_on}
 use Rattle.reclaim.proofs.verification.look_at_all.Goals as goal
 
 pub loop-block-init : goal.loop-block-init
@@ -19,6 +15,7 @@ loop-block-init g c = record {
   pass = c.requires.pass;
   told = c.requires.told;
   looked = looked_none (g.N.Nodes.limit c.args.nodes.now - 80) (g.N.Nodes.node c.args.nodes.now) c.args.plain c.args.pass.now c.requires.begun;
+  heads = c.requires.heads;
   on = record { blocks = refl; roots = refl; begins = begins_itself c.args.pass.now.order };
   reads = omega arith;
   looks = record { same_nodes = refl; same_kept = refl; same_writes = refl; came = g.met.N.Nodes.follows_itself c.args.nodes.now; sound = c.requires.sound; same_limit = refl; same_blocks = refl };
@@ -36,6 +33,12 @@ look_at_next-requires-clause-pass g c = subst (λ (h : Blocks). IsPass h c.loop-
 pub look_at_next-requires-clause-told : goal.look_at_next-requires-clause-told
 look_at_next-requires-clause-told g c = subst (λ (h : Blocks). IsTold h c.loop-block.pass c.loop-block.table) (sym c.loop-block.invariant.looks.same_nodes) c.loop-block.invariant.told
 
+pub look_at_next-requires-clause-heads : goal.look_at_next-requires-clause-heads
+look_at_next-requires-clause-heads g c =
+    let so_far = c.loop-block.invariant in
+    subst (λ (n : ℕ). HeadsAreTold (n - 80) (g.N.Nodes.node c.loop-block.nodes) c.loop-block.pass c.loop-block.table) (sym so_far.looks.same_limit)
+    (subst (λ (h : Blocks). HeadsAreTold (g.N.Nodes.limit c.args.nodes.now - 80) h c.loop-block.pass c.loop-block.table) (sym so_far.looks.same_nodes) so_far.heads)
+
 pub loop-block-preserved : goal.loop-block-preserved
 loop-block-preserved g c =
     let s = c.args.nodes.now in
@@ -50,16 +53,19 @@ loop-block-preserved g c =
     let block = c.in-Some.block in
     let on = c.look_at_next.ensures.on in
     let both = c.look_at_next.ensures.looks.same_nodes ∙ so_far.looks.same_nodes in
-    let exact : NamesNodes f (f block) → NextHoldsLink f (f block) → IsTrue c.in_ok-good.good ↔ IsLooked (g.N.Nodes.limit s - 80) f c.args.plain (f block) =
-    subst (λ (h : Blocks). NamesNodes h (h block) → NextHoldsLink h (h block) → IsTrue c.in_ok-good.good ↔ IsLooked (g.N.Nodes.limit s - 80) h c.args.plain (h block)) so_far.looks.same_nodes
-    (subst (λ (n : ℕ). NamesNodes (g.N.Nodes.node mid) (g.N.Nodes.node mid block) → NextHoldsLink (g.N.Nodes.node mid) (g.N.Nodes.node mid block) → IsTrue c.in_ok-good.good ↔ IsLooked (n - 80) (g.N.Nodes.node mid) c.args.plain (g.N.Nodes.node mid block)) so_far.looks.same_limit
-    c.in_ok-good.ensures.exact) in
+    let looked : NamesNodes f (f block) → NextHoldsLink f (f block) → IsLooked (g.N.Nodes.limit s - 80) f c.args.plain (f block) =
+    subst (λ (h : Blocks). NamesNodes h (h block) → NextHoldsLink h (h block) → IsLooked (g.N.Nodes.limit s - 80) h c.args.plain (h block)) so_far.looks.same_nodes
+    (subst (λ (n : ℕ). NamesNodes (g.N.Nodes.node mid) (g.N.Nodes.node mid block) → NextHoldsLink (g.N.Nodes.node mid) (g.N.Nodes.node mid block) → IsLooked (n - 80) (g.N.Nodes.node mid) c.args.plain (g.N.Nodes.node mid block)) so_far.looks.same_limit
+    (c.in_ok-good.ensures.looked c.if-not-good.false)) in
+    let heads : HeadsAreTold (g.N.Nodes.limit s - 80) f q u =
+    subst (λ (n : ℕ). HeadsAreTold (n - 80) f q u) so_far.looks.same_limit (subst (λ (h : Blocks). HeadsAreTold (g.N.Nodes.limit mid - 80) h q u) so_far.looks.same_nodes (c.in_ok-good.ensures.heads c.if-not-good.false)) in
     let own : g.N.Nodes.reads new ≤ g.N.Nodes.reads mid + (1 + look_reads (f block)) =
     subst (λ (h : Blocks). g.N.Nodes.reads new ≤ g.N.Nodes.reads mid + (1 + look_reads (h block))) so_far.looks.same_nodes c.look_at_next.ensures.reads in
     record {
       pass = subst (λ (h : Blocks). IsPass h q) both c.in_ok-good.ensures.pass.0;
       told = subst (λ (h : Blocks). IsTold h q u) both c.in_ok-good.ensures.pass.1;
-      looked = looked_on p q block on left.0 left.1 c.in_ok-good.ensures.next (g.N.Nodes.limit s - 80) f c.args.plain so_far.looked (λ names next. (exact names next).0 c.if-not-good.false);
+      looked = looked_on p q block on left.0 left.1 c.in_ok-good.ensures.next (g.N.Nodes.limit s - 80) f c.args.plain so_far.looked looked;
+      heads = heads;
       on = record { blocks = on.blocks ∙ so_far.on.blocks; roots = on.roots ∙ so_far.on.roots; begins = begins_on c.args.pass.now.order p.order q.order so_far.on.begins on.begins };
       reads = omega (arith, own, so_far.reads, reads_on p q block on left.0 left.1 c.in_ok-good.ensures.next (λ b. 1 + look_reads (f b)));
       looks = g.met.N.Nodes.looks_on s mid new so_far.looks c.look_at_next.ensures.looks;
@@ -68,20 +74,12 @@ loop-block-preserved g c =
 pub returns-then-not-good-clause-bad : goal.returns-then-not-good-clause-bad
 returns-then-not-good-clause-bad g c _ trees =
     let s = c.args.nodes.now in
-    let f = g.N.Nodes.node s in
     let mid = c.loop-block.nodes in
-    let p = c.loop-block.pass in
     let so_far = c.loop-block.invariant in
-    let left = c.in-Some.ensures.left in
-    let block = c.in-Some.block in
-    let limit = g.N.Nodes.limit s in
-    let exact : NamesNodes f (f block) → NextHoldsLink f (f block) → IsTrue c.in_ok-good.good ↔ IsLooked (limit - 80) f c.args.plain (f block) =
-    subst (λ (h : Blocks). NamesNodes h (h block) → NextHoldsLink h (h block) → IsTrue c.in_ok-good.good ↔ IsLooked (limit - 80) h c.args.plain (h block)) so_far.looks.same_nodes
-    (subst (λ (n : ℕ). NamesNodes (g.N.Nodes.node mid) (g.N.Nodes.node mid block) → NextHoldsLink (g.N.Nodes.node mid) (g.N.Nodes.node mid block) → IsTrue c.in_ok-good.good ↔ IsLooked (n - 80) (g.N.Nodes.node mid) c.args.plain (g.N.Nodes.node mid block)) so_far.looks.same_limit
-    c.in_ok-good.ensures.exact) in
-    let reached : Reached f c.args.pass.now.roots block = subst (λ (l : List ℕ). Reached f l block) so_far.on.roots (next_reached f p block so_far.pass left.0 left.1) in
-    true≢false (sym ((exact (tree_names limit f c.args.pass.now.roots trees.0 block reached) (tree_next limit f c.args.pass.now.roots trees.0 block reached)).1
-    (tree_looked limit f c.args.pass.now.roots trees.0 c.args.plain block reached (λ plain. trees.1 plain block reached))) ∙ c.if-not-good.true)
+    c.in_ok-good.ensures.bad c.if-not-good.true
+    (subst (λ (n : ℕ). AreAllowed n (g.N.Nodes.node mid) c.loop-block.pass.roots c.args.plain) (sym so_far.looks.same_limit)
+    (subst (λ (h : Blocks). AreAllowed (g.N.Nodes.limit s) h c.loop-block.pass.roots c.args.plain) (sym so_far.looks.same_nodes)
+    (subst (λ (l : List ℕ). AreAllowed (g.N.Nodes.limit s) (g.N.Nodes.node s) l c.args.plain) (sym so_far.on.roots) trees)))
 
 pub returns-in_err-good-clause-reads : goal.returns-in_err-good-clause-reads
 returns-in_err-good-clause-reads g c =

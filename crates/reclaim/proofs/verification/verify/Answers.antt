@@ -1,4 +1,4 @@
-use Rattle.std.proofs.Common.{◌≡◌, ◌≢◌, ◌↔◌, ◌≤◌, ◌+◌, ◌*◌, ◌-◌, ℕ, List, Err, None, length, refl, ap, sym, subst, ◌∙◌, arith}
+use Rattle.std.proofs.Common.{◌≡◌, ◌≢◌, ◌↔◌, ◌≤◌, ◌+◌, ◌*◌, ◌-◌, ℕ, List, Err, length, refl, ap, sym, subst, ◌∙◌}
 use Rattle.std.specs.List.{filter}
 use Rattle.std.specs.Prelude.{IsTrue, All, Contains}
 use Rattle.std.proofs.lemmas.Result.{err_from_is_err_and}
@@ -14,6 +14,7 @@ use Rattle.directory.specs.Lookups.{LeadsToDirectories}
 use Rattle.reclaim.specs.Sound.{HoldsLink}
 use Rattle.reclaim.specs.Passes.{IsPass}
 use Rattle.reclaim.specs.Tables.{IsSized}
+use Rattle.reclaim.proofs.HeadLengths.{heads_none}
 use Rattle.reclaim.proofs.Looked.{all_seen}
 use Rattle.reclaim.proofs.Telling.{told_none, told_quiet, told_silent}
 use Rattle.reclaim.proofs.Costs.{holds_link, none_read, looked_cost, depth_cost, reached_directories}
@@ -44,6 +45,12 @@ pub are_whole-requires-clause-told : goal.are_whole-requires-clause-told
 are_whole-requires-clause-told g c =
     told_none (g.N.Nodes.node c.args.nodes.now) c.in_ok-pass.pass c.in_ok-table.table c.in_ok-pass.ensures.begun.2 (subst (λ (n : ℕ). IsSized n c.in_ok-table.table) (sym c.in_ok-pass.ensures.begun.0) c.in_ok-table.ensures.sized)
     c.in_ok-table.ensures.none.0 c.in_ok-table.ensures.none.1 c.in_ok-table.ensures.none.2
+
+pub are_whole-requires-clause-heads : goal.are_whole-requires-clause-heads
+are_whole-requires-clause-heads g c =
+    heads_none (g.N.Nodes.limit c.args.nodes.now - 80) (g.N.Nodes.node c.args.nodes.now) c.in_ok-pass.pass c.in_ok-table.table c.in_ok-pass.ensures.begun.2
+    (λ b high. g.met.N.Nodes.none_beyond c.args.nodes.now b (subst (λ (n : ℕ). n ≤ b) (c.in_ok-table.ensures.sized.links ∙ c.requires.blocks) high))
+    c.in_ok-table.ensures.none.0 c.in_ok-table.ensures.none.3 c.in_ok-table.ensures.words
 
 pub are_shallow-requires-clause-quiet : goal.are_shallow-requires-clause-quiet
 are_shallow-requires-clause-quiet g c =

@@ -1,4 +1,4 @@
-use Rattle.std.proofs.Common.{◌≡◌, ℕ, true, sym, ◌∙◌, arith}
+use Rattle.std.proofs.Common.{◌≡◌, ℕ, true, sym, ◌∙◌}
 use Rattle.reclaim.specs.Tables.{has_link}
 use Rattle.std.proofs.lemmas.List.Elements.{All-more}
 use Rattle.reclaim.proofs.Verifying.{all_end}

@@ -1,0 +1,73 @@
+#!/bin/bash
+# Builds the client with its drivers and runs each demo, under the address and undefined sanitizers:
+#   tools/c/client_test.sh [PROGRAM]
+# PROGRAM is the `uffs` of crates/uffs/out, as `rt run` builds it there, or another one. The last line counts.
+cd "$(dirname "$0")" || exit 2
+program=$(realpath "${1:-../../crates/uffs/out/uffs}")
+made=$(mktemp -d)
+trap 'rm -rf "$made"' EXIT
+passed=0 failed=0
+flags="-std=c11 -Wall -Wextra -Werror -pedantic -Wconversion -Wsign-conversion -Wshadow -Wstrict-prototypes -Wmissing-prototypes"
+client="undofs_client.c undofs_calls.c"
+
+tell() {
+    if [ "$2" = 0 ]; then
+        passed=$((passed + 1))
+        echo "ok    $1"
+    else
+        failed=$((failed + 1))
+        echo "WRONG $1"
+    fi
+}
+
+build() {
+    # shellcheck disable=SC2086
+    ${CC:-gcc} $flags -g -O1 -fsanitize=address,undefined -fno-sanitize-recover $client "$@" -o "$made/$name"
+}
+
+# Tries a demo: its name, its sources, and then the words it is run with. What it prints is wanted on standard input.
+try() {
+    name=$1 sources=$2
+    shift 2
+    # shellcheck disable=SC2086
+    build $sources && "$made/$name" "$@" > "$made/found"
+    tell "$name" $?
+    diff - "$made/found"
+    tell "$name prints what is wanted" $?
+}
+
+try demo_flat_file "flat_file.c demo_flat_file.c" "$program" "$made/part" << END
+entries a name of 100 % name
+entries
+entries a name of 100 % name
+100000 bytes, the same
+missing: 1
+END
+
+try demo_failures demo_failures.c "$program" << END
+at the start: 0 files, no bad block
+after failures: 4 files, some bad block
+by a new child: 4 files, some bad block
+END
+
+try demo_raw_nand "raw_nand.c nand_in_memory.c demo_raw_nand.c" "$program" << END
+raw NAND: 66 operations, 66 runs with a cut, 8 with failures, 0 wrong
+END
+
+# A driver that tells a failed page as written is caught: the check of the demo is none that always passes.
+sed 's/return read_page(n, page, bytes) == UNDOFS_UNREADABLE.*/(void)n; (void)bytes; (void)page; return UNDOFS_DONE;/' raw_nand.c > "$made/wrong.c"
+name=wrong_failure
+build -I. "$made/wrong.c" nand_in_memory.c demo_raw_nand.c && ! "$made/$name" "$program" > /dev/null 2>&1
+tell "a driver that tells a failed program as done is seen" $?
+
+# Nor one without a sum: a page that a cut tore is taken for its bytes.
+sed 's/memcmp(spare, wanted, NAND_SPARE) == 0/spare[0] == mark[0] || (spare[0] \& 1)/' raw_nand.c > "$made/wrong.c"
+name=wrong_sum
+build -I. "$made/wrong.c" nand_in_memory.c demo_raw_nand.c && ! "$made/$name" "$program" > /dev/null 2>&1
+tell "a driver that looks at no sum is seen" $?
+
+python3 ../python/test_undofs.py "$program"
+tell "undofs.py" $?
+
+echo "$passed passed, $failed failed"
+[ "$failed" = 0 ]

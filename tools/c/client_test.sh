@@ -41,6 +41,7 @@ entries a name of 100 % name
 entries
 entries a name of 100 % name
 100000 bytes, the same
+norxxx
 missing: 1
 END
 
@@ -53,6 +54,14 @@ END
 try demo_raw_nand "raw_nand.c nand_in_memory.c demo_raw_nand.c" "$program" << END
 raw NAND: 66 operations, 66 runs with a cut, 8 with failures, 0 wrong
 END
+
+# A client that waits in a write of lines stands still, since the child waits for the answer to an order.
+sed 's/fcntl(u->lines, F_SETFL, O_NONBLOCK)/fcntl(u->lines, F_SETFL, 0)/' undofs_client.c > "$made/blocking.c"
+name=blocking client="$made/blocking.c undofs_calls.c"
+build -I. flat_file.c demo_flat_file.c && timeout 60 "$made/$name" "$program" "$made/other" > /dev/null 2>&1
+[ $? = 124 ]
+tell "a client that waits in a write of lines is seen" $?
+client="undofs_client.c undofs_calls.c"
 
 # A driver that tells a failed page as written is caught: the check of the demo is none that always passes.
 sed 's/return read_page(n, page, bytes) == UNDOFS_UNREADABLE.*/(void)n; (void)bytes; (void)page; return UNDOFS_DONE;/' raw_nand.c > "$made/wrong.c"

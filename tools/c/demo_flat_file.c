@@ -30,6 +30,7 @@ int main(int count, char **words) {
     struct undofs_sizes sizes = {256, 16, 256};
     struct flat_file file;
     size_t got;
+    uint32_t opened;
     if (count != 3 || flat_file_open(&file, words[2], &sizes) != 0) return 2;
     struct undofs_driver driver = flat_file_driver(&file);
     want(undofs_start(&handle, words[1], &driver, file.is_new ? 8 : 0), "start");
@@ -51,6 +52,12 @@ int main(int count, char **words) {
     print_entries();
     want(undofs_read_file(handle, "/pump/a name of 100 %", NULL, 0, found, sizeof found, &got), "read");
     printf("%zu bytes, %s\n", got, got == sizeof large && memcmp(large, found, got) == 0 ? "the same" : "OTHERS");
+    want(undofs_open(handle, "/pump/name", UNDOFS_READ | UNDOFS_WRITE, &opened), "open");
+    want(undofs_pwrite(handle, opened, 3, large, sizeof large), "write"); /* more lines than a pipe holds */
+    want(undofs_ftruncate(handle, opened, 6), "truncate");
+    want(undofs_pread(handle, opened, 0, found, sizeof found, &got), "read");
+    want(undofs_close(handle, opened), "close");
+    printf("%.*s\n", (int)got, (const char *)found);
     printf("missing: %d\n", undofs_unlink(handle, "/none"));
     undofs_end(handle);
     flat_file_close(&file);

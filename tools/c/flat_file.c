@@ -71,8 +71,8 @@ static enum undofs_answer program_page(void *part, uint32_t page, const uint8_t 
 static enum undofs_answer erase_block(void *part, uint32_t block) {
     struct flat_file *file = part;
     static const uint8_t erased[MOST_PAGES];
-    if (!is_barred(file, block)) return UNDOFS_CUT;
-    if (!is_written(file->descriptor, erased, file->sizes.pages, state_at((uint64_t)block * file->sizes.pages))) return UNDOFS_CUT;
+    off_t states = state_at((uint64_t)block * file->sizes.pages);
+    if (!is_barred(file, block) || !is_written(file->descriptor, erased, file->sizes.pages, states)) return UNDOFS_CUT;
     return is_barred(file, block) ? UNDOFS_DONE : UNDOFS_CUT;
 }
 

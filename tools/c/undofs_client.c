@@ -12,7 +12,7 @@
 #include <sys/wait.h>
 #include <unistd.h>
 
-enum { MOST_PAGE = 4096, MESSAGE = 512, PIPE = 1 << 20 };
+enum { MOST_PAGE = 4096, MESSAGE = 512 };
 
 struct undofs {
     const struct undofs_driver *driver;
@@ -132,7 +132,6 @@ static int make_pipes(struct ends *pipes, size_t count) {
         close(both[0]);
         close(both[1]);
         if (pipes[i].read < 0 || pipes[i].write < 0) return -1;
-        (void)fcntl(pipes[i].write, F_SETPIPE_SZ, PIPE); /* only for speed */
     }
     return 0;
 }

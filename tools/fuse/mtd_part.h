@@ -1,0 +1,20 @@
+/* A driver over /dev/mtdN: NOR in the layout of docs/format.md, with sectors of the part's size, or NAND by raw_nand.h with the
+ * free spare bytes of each page. It was tried over tests/mtd_shim.c alone, and on no part. */
+#ifndef MTD_PART_H
+#define MTD_PART_H
+
+#include "../c/raw_nand.h"
+
+struct mtd_part {
+    int descriptor, is_nor;
+    uint32_t erase_size; /* bytes of a sector, which on NAND is a block */
+    struct undofs_sizes sizes;
+    struct nand_chip chip;
+};
+
+/* Opens a part, and claims it. Of one that is larger the first 64 MiB are used. 0, or an errno: ENODEV where it is neither NOR nor
+ * NAND, ERANGE where its sizes are not those of docs/format.md. NAND wants Linux 6.1 for reads of spare bytes. */
+int mtd_part_open(struct mtd_part *part, const char *name);
+struct undofs_driver mtd_part_driver(struct mtd_part *part);
+
+#endif

@@ -1,0 +1,163 @@
+"""A mounted folder for tests: a daemon in the foreground, over a part in a flat file, which may be killed, cut and mounted again."""
+import contextlib
+import os
+import shutil
+import signal
+import subprocess
+import tempfile
+import time
+
+HERE = os.path.dirname(os.path.abspath(__file__))
+SHARED = {"daemon": None, "program": None, "shims": None}
+
+
+class Wrong(Exception):
+    """What was found where something else has to be."""
+
+
+def want(found, wanted, what=""):
+    if found != wanted:
+        raise Wrong(f"{what}: {found!r} in place of {wanted!r}"[:600])
+
+
+def run(*words, cwd=None, check=True, text=None, env=None):
+    """The output of a program, which has to end well."""
+    done = subprocess.run(words, cwd=cwd, input=text, capture_output=True, text=True, env=env)
+    if check and done.returncode != 0:
+        raise Wrong(f"{' '.join(words)}: status {done.returncode} {done.stderr[-300:]} {done.stdout[-200:]}")
+    return done.stdout
+
+
+def child_of(process):
+    """The number of the daemon's child."""
+    with open(f"/proc/{process.pid}/task/{process.pid}/children") as children:
+        numbers = children.read().split()
+    return int(numbers[0]) if numbers else None
+
+
+class Folder:
+    """A folder with its own scratch space. `options` are those of -o; `shim` is a dictionary of the environment."""
+
+    def __init__(self, options="", blocks=2048, page=4096, pages=1, history=32):
+        self.space = tempfile.mkdtemp(prefix="undofs-")
+        self.part, self.path = f"{self.space}/part", f"{self.space}/folder"
+        os.mkdir(self.path)
+        self.sizes = f"page={page},pages={pages},blocks={blocks},history={history}"
+        self.options, self.process = options, None
+
+    def mount(self, shim=None, more="", wait=True):
+        """Starts the daemon. With `wait` it has to be there; without, whether it is there is answered."""
+        words = [SHARED["daemon"], self.part, self.path, "-f", "-o"]
+        words.append(",".join(filter(None, [self.sizes, f"serve={SHARED['program']}", self.options, more])))
+        env = dict(os.environ)
+        if shim:
+            kind = "mtd_shim.so" if "MTD_FILE" in shim else "file_shim.so"
+            env.update(shim, LD_PRELOAD=f"{SHARED['shims']}/{kind}")
+        self.log = open(f"{self.space}/log", "a+")
+        self.process = subprocess.Popen(words, env=env, stdin=subprocess.DEVNULL, stdout=self.log, stderr=self.log)
+        until = time.time() + 120
+        while not os.path.ismount(self.path):
+            if self.process.poll() is not None or time.time() > until:
+                if wait:
+                    raise Wrong(f"the daemon did not start: {self.told()[-300:]}")
+                return False
+            time.sleep(0.01)
+        return True
+
+    def told(self):
+        with open(f"{self.space}/log") as log:
+            return log.read()
+
+    def unmount(self):
+        """Ends the daemon as a user does, and waits until all is on the part."""
+        for _ in range(50):
+            done = subprocess.run(["fusermount3", "-u", self.path], capture_output=True)
+            if done.returncode == 0:
+                break
+            time.sleep(0.1)
+        else:
+            raise Wrong(f"the folder is busy: {done.stderr}")
+        want(self.process.wait(60), 0, "the daemon's status")
+
+    def kill(self):
+        """Kills the daemon and its child at once."""
+        child = child_of(self.process) if self.process.poll() is None else None
+        for number in (child, self.process.pid if self.process.poll() is None else None):
+            if number:
+                with contextlib.suppress(ProcessLookupError):
+                    os.kill(number, signal.SIGKILL)
+        self.process.wait(60)
+        self.clear()
+
+    def clear(self):
+        """Takes the mount away, also where the daemon went in a cut, or goes in one now."""
+        subprocess.run(["fusermount3", "-u", "-z", self.path], capture_output=True)
+        want(self.process.wait(60) in (0, 77, -signal.SIGKILL, 3), True, f"the daemon's status {self.process.returncode}")
+
+    def end(self):
+        if self.process is not None and self.process.poll() is None:
+            self.kill()
+        elif os.path.ismount(self.path):
+            self.clear()
+        shutil.rmtree(self.space, ignore_errors=True)
+
+    def __enter__(self):
+        return self
+
+    def __exit__(self, *_):
+        self.end()
+
+    # What a user does
+    def __call__(self, *names):
+        return os.path.join(self.path, *names)
+
+    def order(self, line):
+        """Writes a line to .undofs."""
+        with open(self(".undofs"), "w") as control:
+            control.write(line + "\n")
+
+    def refusal(self, line):
+        try:
+            self.order(line)
+        except OSError as error:
+            return error.errno
+        return None
+
+    def log_words(self):
+        with open(self(".undofs")) as control:
+            return control.readline().split()
+
+    def versions(self):
+        """How many versions were ever made; a group that is open counts for none until its end."""
+        return int(self.log_words()[2]) - 1
+
+    def settled(self):
+        """The same, once the group that is open has ended."""
+        for _ in range(3):
+            before = self.versions()
+            time.sleep(1.3)
+            if self.versions() == before:
+                return before
+        return self.versions()
+
+
+@contextlib.contextmanager
+def mounted(options="", **sizes):
+    """A folder that is mounted, and unmounted well at the end."""
+    with Folder(options, **sizes) as folder:
+        folder.mount()
+        yield folder
+        if folder.process.poll() is None:
+            folder.unmount()
+
+
+def tree_of(path):
+    """What stands below a folder: directories, and files with their bytes."""
+    found = {}
+    for place, folders, files in os.walk(path):
+        for name in folders:
+            found[os.path.relpath(os.path.join(place, name), path)] = None
+        for name in files:
+            with open(os.path.join(place, name), "rb") as file:
+                found[os.path.relpath(os.path.join(place, name), path)] = file.read()
+    return found

@@ -16,4 +16,5 @@ trap 'rm -rf "$made"' EXIT
 for shim in file_shim mtd_shim; do
     gcc -std=c11 -Wall -Wextra -Werror -O2 -fPIC -shared tests/$shim.c -o "$made/$shim.so" -ldl || exit 2
 done
+gcc -std=c11 -Wall -Wextra -Werror -g -fsanitize=address,undefined tests/times_test.c times.c -o "$made/times_test" || exit 2
 PYTHONDONTWRITEBYTECODE=1 python3 tests/try_folder.py "$made/undofs-fuse" "$program" "$made" "$@"

@@ -153,16 +153,22 @@ static int is_not_between(struct entry *e, struct stamp *s, const void *with) {
 
 void times_discarded(uint64_t last, uint64_t next) { sift(is_not_between, &(struct range){last, next}); }
 
-/* A stamp is shown by a kept version where it is after the first one, or the newest one up to it. */
-static int is_shown(struct entry *e, struct stamp *s, const void *with) {
+/* Of those up to the first kept version the newest one alone is shown, */
+static int is_newest_of_first(struct entry *e, struct stamp *s, const void *with) {
     uint64_t first = *(const uint64_t *)with;
-    if (s->serial > first) return 1;
-    return stamp_at(e, first) == s && !s->is_gone;
+    return s->serial > first || stamp_at(e, first) == s;
+}
+
+/* and that it is gone needs no stamp. */
+static int is_not_gone_before(struct entry *e, struct stamp *s, const void *with) {
+    (void)e;
+    return s->serial > *(const uint64_t *)with || !s->is_gone;
 }
 
 void times_kept(uint64_t first) {
     if (count < 2 * count_after_prune + SPARE) return;
-    sift(is_shown, &first);
+    sift(is_newest_of_first, &first);
+    sift(is_not_gone_before, &first);
     count_after_prune = count;
 }
 

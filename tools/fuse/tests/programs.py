@@ -4,10 +4,11 @@ import glob
 import mmap
 import os
 import random
+import shutil
 import sqlite3
 import tempfile
 
-from mounts import Wrong, mounted, run, tree_of, want
+from mounts import HERE, Wrong, mounted, run, tree_of, want
 
 GIT = {**os.environ, "GIT_CONFIG_NOSYSTEM": "1", "GIT_AUTHOR_NAME": "a", "GIT_AUTHOR_EMAIL": "a@b", "GIT_COMMITTER_NAME": "a", "GIT_COMMITTER_EMAIL": "a@b", "HOME": "/"}
 
@@ -69,14 +70,15 @@ def sqlite_works():
 
 def archives_are_the_same():
     """tar, diff -r and rsync over a tree of the host; a second rsync sends nothing, since times are kept."""
-    source = os.path.dirname(os.path.dirname(os.path.abspath(__file__)))
     with mounted() as f:
-        run("sh", "-c", f"tar -C {source} --exclude=out --exclude=__pycache__ -cf - . | tar -C {f.path} -xf -")
-        run("diff", "-r", "--exclude=out", "--exclude=__pycache__", source, f.path)
-        words = ["rsync", "-rt", "--exclude=out", "--exclude=__pycache__", "--itemize-changes", source + "/", f("copy/")]
+        source = f.space + "/source"
+        shutil.copytree(os.path.dirname(HERE), source, ignore=shutil.ignore_patterns("out", "__pycache__"))
+        run("sh", "-c", f"tar -C {source} -cf - . | tar -C {f.path} -xf -")
+        run("diff", "-r", source, f.path)
+        words = ["rsync", "-rt", "--itemize-changes", source + "/", f("copy/")]
         os.mkdir(f("copy"))
         run(*words)
-        run("diff", "-r", "--exclude=out", "--exclude=__pycache__", source, f("copy"))
+        run("diff", "-r", source, f("copy"))
         want([line for line in run(*words).splitlines() if line.startswith(">f")], [], "files of a second rsync")
         run("sh", "-c", f"cd {f('copy')} && tar -cf ../all.tar . && mkdir ../again && tar -C ../again -xf ../all.tar")
         run("diff", "-r", f("copy"), f("again"))

@@ -6,7 +6,7 @@ import shutil
 import subprocess
 import time
 
-from mounts import Wrong, mounted, run, tree_of, want
+from mounts import SHARED, Wrong, mounted, run, tree_of, want
 
 NODATA = 61
 
@@ -204,6 +204,10 @@ def times_follow_versions():
         want(os.stat(f("a")).st_mtime > start, True, "after a new mount")
 
 
+def the_table_of_times():
+    run(f"{SHARED['shims']}/times_test")
+
+
 def make_is_right_after_undo():
     with mounted() as f:
         for name, text in (("Makefile", "b: a\n\tcp a b\n"), ("a", "one\n")):
@@ -242,8 +246,6 @@ def a_mount_is_found_again():
         os.mkdir(other)
         with open(f.space + "/none", "wb") as file:
             file.write(bytes(5000))
-        from mounts import SHARED
-
         done = subprocess.run([SHARED["daemon"], f.space + "/none", other, "-o", f"serve={SHARED['program']}"], capture_output=True, text=True)
         want((done.returncode, "neither a part" in done.stderr), (1, True), f"a file that is no part {done.stderr}")
 
@@ -256,6 +258,7 @@ CASES = [
     views_are_read_only,
     a_group_by_hand,
     times_follow_versions,
+    the_table_of_times,
     make_is_right_after_undo,
     a_mount_is_found_again,
 ]

@@ -112,7 +112,11 @@ static int tell_image(struct undofs *u) {
 
 /* ---- the child ---- */
 
+/* Signals that end the caller are not for the child: it ends when its lines do, and what was asked last is carried out. */
 static void become_child(const char *program, char **words, int in, int out, int error, int answers, int orders) {
+    signal(SIGINT, SIG_IGN);
+    signal(SIGTERM, SIG_IGN);
+    signal(SIGHUP, SIG_IGN);
     int is_set = dup2(in, 0) == 0 && dup2(out, 1) == 1 && dup2(error, 2) == 2;
     if (is_set && fcntl(answers, F_SETFD, 0) == 0 && fcntl(orders, F_SETFD, 0) == 0) execvp(program, words);
     _exit(127);

@@ -140,7 +140,7 @@ class Undofs:
         words = [program, "serve", f"/dev/fd/{answers}", f"/dev/fd/{orders}"]
         words += ["--history", str(history)] if history else []
         pipe = subprocess.PIPE
-        self.child = subprocess.Popen(words, stdin=pipe, stdout=pipe, stderr=pipe, bufsize=0, pass_fds=(answers, orders))
+        self.child = subprocess.Popen(words, stdin=pipe, stdout=pipe, stderr=pipe, bufsize=0, pass_fds=(answers, orders), start_new_session=True)
         os.close(answers)
         os.close(orders)
         os.set_blocking(self.child.stdin.fileno(), False)

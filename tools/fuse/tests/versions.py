@@ -3,10 +3,11 @@ import errno
 import mmap
 import os
 import shutil
+import signal
 import subprocess
 import time
 
-from mounts import SHARED, Wrong, mounted, run, tree_of, want
+from mounts import SHARED, Wrong, child_of, mounted, run, tree_of, want
 
 NODATA = 61
 
@@ -250,6 +251,21 @@ def a_mount_is_found_again():
         want((done.returncode, "neither a part" in done.stderr), (1, True), f"a file that is no part {done.stderr}")
 
 
+def a_signal_ends_it_well():
+    """A signal to the daemon and its child, as at a shutdown of the host: what was saved is brought to the part first."""
+    with mounted("commit=0") as f:
+        with open(f("a"), "w") as file:
+            file.write("one")
+        child = child_of(f.process)
+        for number in (signal.SIGINT, signal.SIGHUP, signal.SIGTERM):
+            os.kill(child, number)
+        f.process.send_signal(signal.SIGTERM)
+        want(f.process.wait(60), 0, "the daemon's status")
+        want(os.path.ismount(f.path), False, "is it mounted")
+        f.mount()
+        want(tree_of(f.path), {"a": b"one"}, "after a new mount")
+
+
 CASES = [
     one_version_a_save,
     undo_gives_each_tree,
@@ -261,4 +277,5 @@ CASES = [
     the_table_of_times,
     make_is_right_after_undo,
     a_mount_is_found_again,
+    a_signal_ends_it_well,
 ]

@@ -19,7 +19,7 @@ use allocator::Marks;
 use flash_model::Flash;
 use fs_types::Fault;
 use node_store::{Nodes, Storage, Store};
-use reclaim::{Pass, Reading, verify};
+use reclaim::{Pass, verify};
 use std::alloc::Global;
 
 /// The blocks that roots reach, each of which has a tree; where they are to be plain, one whose
@@ -97,7 +97,7 @@ fn marked_in<F: Flash>(
     ensures why { IfErr result (λ fault. ReadCause (seen_of (F.device store.old.flash.now) store.old.storage.now) fault (seen_of (F.device store.new.flash.now) store.new.storage.now)) }
 {
     let mut pass = Pass::start(alloc, store.block_count(), roots)?;
-    pass.read_all(store, Reading::Fronts)?;
+    pass.read_all(store)?;
     Ok(pass.finish())
 }
 

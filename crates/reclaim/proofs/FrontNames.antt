@@ -1,13 +1,12 @@
 -- What the first page of a body's node names is what the node names.
 use Rattle.std.proofs.Common.{◌≡◌, ◌≢◌, ◌↔◌, inl, inr, ℕ, ◌+◌, ◌*◌, ◌<◌, ◌≤◌, Bool, true, false, cond, Option, Some, None, List, length, refl, sym, ap, subst, ◌∙◌, arith}
-use Rattle.std.specs.Prelude.{◌==◌, nat_lt, nat_le, is_some, Contains}
-use Rattle.std.proofs.lemmas.Bool.{true≢false}
+use Rattle.std.specs.Prelude.{◌==◌, nat_lt, nat_le, Contains}
 use Rattle.node_format.specs.Headers.{field, body_magic, body_header, body_size, directory_magic, chain_magic, directory_size, IsNode}
 use Rattle.node_format.proofs.HeaderLaws.{field-take}
 use Rattle.node_store.specs.Fronts.{IsFront}
-use Rattle.block_trees.specs.Bodies.{Blocks, index_of, pointer_of}
+use Rattle.block_trees.specs.Bodies.{index_of, pointer_of}
 use Rattle.block_trees.specs.Reached.{Names, BodyNames}
-use Rattle.reclaim.specs.Kinds.{HoldsBodyNode, NamesBody}
+use Rattle.reclaim.specs.Kinds.{NamesBody}
 use Rattle.reclaim.proofs.Soundness.{no_entry, no_next}
 
 -- the node of a body has its header, and the bytes that it uses
@@ -100,13 +99,9 @@ has_front page block index front (Some bytes) room has whole begins =
       bodies = front_bodies page front bytes is room long index has;
     }
 
--- a node that was read whole, and whether it is one of a body
-pub own_body : (f : Blocks) (block : ℕ) (bytes : List ℕ) (is_body : Bool) → f block ≡ Some bytes → is_body ≡ is_some (index_of (Some bytes)) → (f block ≢ None) × (is_body ≡ true → HoldsBodyNode f block)
-own_body f block bytes is_body is same = (λ none. no_bytes bytes (sym is ∙ none), λ yes. by (index_of (Some bytes)) (ap index_of is) (sym same ∙ yes))
+-- a node that was read whole
+pub has_bytes : (node : Option (List ℕ)) (bytes : List ℕ) → node ≡ Some bytes → node ≢ None
+has_bytes node bytes is none = some_bytes bytes (sym is ∙ none)
   where
-    no_bytes : (bytes : List ℕ) → (let o : Option (List ℕ) = Some bytes in o ≡ None) → ⊥
-    no_bytes bytes e = cc
-
-    by : (o : Option ℕ) → index_of (f block) ≡ o → is_some o ≡ true → HoldsBodyNode f block
-    by None own some = absurd (true≢false (sym some))
-    by (Some index) own some = (index, own)
+    some_bytes : (bytes : List ℕ) → (let o : Option (List ℕ) = Some bytes in o ≡ None) → ⊥
+    some_bytes bytes e = cc

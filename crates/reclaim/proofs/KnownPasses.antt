@@ -1,6 +1,6 @@
 -- Markings of roots that have trees: which marked blocks are those of bodies.
 use Rattle.std.proofs.Common.{◌≡◌, ◌↔◌, ◌⊎◌, inl, inr, ℕ, ◌+◌, ◌-◌, ◌<◌, ◌≤◌, Bool, true, false, ◌||◌, eqb, Option, Some, None, List, [], ◌∷◌, ◌++◌, length, take, rules, refl, sym, ap, subst, ◌∙◌, arith}
-use Rattle.std.specs.Prelude.{◌&&◌, slice_index, Contains}
+use Rattle.std.specs.Prelude.{slice_index, Contains}
 use Rattle.std.specs.FinSet as set
 use Rattle.std.specs.List.{sum_by}
 use Rattle.std.specs.Option.{is_some}
@@ -13,11 +13,9 @@ use Rattle.node_format.specs.declared.place.Place.{Place}
 use Rattle.node_format.specs.declared.place.Place.TheVariants.{Dir, File}
 use Rattle.block_trees.specs.Bodies.{Blocks, index_of}
 use Rattle.block_trees.specs.Reached.{Reached, Names, PlaceNames, Agrees}
-use Rattle.reclaim.specs.Kinds.{is_by_fronts, HoldsBodyNode, FileNames, NamesBody, IsKnownMarking, Knows, noted_of, read_pages, mark_pages, HasAsked}
+use Rattle.reclaim.specs.Kinds.{HoldsBodyNode, FileNames, NamesBody, IsKnownMarking, Knows, read_pages, mark_pages, HasAsked}
 use Rattle.reclaim.specs.Passes.{Pass, Begins, IsMarked, IsPass, AreNoted, Advances}
 use Rattle.reclaim.specs.Verified.{AreRoots}
-use Rattle.reclaim.specs.declared.reading.Reading.{Reading}
-use Rattle.reclaim.specs.declared.reading.Reading.TheVariants.{Whole, Fronts}
 use Rattle.reclaim.proofs.Costs.{sum_more}
 use Rattle.reclaim.proofs.Marking.{begins_has, begins_at, begins_length, pass_stays}
 use Rattle.reclaim.proofs.Soundness.{named_body, named_kind, root_kind}
@@ -34,33 +32,16 @@ no_index : (index : ℕ) → (let o : Option ℕ = Some index in o ≡ None) →
 no_index index is = cc
 
 -- a block with a front holds a body
-pub front_body : (reading : Reading) (limit : ℕ) (f : Blocks) (p : Pass) (b : ℕ) → Knows reading limit f p → (is_by_fronts reading && set.contains p.bodies b) ≡ true → HoldsBodyNode f b
-front_body Whole limit f p b known is = absurd (true≢false (sym is))
-front_body Fronts limit f p b known is = elim (body_or_not f b) [
+pub front_body : (limit : ℕ) (f : Blocks) (p : Pass) (b : ℕ) → Knows limit f p → set.contains p.bodies b ≡ true → HoldsBodyNode f b
+front_body limit f p b known is = elim (body_or_not f b) [
   | inl holds ↦ holds
   | inr none ↦ absurd (known (λ k. let holds = k.kinds.bodies b is in no_index holds.0 (sym holds.1 ∙ none)))
 ]
 
 -- what is known of a marking is known again where one block more was read
-pub knows_next : (reading : Reading) (limit limit' : ℕ) (f g : Blocks) (p q : Pass) (block : ℕ) (is_body : Bool) (bodies : List ℕ) → limit' ≡ limit → g ≡ f
-    → (is_body ≡ true → HoldsBodyNode f block) → AreNoted p.bodies (noted_of reading block is_body bodies) p.blocks q.bodies
-    → (AreNoted p.bodies bodies p.blocks q.bodies → IsKnownMarking limit f p → IsKnownMarking limit f q) → Knows reading limit f p → Knows reading limit' g q
-knows_next Whole limit limit' f g p q block is_body bodies same_limit same own noted on known =
-    λ b has. subst (λ (h : Blocks). HoldsBodyNode h b) (sym same) (by b (noted.only b has))
-  where
-    itself : (b : ℕ) (t : Bool) → (t ≡ true → HoldsBodyNode f block) → Contains (noted_of Whole block t bodies) b → HoldsBodyNode f b
-    itself b true own has = subst (HoldsBodyNode f) (single (Contains-push_cases [] block b has)) (own refl)
-      where
-        single : Contains [] b ⊎ (block ≡ b) → block ≡ b
-        single (inl none) = absurd (omega (arith, none.1))
-        single (inr same) = same
-    itself b false own has = absurd (omega (arith, has.1))
-
-    by : (b : ℕ) → (set.contains p.bodies b ≡ true) ⊎ Contains (noted_of Whole block is_body bodies) b → HoldsBodyNode f b
-    by b (inl before) = known b before
-    by b (inr now) = itself b is_body own now
-knows_next Fronts limit limit' f g p q block is_body bodies same_limit same own noted on known =
-    λ none. known (λ k. none (subst (λ (n : ℕ). IsKnownMarking n g q) (sym same_limit) (subst (λ (h : Blocks). IsKnownMarking limit h q) (sym same) (on noted k))))
+pub knows_next : (limit limit' : ℕ) (f g : Blocks) (p q : Pass) → limit' ≡ limit → g ≡ f → (IsKnownMarking limit f p → IsKnownMarking limit f q) → Knows limit f p → Knows limit' g q
+knows_next limit limit' f g p q same_limit same on known =
+    λ none. known (λ k. none (subst (λ (n : ℕ). IsKnownMarking n g q) (sym same_limit) (subst (λ (h : Blocks). IsKnownMarking limit h q) (sym same) (on k))))
 
 -- what a node names as that of a body it names
 names_of_body : (node : Option (List ℕ)) (b : ℕ) → NamesBody node b → Names node b
@@ -120,7 +101,7 @@ module _ (limit : ℕ) (f : Blocks) (p q : Pass) (block : ℕ) (names bodies : L
   }
 
 -- a marking that has marked its roots alone, and noted none
-pub begins_known : (limit : ℕ) (f : Blocks) (p : Pass) → AreRoots limit f p.roots → IsPass f p → ((b : ℕ) → Contains p.order b → Contains p.roots b) → p.bodies ≡ set.empty → Knows Fronts limit f p
+pub begins_known : (limit : ℕ) (f : Blocks) (p : Pass) → AreRoots limit f p.roots → IsPass f p → ((b : ℕ) → Contains p.order b → Contains p.roots b) → p.bodies ≡ set.empty → Knows limit f p
 begins_known limit f p trees pass roots none unknown = unknown (record {
   trees = trees;
   pass = pass;
@@ -149,10 +130,9 @@ known_stays limit f g p same trees k = record {
 -- ---- the pages of a block
 
 -- a block that is read whole though a first page would do is none of a body
-pub pages_as_marked : (reading : Reading) (limit page : ℕ) (f : Blocks) (p : Pass) (b : ℕ) → Knows reading limit f p → Contains p.order b
-    → read_pages (is_by_fronts reading && set.contains p.bodies b) page (f b) ≡ mark_pages reading page (f b)
-pages_as_marked Whole limit page f p b known has = refl
-pages_as_marked Fronts limit page f p b known has = on (set.contains p.bodies b) refl (body_or_not f b)
+pub pages_as_marked : (limit page : ℕ) (f : Blocks) (p : Pass) (b : ℕ) → Knows limit f p → Contains p.order b
+    → read_pages (set.contains p.bodies b) page (f b) ≡ mark_pages page (f b)
+pages_as_marked limit page f p b known has = on (set.contains p.bodies b) refl (body_or_not f b)
   where
     on : (t : Bool) → set.contains p.bodies b ≡ t → HoldsBodyNode f b ⊎ (index_of (f b) ≡ None) → read_pages t page (f b) ≡ read_pages (is_some (index_of (f b))) page (f b)
     on true is (inl holds) = ap (λ (o : Option ℕ). read_pages (is_some o) page (f b)) (sym holds.1)
@@ -164,19 +144,19 @@ take_same : (xs ys : List ℕ) (k : ℕ) → Begins xs ys → k ≤ length xs �
 take_same xs ys k (rest, is) le = ap (take k) (sym is) ∙ take-append-le k xs rest le
 
 -- one block more was asked for
-pub asked_more : (reading : Reading) (page : ℕ) (f : Blocks) (old p q : Pass) (before mid after : ℕ) → Begins p.order q.order → p.next < length p.order → q.next ≡ p.next + 1
-    → after ≤ mid + mark_pages reading page (f (slice_index p.order p.next)) → HasAsked reading page f old p before mid → HasAsked reading page f old q before after
-asked_more reading page f old p q before mid after begins below next one so_far =
-    let g = λ (b : ℕ). mark_pages reading page (f b) in
+pub asked_more : (page : ℕ) (f : Blocks) (old p q : Pass) (before mid after : ℕ) → Begins p.order q.order → p.next < length p.order → q.next ≡ p.next + 1
+    → after ≤ mid + mark_pages page (f (slice_index p.order p.next)) → HasAsked page f old p before mid → HasAsked page f old q before after
+asked_more page f old p q before mid after begins below next one so_far =
+    let g = λ (b : ℕ). mark_pages page (f b) in
     let more : sum_by g (take (p.next + 1) q.order) ≡ sum_by g (take p.next q.order) + g (slice_index q.order p.next) = sum_more g q.order p.next (omega (arith, begins_length p.order q.order begins)) in
     let front : sum_by g (take p.next q.order) ≡ sum_by g (take p.next p.order) = ap (sum_by g) (take_same p.order q.order p.next begins (omega arith)) in
     let here : g (slice_index q.order p.next) ≡ g (slice_index p.order p.next) = ap g (begins_at p.order q.order p.next begins below) in
     let all : sum_by g (take q.next q.order) ≡ sum_by g (take (p.next + 1) q.order) = ap (λ (k : ℕ). sum_by g (take k q.order)) next in
     omega (arith, more, front, here, all, one, so_far)
 
-pub asked_same : (reading : Reading) (page page' : ℕ) (f g : Blocks) (b before after : ℕ) → page' ≡ page → g ≡ f → after ≤ before + mark_pages reading page' (g b) → after ≤ before + mark_pages reading page (f b)
-asked_same reading page page' f g b before after same_page same most =
-    subst (λ (n : ℕ). after ≤ before + n) (λ i. mark_pages reading (same_page i) (same i b)) most
+pub asked_same : (page page' : ℕ) (f g : Blocks) (b before after : ℕ) → page' ≡ page → g ≡ f → after ≤ before + mark_pages page' (g b) → after ≤ before + mark_pages page (f b)
+asked_same page page' f g b before after same_page same most =
+    subst (λ (n : ℕ). after ≤ before + n) (λ i. mark_pages (same_page i) (same i b)) most
 
 -- a marking went on
 pub continues_itself : (p : Pass) → Begins p.order p.order → Advances p p

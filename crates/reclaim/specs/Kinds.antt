@@ -1,25 +1,17 @@
 -- Blocks that hold nodes of bodies, and those of directories.
-use Rattle.std.specs.Prelude.{◌≡◌, ◌≢◌, ◌⊎◌, ℕ, ◌<◌, Bool, true, false, ◌&&◌, ◌+◌, ◌≤◌, Option, Some, None, List, [], ◌∷◌, length, take, Contains}
+use Rattle.std.specs.Prelude.{◌≡◌, ◌⊎◌, ℕ, ◌<◌, Bool, true, false, ◌+◌, ◌≤◌, Option, Some, None, List, length, take, Contains}
 use Rattle.std.specs.List.{sum_by}
 use Rattle.std.specs.Option.{is_some}
 use Rattle.std.specs.FinSet as set
-use Rattle.std.specs.Ordering.{nat_cmp}
 use Rattle.node_format.specs.Items.{Item}
 use Rattle.node_format.specs.declared.place.Place.{Place}
 use Rattle.node_format.specs.declared.place.Place.TheVariants.{Dir, File}
 use Rattle.node_store.specs.NodePages.{pages_for}
 use Rattle.block_trees.specs.Bodies.{Blocks, index_of, pointer_of}
 use Rattle.block_trees.specs.Chains.{link_items}
-use Rattle.block_trees.specs.Reached.{Names, BodyNames}
+use Rattle.block_trees.specs.Reached.{BodyNames}
 use Rattle.reclaim.specs.Passes.{Pass, IsPass}
 use Rattle.reclaim.specs.Verified.{AreRoots}
-use Rattle.reclaim.specs.declared.reading.Reading.{Reading}
-use Rattle.reclaim.specs.declared.reading.Reading.TheVariants.{Whole, Fronts}
-
--- the first page alone is read of the nodes of bodies
-abbrev pub is_by_fronts : Reading → Bool
-is_by_fronts Whole = false
-is_by_fronts Fronts = true
 
 -- the block holds a node of a body
 abbrev pub HoldsBodyNode : Blocks → ℕ → Type 0
@@ -46,25 +38,9 @@ pub record IsKnownMarking (limit : ℕ) (f : Blocks) (p : Pass) : Type 0 where
   pub pass : IsPass f p
   pub kinds : KnowsBodies f p
 
--- what a way of reading asks of a marking: by fronts that it is one of roots that have trees, which is said as a proposition;
--- else that the noted blocks are those of bodies
-abbrev pub Knows : Reading → ℕ → Blocks → Pass → Type 0
-Knows Whole limit f p = (b : ℕ) → set.contains p.bodies b ≡ true → HoldsBodyNode f b
-Knows Fronts limit f p = (IsKnownMarking limit f p → ⊥) → ⊥
-
--- what is noted of a block that was read: by fronts what its node names as those of bodies, else the block itself where it holds
--- a body's node
-abbrev pub noted_of : Reading → ℕ → Bool → List ℕ → List ℕ
-noted_of Fronts block is_body bodies = bodies
-noted_of Whole block true bodies = block ∷ []
-noted_of Whole block false bodies = []
-
--- the blocks of a list hold nodes, and so do those that their nodes name, which are in the list too; and the blocks of a set are
--- those of bodies
-pub record AreKnown (f : Blocks) (list : List ℕ) (kinds : set.FinSet nat_cmp) : Type 0 where
-  pub whole : (b : ℕ) → Contains list b → f b ≢ None
-  pub named : (b c : ℕ) → Contains list b → Names (f b) c → Contains list c
-  pub bodies : (b : ℕ) → set.contains kinds b ≡ true → HoldsBodyNode f b
+-- this is said of a marking as a proposition
+abbrev pub Knows : ℕ → Blocks → Pass → Type 0
+Knows limit f p = (IsKnownMarking limit f p → ⊥) → ⊥
 
 -- how many pages are asked at most for a node: one where the first page alone is read
 abbrev pub read_pages : Bool → ℕ → Option (List ℕ) → ℕ
@@ -72,11 +48,11 @@ read_pages by_front page None = 0
 read_pages true page (Some bytes) = 1
 read_pages false page (Some bytes) = pages_for page (length bytes)
 
--- how many pages a marking asks at most for a node: by fronts one for each of a body
-abbrev pub mark_pages : Reading → ℕ → Option (List ℕ) → ℕ
-mark_pages reading page node = read_pages (is_by_fronts reading && is_some (index_of node)) page node
+-- how many pages a marking asks at most for a node: one for each of a body
+abbrev pub mark_pages : ℕ → Option (List ℕ) → ℕ
+mark_pages page node = read_pages (is_some (index_of node)) page node
 
 -- as a marking went on, the pages of the blocks that were read were asked at most
-abbrev pub HasAsked : Reading → ℕ → Blocks → Pass → Pass → ℕ → ℕ → Type 0
-HasAsked reading page f old new before after =
-    after + sum_by (λ b. mark_pages reading page (f b)) (take old.next old.order) ≤ before + sum_by (λ b. mark_pages reading page (f b)) (take new.next new.order)
+abbrev pub HasAsked : ℕ → Blocks → Pass → Pass → ℕ → ℕ → Type 0
+HasAsked page f old new before after =
+    after + sum_by (λ b. mark_pages page (f b)) (take old.next old.order) ≤ before + sum_by (λ b. mark_pages page (f b)) (take new.next new.order)

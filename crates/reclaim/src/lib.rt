@@ -7,12 +7,10 @@ mod laws;
 mod looks;
 mod named;
 mod pass;
-mod reading;
 mod slots;
 mod table;
 mod verification;
 
 pub use laws::{frame_law, pass_laws, sound_laws};
 pub use pass::Pass;
-pub use reading::Reading;
 pub use verification::verify;

@@ -1,5 +1,5 @@
 //! The blocks that a node names.
-ghost use Rattle.std.specs.Prelude.{◌≡◌, ◌≢◌, ℕ, ◌+◌, ◌≤◌, ◌↔◌, ◌++◌, true, false, is_some, Some, None, OnOk, IfOk, IfErr, IsErrOf, Contains, option_to_list};
+ghost use Rattle.std.specs.Prelude.{◌≡◌, ◌≢◌, ℕ, ◌+◌, ◌≤◌, ◌↔◌, ◌++◌, true, false, Some, None, OnOk, IfOk, IfErr, IsErrOf, Contains, option_to_list};
 ghost use Rattle.std.specs.List.{flat_map};
 ghost use Rattle.node_format.specs.declared.headers.TheConstants.{SLOTS};
 ghost use Rattle.block_trees.specs.Bodies.{index_of, pointer_of};
@@ -17,13 +17,11 @@ use node_format::{Entries, EntryList, Place, SLOTS};
 use node_store::Nodes;
 use std::alloc::{AllocError, Global};
 
-/// The blocks that a node names, and those of them that it names as nodes of bodies; and whether it is
-/// one of a body itself.
+/// The blocks that a node names, and those of them that it names as nodes of bodies.
 #[derive(Drop)]
 pub struct Named {
     pub blocks: Vec<u32>,
     pub bodies: Vec<u32>,
-    pub is_body: bool,
 }
 
 // The block that a place names: none for an empty file.
@@ -186,17 +184,11 @@ pub fn list_directories(alloc: Global, bytes: &[u8]) -> Result<Vec<u32>, Fault>
 fn list_named(alloc: Global, bytes: &[u8]) -> Result<Named, Fault>
     ensures blocks { IfOk result (λ n. (b : ℕ) → Contains n.blocks.items b ↔ Names (Some bytes.now) b) }
     ensures bodies { IfOk result (λ n. (b : ℕ) → Contains n.bodies.items b ↔ NamesBody (Some bytes.now) b) }
-    ensures is_body { IfOk result (λ n. n.is_body ≡ is_some (index_of (Some bytes.now))) }
     ensures memory { IfErr result (λ fault. fault ≡ Fault.NoMemory) }
 {
     let blocks = list_names(alloc, bytes)?;
     let bodies = list_bodies(alloc, bytes)?;
-    let is_body = index_in(bytes).is_some();
-    Ok(Named {
-        blocks,
-        bodies,
-        is_body,
-    })
+    Ok(Named { blocks, bodies })
 }
 
 // What the node in a block names, which is read whole.
@@ -206,7 +198,7 @@ fn read_whole<N: Nodes>(alloc: Global, nodes: &mut N, block: u32) -> Result<Name
     // What is named.
     ensures blocks { IfOk result (λ n. (b : ℕ) → Contains n.blocks.items b ↔ Names (N.node nodes.old block) b) }
     ensures bodies { IfOk result (λ n. (b : ℕ) → Contains n.bodies.items b ↔ NamesBody (N.node nodes.old block) b) }
-    ensures own { IfOk result (λ n. (N.node nodes.old block ≢ None) × (n.is_body ≡ true → HoldsBodyNode (N.node nodes.old) block)) }
+    ensures there { IfOk result (λ _. N.node nodes.old block ≢ None) }
 
     // Why not, and what is read.
     ensures damaged { IsErrOf result Fault.Damaged → N.node nodes.old block ≡ None }
@@ -228,7 +220,7 @@ fn read_front<N: Nodes>(alloc: Global, nodes: &mut N, block: u32) -> Result<Name
     // What is named.
     ensures blocks { IfOk result (λ n. (b : ℕ) → Contains n.blocks.items b ↔ Names (N.node nodes.old block) b) }
     ensures bodies { IfOk result (λ n. (b : ℕ) → Contains n.bodies.items b ↔ NamesBody (N.node nodes.old block) b) }
-    ensures own { IfOk result (λ n. (N.node nodes.old block ≢ None) × (n.is_body ≡ true → HoldsBodyNode (N.node nodes.old) block)) }
+    ensures there { IfOk result (λ _. N.node nodes.old block ≢ None) }
 
     // Why not, and what is read.
     ensures damaged { IsErrOf result Fault.Damaged → N.node nodes.old block ≡ None }
@@ -255,7 +247,7 @@ pub fn read_named<N: Nodes>(
     // What is named.
     ensures blocks { IfOk result (λ n. (b : ℕ) → Contains n.blocks.items b ↔ Names (N.node nodes.old block) b) }
     ensures bodies { IfOk result (λ n. (b : ℕ) → Contains n.bodies.items b ↔ NamesBody (N.node nodes.old block) b) }
-    ensures own { IfOk result (λ n. (N.node nodes.old block ≢ None) × (n.is_body ≡ true → HoldsBodyNode (N.node nodes.old) block)) }
+    ensures there { IfOk result (λ _. N.node nodes.old block ≢ None) }
 
     // Why not, and what is read.
     ensures damaged { IsErrOf result Fault.Damaged → N.node nodes.old block ≡ None }

@@ -1,16 +1,15 @@
 //! A marking of the blocks that roots reach, in steps of so many reads.
-ghost use Rattle.std.specs.Prelude.{◌≡◌, ◌≢◌, ◌↔◌, ℕ, ◌+◌, ◌-◌, ◌^◌, ◌<◌, ◌≤◌, [], ◌∷◌, true, false, ◌&&◌, length, slice_index, Contains, OnOk, IfOk, IfErr, IfSome, IfNone, IsErrOf, None, Ok, Err};
+ghost use Rattle.std.specs.Prelude.{◌≡◌, ◌≢◌, ◌↔◌, ℕ, ◌+◌, ◌-◌, ◌^◌, ◌<◌, ◌≤◌, [], ◌∷◌, true, false, length, slice_index, Contains, OnOk, IfOk, IfErr, IfSome, IfNone, IsErrOf, None, Ok, Err};
 ghost use Rattle.std.specs.FinSet as set;
 ghost use Rattle.allocator.specs.Ring.{IsDataBlock};
 ghost use Rattle.block_trees.specs.Bodies.{Blocks};
 ghost use Rattle.block_trees.specs.Reached.{Reached, Names};
 ghost use Rattle.node_store.specs.Faults.{IsReadFault};
 ghost use Rattle.node_store.specs.Frames.{OnlyLooks};
-ghost use Rattle.reclaim.specs.Kinds.{Knows, is_by_fronts, noted_of, mark_pages, HasAsked};
+ghost use Rattle.reclaim.specs.Kinds.{Knows, mark_pages, HasAsked};
 ghost use Rattle.reclaim.specs.Passes.{IsMarked, IsPass, IsFinished, HasRead, IsMarkFault, Begins, Advances, HasStepped, AreNoted};
 
 use crate::named::{Named, read_named};
-use crate::reading::Reading;
 use allocator::{BlockSet, Marks};
 use fs_types::{ANCHORS, Fault};
 use node_store::Nodes;
@@ -18,8 +17,8 @@ use std::alloc::Global;
 use std::marker::Model;
 
 /// A marking of the blocks that roots reach. The marked blocks are kept in the order of marking, and
-/// are read in that order: what a block names is marked when it is read. Blocks of bodies are noted: by
-/// fronts those that are named so, and else those that were found to be.
+/// are read in that order: what a block names is marked when it is read. Blocks that are named as those
+/// of bodies are noted: of these the first page alone is read, which has their pointers.
 ///
 /// Between steps nodes may be written, as long as those that the roots reach stay as they are.
 #[derive(Drop)]
@@ -76,26 +75,21 @@ impl Pass {
         Ok(pass)
     }
 
-    /// Reads `budget` blocks that this pass had not read, or all that remain; whether none remains.
-    /// By fronts one page is asked at most for each node of a body.
+    /// Reads `budget` blocks that this pass had not read, or all that remain; whether none remains. One
+    /// page is asked at most for each node of a body: the roots are known to have trees.
     ///
     /// What is said of a pass holds where this is one over these nodes ([`Pass::start`], and a step that
-    /// was not refused); what its reading asks of it holds again for the next step. After a refusal it is of no use: no step may follow.
-    pub fn step<N: Nodes>(
-        &mut self,
-        nodes: &mut N,
-        reading: Reading,
-        budget: u64,
-    ) -> Result<bool, Fault>
+    /// was not refused). After a refusal it is of no use: no step may follow.
+    pub fn step<N: Nodes>(&mut self, nodes: &mut N, budget: u64) -> Result<bool, Fault>
         requires sound { N.is_sound nodes.old }
         requires blocks { self.old.blocks ≡ N.blocks nodes.old }
-        requires known { Knows reading (N.limit nodes.old) (N.node nodes.old) self.old }
+        requires known { Knows (N.limit nodes.old) (N.node nodes.old) self.old }
 
         // The pass goes on: so many blocks are read, each for the first time.
         ensures pass { IsPass (N.node nodes.old) self.old → OnOk result (IsPass (N.node nodes.new) self.new) }
         ensures on { Advances self.old self.new }
         ensures ends { HasStepped budget self.old self.new result }
-        ensures read { OnOk result ((N.reads nodes.new + self.old.next ≡ N.reads nodes.old + self.new.next) × HasAsked reading (N.page nodes.old) (N.node nodes.old) self.old self.new (N.asked nodes.old) (N.asked nodes.new) × Knows reading (N.limit nodes.new) (N.node nodes.new) self.new) }
+        ensures read { OnOk result ((N.reads nodes.new + self.old.next ≡ N.reads nodes.old + self.new.next) × HasAsked (N.page nodes.old) (N.node nodes.old) self.old self.new (N.asked nodes.old) (N.asked nodes.new) × Knows (N.limit nodes.new) (N.node nodes.new) self.new) }
         ensures reads { N.reads nodes.new ≤ N.reads nodes.old + budget }
 
         // Whatever is answered, each read was of another block that the roots reach.
@@ -110,24 +104,24 @@ impl Pass {
             if self.is_finished() {
                 return Ok(true);
             }
-            self.read_next(nodes, reading)?;
+            self.read_next(nodes)?;
         }
         // The list fits in memory, so it has fewer blocks than the greatest budget.
         let _ = &self.order;
         Ok(self.is_finished())
     }
 
-    /// Reads all blocks that remain. By fronts one page is asked at most for each node of a body.
-    pub fn read_all<N: Nodes>(&mut self, nodes: &mut N, reading: Reading) -> Result<(), Fault>
+    /// Reads all blocks that remain. One page is asked at most for each node of a body.
+    pub fn read_all<N: Nodes>(&mut self, nodes: &mut N) -> Result<(), Fault>
         requires sound { N.is_sound nodes.old }
         requires blocks { self.old.blocks ≡ N.blocks nodes.old }
         requires pass { IsPass (N.node nodes.old) self.old }
-        requires known { Knows reading (N.limit nodes.old) (N.node nodes.old) self.old }
+        requires known { Knows (N.limit nodes.old) (N.node nodes.old) self.old }
 
         // The pass ends, and what it reads.
         ensures pass { OnOk result (IsPass (N.node nodes.new) self.new × IsFinished self.new) }
         ensures on { Advances self.old self.new }
-        ensures read { OnOk result ((N.reads nodes.new + self.old.next ≡ N.reads nodes.old + self.new.next) × HasAsked reading (N.page nodes.old) (N.node nodes.old) self.old self.new (N.asked nodes.old) (N.asked nodes.new) × Knows reading (N.limit nodes.new) (N.node nodes.new) self.new) }
+        ensures read { OnOk result ((N.reads nodes.new + self.old.next ≡ N.reads nodes.old + self.new.next) × HasAsked (N.page nodes.old) (N.node nodes.old) self.old self.new (N.asked nodes.old) (N.asked nodes.new) × Knows (N.limit nodes.new) (N.node nodes.new) self.new) }
         ensures seen { HasRead (N.node nodes.old) self.old (N.reads nodes.old) (N.reads nodes.new) }
         ensures looks { OnlyLooks N.node N.kept N.writes N.follows N.is_sound N.limit N.blocks nodes.old nodes.new }
 
@@ -137,7 +131,7 @@ impl Pass {
         ensures faults { IfErr result IsReadFault }
     {
         // A step of so many reads leaves no block to be read.
-        let _is_finished = self.step(nodes, reading, u64::MAX)?;
+        let _is_finished = self.step(nodes, u64::MAX)?;
         Ok(())
     }
 
@@ -186,17 +180,17 @@ impl Pass {
     }
 
     // Reads the next marked block, marks what it names, and notes the bodies.
-    fn read_next<N: Nodes>(&mut self, nodes: &mut N, reading: Reading) -> Result<(), Fault>
+    fn read_next<N: Nodes>(&mut self, nodes: &mut N) -> Result<(), Fault>
         requires sound { N.is_sound nodes.old }
         requires blocks { self.old.blocks ≡ N.blocks nodes.old }
         requires left { self.old.next < length self.old.order }
-        requires known { Knows reading (N.limit nodes.old) (N.node nodes.old) self.old }
+        requires known { Knows (N.limit nodes.old) (N.node nodes.old) self.old }
 
         // The pass goes on, and what it reads.
         ensures pass { IsPass (N.node nodes.old) self.old → OnOk result (IsPass (N.node nodes.new) self.new) }
-        ensures known { OnOk result (Knows reading (N.limit nodes.new) (N.node nodes.new) self.new) }
+        ensures known { OnOk result (Knows (N.limit nodes.new) (N.node nodes.new) self.new) }
         ensures on { Advances self.old self.new }
-        ensures next { OnOk result ((self.new.next ≡ self.old.next + 1) × (N.asked nodes.new ≤ N.asked nodes.old + mark_pages reading (N.page nodes.old) (N.node nodes.old (slice_index self.old.order self.old.next)))) }
+        ensures next { OnOk result ((self.new.next ≡ self.old.next + 1) × (N.asked nodes.new ≤ N.asked nodes.old + mark_pages (N.page nodes.old) (N.node nodes.old (slice_index self.old.order self.old.next)))) }
         ensures reads { N.reads nodes.new ≡ N.reads nodes.old + 1 }
         ensures looks { OnlyLooks N.node N.kept N.writes N.follows N.is_sound N.limit N.blocks nodes.old nodes.new }
 
@@ -205,42 +199,27 @@ impl Pass {
         ensures refused { IfErr result (λ fault. IsReadFault fault × (fault ≢ Fault.Damaged → N.causes nodes.old nodes.new fault)) }
     {
         let block = self.order[self.next];
-        let is_body = self.has_front(reading, block);
+        let is_body = self.has_front(block);
         let named = read_named(self.alloc, nodes, block, is_body)?;
         self.mark_all(&named.blocks)?;
-        self.note(reading, block, &named);
+        self.note(&named);
         self.next += 1;
         Ok(())
     }
 
     // Whether the first page alone is read of a block.
-    fn has_front(&self, reading: Reading, block: u32) -> bool
-        ensures { result ≡ (is_by_fronts reading && set.contains self.now.bodies block) }
+    fn has_front(&self, block: u32) -> bool
+        ensures { result ≡ set.contains self.now.bodies block }
     {
-        reading.is_by_fronts() && self.bodies.contains(block)
+        self.bodies.contains(block)
     }
 
-    // Notes what a way of reading notes of a block that was read, and names these.
-    fn note(&mut self, reading: Reading, block: u32, named: &Named)
-        ensures noted { AreNoted self.old.bodies (noted_of reading block named.now.is_body named.now.bodies.items) self.old.blocks self.new.bodies }
+    // Notes the blocks that a node names as those of bodies.
+    fn note(&mut self, named: &Named)
+        ensures noted { AreNoted self.old.bodies named.now.bodies.items self.old.blocks self.new.bodies }
         ensures same { self.new ≡ record self.old { bodies = self.new.bodies } }
     {
-        match reading {
-            Reading::Fronts => self.note_bodies(&named.bodies),
-            Reading::Whole => {
-                if named.is_body {
-                    self.note_bodies(&[block]);
-                }
-            }
-        }
-    }
-
-    // Notes blocks as those of bodies.
-    fn note_bodies(&mut self, names: &[u32])
-        ensures noted { AreNoted self.old.bodies names.now self.old.blocks self.new.bodies }
-        ensures same { self.new ≡ record self.old { bodies = self.new.bodies } }
-    {
-        add_blocks(&mut self.bodies, names);
+        add_blocks(&mut self.bodies, &named.bodies);
     }
 
     // Marks blocks, each where it was not marked.

@@ -31,7 +31,6 @@ use Rattle.block_trees.specs.Reached.{Reached}
 use Rattle.block_trees.specs.Trees.{IsRoot}
 use Rattle.reclaim.specs.Kinds.{Knows}
 use Rattle.reclaim.specs.Passes.{Pass, IsPass, IsFinished}
-use Rattle.reclaim.specs.declared.reading.Reading.TheVariants.{Fronts}
 use Rattle.reclaim.proofs.KnownPasses.{begins_known}
 use Rattle.reclaim.specs.Verified.{AreRoots}
 use Rattle.reclaim.proofs.Soundness.{trees_hold_nodes}
@@ -164,10 +163,10 @@ module _ (d e : Device) (m n : System) (s : IsSystem d m) (on : m.state.is_off �
       (λ b must. inl (still_must b must)) running
 
   -- a step of the marking
-  pub advanced : (p q : Pass) → Advances p q → Knows Fronts (block_bytes d.geometry) (node_of d) q → IsRunning e n p → IsRunning e n q
+  pub advanced : (p q : Pass) → Advances p q → Knows (block_bytes d.geometry) (node_of d) q → IsRunning e n p → IsRunning e n q
   advanced p q goes known running = record {
     blocks = goes.blocks ∙ running.blocks;
-    known = subst (λ (g : Geometry). Knows Fronts (block_bytes g) (node_of e) q) (sym k.reads.geometry) (subst (λ (f : Blocks). Knows Fronts (block_bytes d.geometry) f q) (sym (same_nodes d e same)) known);
+    known = subst (λ (g : Geometry). Knows (block_bytes g) (node_of e) q) (sym k.reads.geometry) (subst (λ (f : Blocks). Knows (block_bytes d.geometry) f q) (sym (same_nodes d e same)) known);
     held = λ b reached. running.held b (subst (λ (l : List ℕ). Reached (node_of e) l b) goes.roots reached);
     nodes = λ b reached. running.nodes b (subst (λ (l : List ℕ). Reached (node_of e) l b) goes.roots reached);
     taken = λ b must apart. running.taken b must (λ reached. apart (subst (λ (l : List ℕ). Reached (node_of e) l b) (sym goes.roots) reached));
@@ -238,7 +237,7 @@ module _ (d : Device) (m : System) (s : IsSystem d m) (on : m.state.is_off ≡ f
   new_roots p note none (inr (absent, roots, next, at)) = roots
 
   known_of_new : (p : Pass) (note : set.FinSet nat_cmp) → m.pass ≡ None → GoesOnFrom m p note → ((f : Blocks) → IsPass f p) → ((b : ℕ) → Contains p.order b → Contains p.roots b) × (p.bodies ≡ set.empty)
-      → Knows Fronts (block_bytes d.geometry) (node_of d) p
+      → Knows (block_bytes d.geometry) (node_of d) p
   known_of_new p note none from begun first =
       begins_known (block_bytes d.geometry) (node_of d) p (subst (AreRoots (block_bytes d.geometry) (node_of d)) (sym (new_roots p note none from)) must_have_trees)
       (begun (node_of d)) first.0 first.1
@@ -313,7 +312,7 @@ module _ (d e : Device) (m : System) (st : Storage) (s : IsSystem d m) (on : m.s
   looked_system none = kept_system d e m (with_storage m st m.pass) s on (looked_keeps m.pass) (subst (λ (o : Option Pass). IfSome o (IsRunning e (with_storage m st m.pass))) (sym none) tt)
 
   -- the marking goes on
-  pub going_system : (p q : Pass) → Advances p q → Knows Fronts (block_bytes d.geometry) (node_of d) q → IsRunning d m p → IsSystem e (with_storage m st (Some q))
+  pub going_system : (p q : Pass) → Advances p q → Knows (block_bytes d.geometry) (node_of d) q → IsRunning d m p → IsSystem e (with_storage m st (Some q))
   going_system p q goes known running =
       let n = with_storage m st (Some q) in
       let keeps = looked_keeps (Some q) in
@@ -520,7 +519,7 @@ module _ (d e : Device) (m n : System) (p q : Pass) (st : Storage) (t : IsSteppe
     used = ap (λ (r : Ring). r.used) t.looked.untouched.ring ∙ ap (λ (x : System). x.state.storage.ring.used) t.noted;
   }
 
-  pub goes_system : Knows Fronts (block_bytes d.geometry) (node_of d) q → IsSystem e (with_storage n st (Some q))
+  pub goes_system : Knows (block_bytes d.geometry) (node_of d) q → IsSystem e (with_storage n st (Some q))
   goes_system known = going_system d e n st first step_is_on t.looked p q t.goes known running
 
   -- it ends

@@ -8,7 +8,6 @@ use Rattle.node_store.specs.NodePages.{node_of}
 use Rattle.block_trees.specs.Reached.{Reached}
 use Rattle.reclaim.specs.Kinds.{Knows}
 use Rattle.reclaim.specs.Passes.{Pass}
-use Rattle.reclaim.specs.declared.reading.Reading.TheVariants.{Fronts}
 use Rattle.record_format.specs.declared.record.Record.{Record}
 use Rattle.commit_pair.specs.declared.anchors.Anchors.{Anchors}
 use Rattle.commit_pair.specs.declared.best.Found.{Found}
@@ -40,7 +39,7 @@ MustStay d m block =
 -- those of bodies
 pub record IsRunning (d : Device) (m : System) (p : Pass) : Type 0 where
   pub blocks : p.blocks ≡ d.geometry.blocks
-  pub known : Knows Fronts (block_bytes d.geometry) (node_of d) p
+  pub known : Knows (block_bytes d.geometry) (node_of d) p
   pub held : (b : ℕ) → Reached (node_of d) p.roots b → set.contains m.state.storage.ring.used b ≡ true
   pub nodes : (b : ℕ) → Reached (node_of d) p.roots b → node_of d b ≢ None
   pub taken : (b : ℕ) → MustStay d m b → (Reached (node_of d) p.roots b → ⊥)

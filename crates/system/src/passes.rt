@@ -23,7 +23,7 @@ use flash_model::Flash;
 use fs_types::Fault;
 use mounting::list_working;
 use node_store::{Nodes, Storage, Store};
-use reclaim::{Pass, Reading};
+use reclaim::Pass;
 use std::alloc::Global;
 
 impl System {
@@ -113,10 +113,10 @@ fn step_on<F: Flash>(
     requires ring_blocks { storage.old.ring.blocks ≡ (F.device flash.old).geometry.blocks }
     requires fits { Fits (F.device flash.old) storage.old }
     requires blocks { pass.old.blocks ≡ (F.device flash.old).geometry.blocks }
-    requires known { Knows Reading.Fronts (block_bytes (F.device flash.old).geometry) (node_of (F.device flash.old)) pass.old }
+    requires known { Knows (block_bytes (F.device flash.old).geometry) (node_of (F.device flash.old)) pass.old }
 
     // The marking went on, and is none where its reads found damage.
-    ensures pass { (IsPass (node_of (F.device flash.old)) pass.old → OnOk result (IsPass (node_of (F.device flash.old)) pass.new)) × OnOk result (Knows Reading.Fronts (block_bytes (F.device flash.old).geometry) (node_of (F.device flash.old)) pass.new) }
+    ensures pass { (IsPass (node_of (F.device flash.old)) pass.old → OnOk result (IsPass (node_of (F.device flash.old)) pass.new)) × OnOk result (Knows (block_bytes (F.device flash.old).geometry) (node_of (F.device flash.old)) pass.new) }
     ensures on { Advances pass.old pass.new }
     ensures reads_on { ReadsOn budget pass.old result pass.new }
     ensures damaged { IsPass (node_of (F.device flash.old)) pass.old → IsErrOf result Fault.Damaged → (b : ℕ) × Reached (node_of (F.device flash.old)) pass.old.roots b × (node_of (F.device flash.old) b ≡ None) }
@@ -134,10 +134,10 @@ fn step_on<F: Flash>(
 fn step_in<F: Flash>(store: &mut Store<'_, F>, pass: &mut Pass, budget: u64) -> Result<bool, Fault>
     requires sound { IsSoundStore F.device store.old }
     requires blocks { pass.old.blocks ≡ (F.device store.old.flash.now).geometry.blocks }
-    requires known { Knows Reading.Fronts (block_bytes (F.device store.old.flash.now).geometry) (node_of (F.device store.old.flash.now)) pass.old }
+    requires known { Knows (block_bytes (F.device store.old.flash.now).geometry) (node_of (F.device store.old.flash.now)) pass.old }
 
     // The marking went on, and is none where its reads found damage.
-    ensures pass { (IsPass (node_of (F.device store.old.flash.now)) pass.old → OnOk result (IsPass (node_of (F.device store.old.flash.now)) pass.new)) × OnOk result (Knows Reading.Fronts (block_bytes (F.device store.old.flash.now).geometry) (node_of (F.device store.old.flash.now)) pass.new) }
+    ensures pass { (IsPass (node_of (F.device store.old.flash.now)) pass.old → OnOk result (IsPass (node_of (F.device store.old.flash.now)) pass.new)) × OnOk result (Knows (block_bytes (F.device store.old.flash.now).geometry) (node_of (F.device store.old.flash.now)) pass.new) }
     ensures on { Advances pass.old pass.new }
     ensures reads_on { ReadsOn budget pass.old result pass.new }
     ensures damaged { IsPass (node_of (F.device store.old.flash.now)) pass.old → IsErrOf result Fault.Damaged → (b : ℕ) × Reached (node_of (F.device store.old.flash.now)) pass.old.roots b × (node_of (F.device store.old.flash.now) b ≡ None) }
@@ -149,5 +149,5 @@ fn step_in<F: Flash>(store: &mut Store<'_, F>, pass: &mut Pass, budget: u64) -> 
     ensures asks { ((F.device store.new.flash.now).operations ≤ (F.device store.old.flash.now).operations + budget * (F.device store.old.flash.now).geometry.pages) × (IsPass (node_of (F.device store.old.flash.now)) pass.old → AsksForRest (F.device store.old.flash.now) pass.old (F.device store.new.flash.now)) }
     ensures why { IfErr result (λ fault. fault ≢ Fault.Damaged → ReadCause (seen_of (F.device store.old.flash.now) store.old.storage.now) fault (seen_of (F.device store.new.flash.now) store.new.storage.now)) }
 {
-    pass.step(store, Reading::Fronts, budget)
+    pass.step(store, budget)
 }

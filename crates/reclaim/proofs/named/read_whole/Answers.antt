@@ -3,7 +3,7 @@ use Rattle.std.specs.Prelude.{IfOk, Contains}
 use Rattle.block_trees.specs.Reached.{Names}
 use Rattle.reclaim.specs.Kinds.{NamesBody}
 use Rattle.std.proofs.lemmas.Result.{IfOk-weaker}
-use Rattle.reclaim.proofs.FrontNames.{own_body}
+use Rattle.reclaim.proofs.FrontNames.{has_bytes}
 use Rattle.reclaim.proofs.named.read_whole.Goals as goal
 
 pub returns-clause-blocks : goal.returns-clause-blocks
@@ -16,7 +16,7 @@ returns-clause-bodies g c =
     let is : g.N.Nodes.node c.args.nodes.now c.args.block ≡ Some c.lent.result.now = c.in_ok-read.ensures.shown ∙ ap (λ (bytes : List ℕ). Some bytes) (sym c.lent.ensures) in
     subst (λ (node : Option (List ℕ)). IfOk c.list_named.result (λ n. (b : ℕ) → Contains n.bodies.items b ↔ NamesBody node b)) (sym is) c.list_named.ensures.bodies
 
-pub returns-clause-own : goal.returns-clause-own
-returns-clause-own g c =
+pub returns-clause-there : goal.returns-clause-there
+returns-clause-there g c =
     let is : g.N.Nodes.node c.args.nodes.now c.args.block ≡ Some c.lent.result.now = c.in_ok-read.ensures.shown ∙ ap (λ (bytes : List ℕ). Some bytes) (sym c.lent.ensures) in
-    IfOk-weaker c.list_named.result _ _ (λ n same. own_body (g.N.Nodes.node c.args.nodes.now) c.args.block c.lent.result.now n.is_body is same) c.list_named.ensures.is_body
+    IfOk-weaker c.list_named.result _ _ (λ n _. has_bytes (g.N.Nodes.node c.args.nodes.now c.args.block) c.lent.result.now is) c.list_named.ensures.blocks

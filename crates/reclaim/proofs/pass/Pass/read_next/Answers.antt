@@ -5,7 +5,7 @@ use Rattle.std.specs.Ordering.{nat_cmp}
 use Rattle.std.proofs.lemmas.Result.{err_from_is_err_and}
 use Rattle.std.proofs.lemmas.List.Elements.{Contains-get_or}
 use Rattle.fs_types.specs.declared.fault.Fault.TheVariants.{Damaged}
-use Rattle.reclaim.specs.Kinds.{IsKnownMarking, noted_of, read_pages, mark_pages}
+use Rattle.reclaim.specs.Kinds.{IsKnownMarking, read_pages, mark_pages}
 use Rattle.reclaim.specs.Passes.{Pass, IsMarked, IsMarkFault, IsPass, AreNoted}
 use Rattle.reclaim.proofs.KnownPasses.{front_body, knows_next, known_on, pages_as_marked}
 use Rattle.reclaim.proofs.Marking.{read_and_marked, at_next, no_node, is_stepped, IsStepped, stepped}
@@ -13,7 +13,7 @@ use Rattle.reclaim.proofs.pass.Pass.read_next.Goals as goal
 
 pub read_named-requires-clause-body : goal.read_named-requires-clause-body
 read_named-requires-clause-body g c is =
-    front_body c.args.reading (g.N.Nodes.limit c.args.nodes.now) (g.N.Nodes.node c.args.nodes.now) c.args.self.now c.index-block.result.now c.requires.known (sym c.has_front-is_body.ensures ∙ is)
+    front_body (g.N.Nodes.limit c.args.nodes.now) (g.N.Nodes.node c.args.nodes.now) c.args.self.now c.index-block.result.now c.requires.known (sym c.has_front-is_body.ensures ∙ is)
 
 pub returns-in_err-mark_all-clause-damaged : goal.returns-in_err-mark_all-clause-damaged
 returns-in_err-mark_all-clause-damaged g c marking damaged =
@@ -39,7 +39,7 @@ returns-clause-pass g c marking =
     let at = at_next _ pass _ c.self.view_is c.index-block.ensures c.requires.left in
     let marked = subst (λ (l : List ℕ). IsMarked pass.order l c.mark_all.new.self.order) c.deref.ensures.value c.in_ok-mark_all.ensures.marked in
     read_and_marked (g.N.Nodes.node c.args.nodes.now) (g.N.Nodes.node c.read_named.new.nodes) pass c.mark_all.new.self c.note.new.self held c.index-block.result.now c.in_ok-named.named.blocks.items
-    marking c.requires.left c.read_named.ensures.looks.same_nodes at c.in_ok-named.ensures.blocks marked is c.in_ok-named.ensures.own.0
+    marking c.requires.left c.read_named.ensures.looks.same_nodes at c.in_ok-named.ensures.blocks marked is c.in_ok-named.ensures.there
 
 pub returns-clause-known : goal.returns-clause-known
 returns-clause-known g c =
@@ -55,16 +55,14 @@ returns-clause-known g c =
     let is : IsStepped pass c.mark_all.new.self c.note.new.self held = is_stepped pass c.mark_all.new.self c.note.new.self held c.mark_all.ensures.same c.note.ensures.same c.self-2.view_is in
     let at = at_next _ pass _ c.self.view_is c.index-block.ensures c.requires.left in
     let marked = subst (λ (l : List ℕ). IsMarked pass.order l c.mark_all.new.self.order) c.deref.ensures.value c.in_ok-mark_all.ensures.marked in
-    let names = noted_of c.args.reading c.index-block.result.now c.in_ok-named.named.is_body bodies in
-    let noted : AreNoted pass.bodies names pass.blocks (stepped held).bodies =
-    subst (λ (s : set.FinSet nat_cmp). AreNoted pass.bodies names pass.blocks s) (sym is.bodies)
-    (subst (λ (s : set.FinSet nat_cmp). AreNoted s names pass.blocks n.bodies) (ap (λ (q : Pass). q.bodies) c.mark_all.ensures.same)
-    (subst (λ (k : ℕ). AreNoted m.bodies names k n.bodies) (ap (λ (q : Pass). q.blocks) c.mark_all.ensures.same) c.note.ensures.noted)) in
-    knows_next c.args.reading limit (g.N.Nodes.limit new) f (g.N.Nodes.node new) pass (stepped held) c.index-block.result.now c.in_ok-named.named.is_body bodies looks.same_limit looks.same_nodes
-    c.in_ok-named.ensures.own.1 noted
-    (λ (noted : AreNoted pass.bodies bodies pass.blocks (stepped held).bodies) (known : IsKnownMarking limit f pass).
+    let noted : AreNoted pass.bodies bodies pass.blocks (stepped held).bodies =
+    subst (λ (s : set.FinSet nat_cmp). AreNoted pass.bodies bodies pass.blocks s) (sym is.bodies)
+    (subst (λ (s : set.FinSet nat_cmp). AreNoted s bodies pass.blocks n.bodies) (ap (λ (q : Pass). q.bodies) c.mark_all.ensures.same)
+    (subst (λ (k : ℕ). AreNoted m.bodies bodies k n.bodies) (ap (λ (q : Pass). q.blocks) c.mark_all.ensures.same) c.note.ensures.noted)) in
+    knows_next limit (g.N.Nodes.limit new) f (g.N.Nodes.node new) pass (stepped held) looks.same_limit looks.same_nodes
+    (λ (known : IsKnownMarking limit f pass).
     let now : IsPass f (stepped held) =
-    read_and_marked f f pass m n held c.index-block.result.now c.in_ok-named.named.blocks.items known.pass c.requires.left refl at c.in_ok-named.ensures.blocks marked is c.in_ok-named.ensures.own.0 in
+    read_and_marked f f pass m n held c.index-block.result.now c.in_ok-named.named.blocks.items known.pass c.requires.left refl at c.in_ok-named.ensures.blocks marked is c.in_ok-named.ensures.there in
     known_on limit f pass (stepped held) c.index-block.result.now c.in_ok-named.named.blocks.items bodies known c.requires.left at c.in_ok-named.ensures.blocks c.in_ok-named.ensures.bodies
     (subst (λ (l : List ℕ). IsMarked pass.order c.in_ok-named.named.blocks.items l) (sym is.order) marked) noted
     (λ b high. g.met.N.Nodes.none_beyond c.args.nodes.now b (subst (λ (k : ℕ). k ≤ b) c.requires.blocks high)) is.roots now)
@@ -80,8 +78,8 @@ returns-clause-next g c =
     let is : IsStepped pass c.mark_all.new.self c.note.new.self held = is_stepped pass c.mark_all.new.self c.note.new.self held c.mark_all.ensures.same c.note.ensures.same c.self-2.view_is in
     let at = at_next _ pass _ c.self.view_is c.index-block.ensures c.requires.left in
     let has : Contains pass.order block = subst (Contains pass.order) (sym at) (Contains-get_or pass.order pass.next 0 c.requires.left) in
-    let pages : read_pages c.has_front-is_body.result page (f block) ≡ mark_pages c.args.reading page (f (slice_index pass.order pass.next)) =
+    let pages : read_pages c.has_front-is_body.result page (f block) ≡ mark_pages page (f (slice_index pass.order pass.next)) =
     ap (λ (t : Bool). read_pages t page (f block)) c.has_front-is_body.ensures
-    ∙ pages_as_marked c.args.reading (g.N.Nodes.limit c.args.nodes.now) page f pass block c.requires.known has
-    ∙ ap (λ (b : ℕ). mark_pages c.args.reading page (f b)) at in
+    ∙ pages_as_marked (g.N.Nodes.limit c.args.nodes.now) page f pass block c.requires.known has
+    ∙ ap (λ (b : ℕ). mark_pages page (f b)) at in
     (is.next, omega (arith, pages, c.in_ok-named.ensures.asks))

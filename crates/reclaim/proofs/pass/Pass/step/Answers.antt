@@ -23,7 +23,7 @@ loop-done-preserved g c =
     let left : c.loop-done.self.next < length c.loop-done.self.order = c.is_finished.ensures.left c.if-is_finished.false in
     let on = c.read_next.ensures.on in
     let step = c.in_ok-read_next.ensures.next in
-    let one = asked_same c.args.reading (g.N.Nodes.page first) (g.N.Nodes.page mid) (g.N.Nodes.node first) (g.N.Nodes.node mid) _ (g.N.Nodes.asked mid) (g.N.Nodes.asked new)
+    let one = asked_same (g.N.Nodes.page first) (g.N.Nodes.page mid) (g.N.Nodes.node first) (g.N.Nodes.node mid) _ (g.N.Nodes.asked mid) (g.N.Nodes.asked new)
     (g.met.N.Nodes.same_page first mid so_far.looks.came) so_far.looks.same_nodes step.1 in
     record {
       pass = λ marking. c.in_ok-read_next.ensures.pass (so_far.pass marking);
@@ -35,6 +35,14 @@ loop-done-preserved g c =
       };
       next = omega (arith, step.0, so_far.next);
       reads = omega (arith, c.read_next.ensures.reads, so_far.reads);
-      asked = asked_more c.args.reading (g.N.Nodes.page first) (g.N.Nodes.node first) c.args.self.now c.loop-done.self c.read_next.new.self (g.N.Nodes.asked first) (g.N.Nodes.asked mid) (g.N.Nodes.asked new) on.begins left step.0 one so_far.asked;
+      asked = asked_more (g.N.Nodes.page first) (g.N.Nodes.node first) c.args.self.now c.loop-done.self c.read_next.new.self (g.N.Nodes.asked first) (g.N.Nodes.asked mid) (g.N.Nodes.asked new) on.begins left step.0 one so_far.asked;
       looks = g.met.N.Nodes.looks_on first mid new so_far.looks c.read_next.ensures.looks;
     }
+
+pub returns-clause-seen : goal.returns-clause-seen
+returns-clause-seen g c marking =
+    let so_far = c.loop-done.invariant in
+    let pass = so_far.pass marking in
+    has_read (g.N.Nodes.node c.args.nodes.now) c.args.self.now c.loop-done.self (g.N.Nodes.reads c.args.nodes.now) (g.N.Nodes.reads c.loop-done.nodes)
+    (subst (λ (f : Blocks). IsPass f c.loop-done.self) so_far.looks.same_nodes pass) so_far.on.roots so_far.on.begins
+    (omega (arith, so_far.next, so_far.reads, pass.within))

@@ -8,10 +8,10 @@ use Rattle.reclaim.proofs.pass.Pass.step.Given as goal
 abbrev pub invariant-loop-done : goal.invariant-loop-done
 invariant-loop-done g l = record {
   pass : IsPass (g.N.Nodes.node l.initial.nodes) l.initial.self → IsPass (g.N.Nodes.node l.nodes) l.self;
-  known : Knows l.reading (g.N.Nodes.limit l.nodes) (g.N.Nodes.node l.nodes) l.self;
+  known : Knows (g.N.Nodes.limit l.nodes) (g.N.Nodes.node l.nodes) l.self;
   on : Advances l.initial.self l.self;
   next : l.self.next ≡ l.initial.self.next + l.done;
   reads : g.N.Nodes.reads l.nodes ≡ g.N.Nodes.reads l.initial.nodes + l.done;
-  asked : HasAsked l.reading (g.N.Nodes.page l.initial.nodes) (g.N.Nodes.node l.initial.nodes) l.initial.self l.self (g.N.Nodes.asked l.initial.nodes) (g.N.Nodes.asked l.nodes);
+  asked : HasAsked (g.N.Nodes.page l.initial.nodes) (g.N.Nodes.node l.initial.nodes) l.initial.self l.self (g.N.Nodes.asked l.initial.nodes) (g.N.Nodes.asked l.nodes);
   looks : OnlyLooks g.N.Nodes.node g.N.Nodes.kept g.N.Nodes.writes g.N.Nodes.follows g.N.Nodes.is_sound g.N.Nodes.limit g.N.Nodes.blocks l.initial.nodes l.nodes;
 }

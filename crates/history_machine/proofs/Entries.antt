@@ -6,7 +6,7 @@ use Rattle.std.proofs.lemmas.List.Elements.{All-map}
 use Rattle.std.proofs.lemmas.Simd.{map-map}
 use Rattle.fs_types.specs.Names.{Name, Path, is_after}
 use Rattle.plain_trees.specs.Trees.{Tree, children}
-use Rattle.history_machine.specs.Entries.{EntriesLaw}
+use Rattle.history_machine.specs.Entries.{EntryStatsLaw}
 use Rattle.history_machine.specs.Machine.{view_tree, reply_of, with_stat, listed_after}
 use Rattle.fs_types.specs.declared.call.Call.{Call}
 use Rattle.fs_types.specs.declared.call.Reply.{Reply}
@@ -23,8 +23,8 @@ named_after from (e ∷ listing) = on (is_after from e.0) (named_after from list
     on true same = ap (λ (names : List Name). e.0 ∷ names) same
     on false same = same
 
-pub entries_law : EntriesLaw
-entries_law = record {
+pub entry_stats_law : EntryStatsLaw
+entry_stats_law = record {
   refused = λ m view path from most. refl;
   names = λ t path from most. map-map (λ (e : Name × Stat). e.0) (with_stat t path) (listed_after from most (children t path))
       ∙ sym (take-map (λ (e : Name × Bool). e.0) most (filter (λ e. is_after from e.0) (children t path)))

@@ -7,7 +7,8 @@ use Rattle.fs_types.specs.declared.call.Call.{Call}
 use Rattle.fs_types.specs.declared.call.Reply.{Reply}
 use Rattle.fs_types.specs.declared.call.View.{View}
 
-pub record EntriesLaw : Type 0 where
+-- what list says of a directory and stat of each name, taken together
+pub record EntryStatsLaw : Type 0 where
   -- entries is refused as list is
   pub refused : (m : Machine) (view : View) (path : Path) (from : Option Name) (most : ℕ)
       → refusal m (Call.Entries view path from most) ≡ refusal m (Call.List view path)

@@ -72,6 +72,7 @@ pub looks_still : (m : Machine) (call : Call) (d : Device) → LooksOnce m call 
 looks_still m (Call.Stat view path) d = asks_none d (list_nodes (view_tree m view) path)
 looks_still m (Call.List view path) d = asks_none d (list_nodes (view_tree m view) path)
 looks_still m (Call.ReadAt view path offset count) d = λ nodes is. asks_none d nodes
+looks_still m (Call.Entries view path from most) d = record { most = omega arith }
 looks_still m (Call.Pread descriptor offset count) d = still_open d (descriptor_at m.descriptors descriptor) (working_tree m) offset count
 looks_still m _ d = tt
 
@@ -80,6 +81,7 @@ pub looks_other : (m : Machine) (call : Call) (d e : Device) → only_looks call
 looks_other m (Call.Stat view path) d e other = absurd (true≢false other)
 looks_other m (Call.List view path) d e other = absurd (true≢false other)
 looks_other m (Call.ReadAt view path offset count) d e other = absurd (true≢false other)
+looks_other m (Call.Entries view path from most) d e other = absurd (true≢false other)
 looks_other m (Call.Pread descriptor offset count) d e other = absurd (true≢false other)
 looks_other m _ d e other = tt
 

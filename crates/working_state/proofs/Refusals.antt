@@ -44,6 +44,7 @@ unlooked_none m (Call.Rmdir path) fine = first_fits (length path == 0) Busy _ fi
 unlooked_none m (Call.Stat view path) fine = left_fits (view_refusal m.history view) _ fine
 unlooked_none m (Call.List view path) fine = left_fits (view_refusal m.history view) _ fine
 unlooked_none m (Call.ReadAt view path offset count) fine = left_fits (view_refusal m.history view) _ fine
+unlooked_none m (Call.Entries view path from most) fine = left_fits (view_refusal m.history view) _ fine
 unlooked_none m _ fine = fine
 
 pub accepted_begins : (m : Machine) (call : Call) → refusal m call ≡ None → is_light call ≡ false → begins_work m call ≡ true

@@ -11,7 +11,7 @@ pub record Facts : Type 0 where
   pub still : Bool
   -- and takes no memory
   pub light : Bool
-  -- it only looks at what stands at a path, or at the bytes of a file
+  -- it only looks at what stands at paths, or at the bytes of a file
   pub looks : Bool
   -- it makes no version, and is refused in read-only mode all the same
   pub for_record : Bool
@@ -68,6 +68,7 @@ facts_of Call.Sync = record plain { for_record = true; sync = true; outside = tr
 facts_of (Call.Stat view path) = record plain { looks = true }
 facts_of (Call.List view path) = record plain { looks = true }
 facts_of (Call.ReadAt view path offset count) = record plain { looks = true }
+facts_of (Call.Entries view path from most) = record plain { looks = true }
 facts_of Call.Log = record plain { still = true }
 facts_of Call.Df = record plain { tells_space = true }
 facts_of Call.Undo = travel

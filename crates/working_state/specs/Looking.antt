@@ -1,10 +1,11 @@
 -- What look-ups ask of the device.
-use Rattle.std.specs.Prelude.{◌≡◌, ℕ, ◌+◌, ◌*◌, ◌≤◌, Bool, Option, Some, None, List, length}
+use Rattle.std.specs.Prelude.{◌≡◌, ℕ, ◌+◌, ◌*◌, ◌≤◌, Bool, Option, Some, None, List, length, sum_by}
 use Rattle.fs_types.specs.declared.call.Call.{Call}
-use Rattle.fs_types.specs.Names.{Path}
+use Rattle.fs_types.specs.declared.call.Stat.{Stat}
+use Rattle.fs_types.specs.Names.{Name, Path}
 use Rattle.plain_trees.specs.Trees.{Tree, bytes_of_file, entry_count, nodes_for, path_need}
 use Rattle.history_machine.specs.Descriptors.{Descriptor, descriptor_at}
-use Rattle.history_machine.specs.Machine.{Machine, working_tree, view_tree}
+use Rattle.history_machine.specs.Machine.{Machine, working_tree, view_tree, entries_of}
 use Rattle.flash_model.specs.Device.{Device}
 use Rattle.block_trees.specs.Bodies.{head_index}
 use Rattle.skip_list_file.specs.Reading.{HasDigits, nodes_of_range}
@@ -21,6 +22,23 @@ look_nodes t path = path_need t t path
 
 abbrev pub list_nodes : Tree → Path → ℕ
 list_nodes t path = look_nodes t path + nodes_for (entry_count t path)
+
+-- the device was asked for no more than one page of each of so many blocks
+pub record AsksFirsts (old : Device) (firsts : ℕ) (new : Device) : Type 0 where
+  pub most : new.operations ≤ old.operations + firsts
+
+-- the device was asked for no more than the pages of so many blocks, and one page of each of so many more
+pub record AsksPages (old : Device) (blocks firsts : ℕ) (new : Device) : Type 0 where
+  pub most : new.operations ≤ old.operations + (blocks * old.geometry.pages + firsts)
+
+-- how many nodes a directory has, by how many entries; a file counts for none
+abbrev pub stat_nodes : Stat → ℕ
+stat_nodes (Stat.Dir count) = nodes_for count
+stat_nodes (Stat.File size) = 0
+
+-- the nodes of all directories among entries
+abbrev pub entry_nodes : List (Name × Stat) → ℕ
+entry_nodes entries = sum_by (λ e. stat_nodes e.1) entries
 
 -- so many nodes: those on the way to a file, those that hold a range of its bytes, and two for each binary digit of
 -- the index of its last node
@@ -40,17 +58,19 @@ AsksForOpen old None t offset count new = AsksBlocks old 0 new
 AsksForOpen old (Some file) t offset count new =
     AsksForRange old (look_nodes t file.path) (bytes_of_file t file.path) offset count new
 
--- calls that only look at what stands at a path, or at the bytes of a file
+-- calls that only look at what stands at paths, or at the bytes of a file
 abbrev pub only_looks : Call → Bool
 only_looks call = (facts_of call).looks
 
 -- such a call looks once: it reads the nodes of each directory on its path, and then those of the directory or the
--- bytes of the file
+-- bytes of the file; of each directory that `entries` tells of the first page of each node
 abbrev pub LooksOnce : Machine → Call → Device → Device → Type 0
 LooksOnce m (Call.Stat view path) old new = AsksBlocks old (list_nodes (view_tree m view) path) new
 LooksOnce m (Call.List view path) old new = AsksBlocks old (list_nodes (view_tree m view) path) new
 LooksOnce m (Call.ReadAt view path offset count) old new =
     AsksForRange old (look_nodes (view_tree m view) path) (bytes_of_file (view_tree m view) path) offset count new
+LooksOnce m (Call.Entries view path from most) old new =
+    AsksPages old (list_nodes (view_tree m view) path) (entry_nodes (entries_of (view_tree m view) path from most)) new
 LooksOnce m (Call.Pread descriptor offset count) old new =
     AsksForOpen old (descriptor_at m.descriptors descriptor) (working_tree m) offset count new
 LooksOnce m _ old new = Unit {0}

@@ -37,6 +37,7 @@ unlooked_refusal m (Call.Rmdir path) = if length path == 0 then Some Busy else N
 unlooked_refusal m (Call.Stat view path) = view_refusal m.history view
 unlooked_refusal m (Call.List view path) = view_refusal m.history view
 unlooked_refusal m (Call.ReadAt view path offset count) = view_refusal m.history view
+unlooked_refusal m (Call.Entries view path from most) = view_refusal m.history view
 unlooked_refusal m call = refusal m call
 
 -- the call comes to a look-up, or to its work

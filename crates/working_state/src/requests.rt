@@ -93,6 +93,14 @@ impl State {
             } => self
                 .read_view(alloc, flash, view, path, offset, count)
                 .map(Reply::Bytes),
+            Request::Entries {
+                view,
+                path,
+                from,
+                most,
+            } => self
+                .entries_view(alloc, flash, view, path, from, most)
+                .map(Reply::Entries),
             Request::Log => self.log(alloc),
             Request::Undo => empty_reply(self.undo()),
             Request::Redo => empty_reply(self.redo()),

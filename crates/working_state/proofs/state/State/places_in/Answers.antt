@@ -1,0 +1,29 @@
+use Rattle.std.proofs.Common.{subst, length, rules, ap}
+use Rattle.flash_model.specs.Device.{Device}
+use Rattle.node_store.specs.NodePages.{node_of}
+use Rattle.block_trees.specs.Chains.{chain}
+use Rattle.working_state.specs.Looking.{AsksBlocks}
+use Rattle.working_state.proofs.Looks.{on_devices, store_asks}
+use Rattle.std.specs.Prelude.{◌≡◌, List, Some, None, IfOk, IsErrOf}
+use Rattle.fs_types.specs.declared.fault.Fault.TheVariants.{Damaged}
+use Rattle.node_format.specs.Items.{Item}
+use Rattle.block_trees.specs.Trees.{entries_in}
+use Rattle.std.specs.Option.{option_copied}
+use Rattle.directory.specs.Places.{places_after}
+use Rattle.working_state.proofs.state.State.places_in.Goals as goal
+
+pub returns-clause-asks : goal.returns-clause-asks
+returns-clause-asks g c =
+    on_devices (λ d e. AsksBlocks d (length (chain (node_of d) c.args.block)) e) _ (g.F.Flash.device c.new-store.result.flash.now) _ (g.F.Flash.device c.places_after.new.nodes.flash.now)
+    (ap (λ b. g.F.Flash.device b.now) c.new-store.ensures.flash) (search rules)
+    (store_asks g.F.Flash.device c.new-store.result c.places_after.new.nodes (length (chain (node_of (g.F.Flash.device c.new-store.result.flash.now)) c.args.block)) c.places_after.ensures.looks.came c.places_after.ensures.looks.same_writes c.places_after.ensures.reads)
+
+pub returns-clause-places : goal.returns-clause-places
+returns-clause-places g c =
+    subst (λ (d : Device). IfOk c.places_after.result (λ found. (items : List Item) → entries_in (node_of d) c.args.block ≡ Some items → found ≡ places_after (option_copied c.args.from) c.args.most items))
+    (ap (λ b. g.F.Flash.device b.now) c.new-store.ensures.flash) c.places_after.ensures.places
+
+pub returns-clause-damaged : goal.returns-clause-damaged
+returns-clause-damaged g c =
+    subst (λ (d : Device). IsErrOf c.places_after.result Damaged → entries_in (node_of d) c.args.block ≡ None)
+    (ap (λ b. g.F.Flash.device b.now) c.new-store.ensures.flash) c.places_after.ensures.damaged

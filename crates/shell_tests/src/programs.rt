@@ -129,6 +129,7 @@ impl Channels for OneFile {
         match name {
             "silent" => Ok(b""),
             "no image" => Ok(b"\x08\0\0\0\0\0\0\0UFFSIMG2"),
+            "too long" => Ok(b"\x15\x40\x04\x04\0\0\0\0UFFSIMG1"),
             _ => Err(FileFault::Failed),
         }
     }
@@ -164,7 +165,7 @@ fn memory_needs_no_image(rt: HostRuntime) -> Result<(), Fail> {
 #[test]
 fn a_driver_that_is_not_reached_is_told(rt: HostRuntime) -> Result<(), Fail> {
     let mut files = OneFile::new(rt.alloc());
-    let calls: [Wanted<'_>; 4] = [
+    let calls: [Wanted<'_>; 5] = [
         (
             &["serve", "none", "orders"],
             "ls /\n",
@@ -184,6 +185,11 @@ fn a_driver_that_is_not_reached_is_told(rt: HostRuntime) -> Result<(), Fail> {
             &["serve", "no image", "orders"],
             "ls /\n",
             (3, "", "uffs: image NotImage\n"),
+        ),
+        (
+            &["serve", "too long", "orders"],
+            "ls /\n",
+            (3, "", "uffs: image Trailing\n"),
         ),
     ];
     assert_calls(&rt, &mut files, rt.alloc(), &calls)

@@ -1,0 +1,5 @@
+pub mod AskLemmas
+pub mod MemoryWords
+pub mod PutLemmas
+pub mod SourceLemmas
+pub mod ToolLemmas

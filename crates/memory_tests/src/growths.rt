@@ -19,7 +19,7 @@ const FREE: [&str; 7] = ["undo", "redo", "goto", "close", "begin", "end", "aband
 
 /// The first words of the lines that take memory, and of what comes before each script: each is refused
 /// for want of it at least once.
-const TAKING: [&str; 18] = [
+const TAKING: [&str; 19] = [
     "mount",
     "open",
     "pread",
@@ -32,6 +32,7 @@ const TAKING: [&str; 18] = [
     "rmdir",
     "stat",
     "ls",
+    "entries",
     "read",
     "checkpoint",
     "log",
@@ -52,7 +53,7 @@ const SCRIPTS: [(u32, &str); 6] = [
     ),
     (
         64,
-        "mkdir /a|open /a/f 7|pwrite 0 0 616263|ftruncate 0 2|fsync 0|close 0|rename /a/f /g|checkpoint v|read /g 0 9|unlink /g|rmdir /a|goto 3|ls /a|stat /a @2|reclaim 2|reclaim 99|rollback v|forget 2|rmcheckpoint v|log|df|sync",
+        "mkdir /a|open /a/f 7|pwrite 0 0 616263|ftruncate 0 2|fsync 0|close 0|rename /a/f /g|checkpoint v|read /g 0 9|unlink /g|rmdir /a|goto 3|ls /a|entries / - 9|stat /a @2|reclaim 2|reclaim 99|rollback v|forget 2|rmcheckpoint v|log|df|sync",
     ),
     (
         16,

@@ -99,6 +99,8 @@ const LONG_RECORD: &[&str] = &[
 
 const THOUSAND_ENTRIES: &[&str] = &["wide 1000"];
 
+const THOUSAND_FILES: &[&str] = &["flat 1000"];
+
 /// The calls, with the most nodes that each may write.
 pub const MEASURES: &[Measure] = &[
     Measure {
@@ -267,6 +269,18 @@ pub const MEASURES: &[Measure] = &[
         name: "ls of a directory of 1,000 entries",
         before: THOUSAND_ENTRIES,
         call: "ls /",
+        nodes: 0,
+    },
+    Measure {
+        name: "entries of 1,000 files",
+        before: THOUSAND_FILES,
+        call: "entries / - 1000",
+        nodes: 0,
+    },
+    Measure {
+        name: "entries of 10 files of 1,000",
+        before: THOUSAND_FILES,
+        call: "entries / - 10",
         nodes: 0,
     },
     Measure {

@@ -53,6 +53,10 @@ const PIECES_READ: &[&str] = &["open /f 7", "fill 1048576", "cold", "gather 512"
 
 const FILE_TOLD: &[&str] = &["open /f 7", "fill 1048576", "df"];
 
+const FULL_DIRECTORIES: &[&str] = &["broad 1000"];
+
+const FULL_DIRECTORIES_TOLD: &[&str] = &["broad 1000", "cold", "entries /b - 1000"];
+
 /// The calls.
 pub const SERIES: &[Series] = &[
     Series {
@@ -142,6 +146,13 @@ pub const SERIES: &[Series] = &[
         before: FILE_FORGOTTEN,
         after: PIECES_READ,
         calls: 64,
+    },
+    Series {
+        name: "entries of 1,000 directories",
+        sizes: MANY_BLOCKS,
+        before: FULL_DIRECTORIES,
+        after: FULL_DIRECTORIES_TOLD,
+        calls: 1,
     },
     Series {
         name: "mkdir and rmdir at depth 8",

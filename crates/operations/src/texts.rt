@@ -45,7 +45,8 @@ pub fn formatted(alloc: Global, sizes: Geometry, history: u32) -> Result<SimFlas
 ///
 /// A line is one of a script, or `fill N`, which writes N bytes at the start of descriptor 0, `whole N`,
 /// which writes a whole file `/a/f` of N bytes, `deep N`, which makes N directories `a`, each in the one
-/// before, `wide N`, which makes N directories in the root, named by numbers from 1000 on, `scatter N`,
+/// before, `wide N`, which makes N directories in the root, named by numbers from 1000 on, `flat N`, which
+/// writes N files without bytes there, `broad N`, which makes N directories of 100 files in `/b`, `scatter N`,
 /// which writes a byte at each of the places 8,192 and 16,384 further on N times of descriptor 0, `scan N`,
 /// which reads 1 MiB of descriptor 0 in pieces of N bytes, `gather N`, which reads N bytes at each of 64
 /// places of it, or `cold`, which forgets the nodes in memory.
@@ -85,6 +86,12 @@ fn carry_out(
     }
     if let Some(count) = number_after(line, "wide ") {
         return make_siblings(alloc, system, count);
+    }
+    if let Some(count) = number_after(line, "flat ") {
+        return write_siblings(alloc, system, "", count);
+    }
+    if let Some(count) = number_after(line, "broad ") {
+        return make_full_directories(alloc, system, count);
     }
     if let Some(count) = number_after(line, "scatter ") {
         return write_places(alloc, system, count);
@@ -169,6 +176,45 @@ fn make_siblings(
     for number in 1_000..count.saturating_add(1_000) {
         let path = format!(in alloc; "/{number}")?;
         make_directory(alloc, system, path.as_str())?;
+    }
+    Ok(())
+}
+
+/// Writes so many files without bytes in a directory, named by numbers from 1000 on.
+fn write_siblings(
+    alloc: Global,
+    system: &mut Fs<'_, SimFlash>,
+    directory: &str,
+    count: usize,
+) -> Result<(), MeasureError> {
+    for number in 1_000..count.saturating_add(1_000) {
+        let path = format!(in alloc; "{directory}/{number}")?;
+        let call = Call::WriteFile {
+            path: Path::parse(alloc, path.as_bytes())?,
+            bytes: Sequence::new(alloc),
+        };
+        ask(alloc, system, &call)?;
+    }
+    Ok(())
+}
+
+/// Makes so many directories of 100 files in `/b`, named by numbers from 1000 on: each is made as `/a`
+/// and moved.
+fn make_full_directories(
+    alloc: Global,
+    system: &mut Fs<'_, SimFlash>,
+    count: usize,
+) -> Result<(), MeasureError> {
+    make_directory(alloc, system, "/b")?;
+    for number in 1_000..count.saturating_add(1_000) {
+        make_directory(alloc, system, "/a")?;
+        write_siblings(alloc, system, "/a", 100)?;
+        let to = format!(in alloc; "/b/{number}")?;
+        let call = Call::Rename {
+            old: Path::parse(alloc, b"/a")?,
+            new: Path::parse(alloc, to.as_bytes())?,
+        };
+        ask(alloc, system, &call)?;
     }
     Ok(())
 }

@@ -6,7 +6,7 @@ use std::io;
 use std::io::{ErrorKind, Read, Write};
 use std::test::Fail;
 
-const LINES: [(&str, &str); 71] = [
+const LINES: [(&str, &str); 76] = [
     (
         "open /f 7",
         "Call(Open { path: Path { names: [Name { bytes: [102] }] }, flags: OpenFlags(7) })",
@@ -118,6 +118,17 @@ const LINES: [(&str, &str); 71] = [
         "read /f 0 1 @3",
         "Call(ReadAt { view: Serial(3), path: Path { names: [Name { bytes: [102] }] }, offset: 0, count: 1 })",
     ),
+    (
+        "entries / - 5",
+        "Call(Entries { view: Present, path: Path { names: [] }, from: None, most: 5 })",
+    ),
+    (
+        "entries / %2D 0 @3",
+        "Call(Entries { view: Serial(3), path: Path { names: [] }, from: Some(Name { bytes: [45] }), most: 0 })",
+    ),
+    ("entries / . 5", "Refused(Invalid)"),
+    ("entries - . 5", "Refused(NoEntry)"),
+    ("entries / -", "Syntax"),
     ("undo", "Call(Undo)"),
     ("redo", "Call(Redo)"),
     ("goto 4", "Call(Goto { serial: 4 })"),

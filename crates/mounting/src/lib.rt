@@ -11,5 +11,5 @@ mod restored;
 pub use contents::record_of;
 pub use formats::format;
 pub use loads::load;
-pub use reached::marked_on;
+pub use reached::{first_roots_on, marked_on};
 pub use restored::{list_roots, list_working};

@@ -1,5 +1,5 @@
 //! What roots reach, marked as used.
-ghost use Rattle.std.specs.Prelude.{◌≡◌, ◌↔◌, ℕ, true, OnOk, IfOk, IfErr};
+ghost use Rattle.std.specs.Prelude.{◌≡◌, ◌≤◌, ◌↔◌, ℕ, true, length, OnOk, IfOk, IfErr};
 ghost use Rattle.std.specs.FinSet as set;
 ghost use Rattle.flash_model.specs.Geometry.{IsGeometry, block_bytes};
 ghost use Rattle.flash_model.specs.Reading.{OnlyReads};
@@ -9,6 +9,7 @@ ghost use Rattle.node_store.specs.Storage as parts;
 ghost use Rattle.node_store.specs.Stores.{IsSoundStore, Follows};
 ghost use Rattle.block_trees.specs.Reached.{Reached};
 ghost use Rattle.reclaim.specs.Verified.{AreRoots, HasCost};
+ghost use Rattle.space_counts.specs.FirstRoots.{AreFirstRoots};
 ghost use Rattle.working_state.specs.Leaves.{HasLooked};
 ghost use Rattle.working_state.specs.Seen.{seen_of};
 ghost use Rattle.working_state.specs.Worked.{ReadCause};
@@ -20,6 +21,7 @@ use flash_model::Flash;
 use fs_types::Fault;
 use node_store::{Nodes, Storage, Store};
 use reclaim::{Pass, verify};
+use space_counts::find_first_roots;
 use std::alloc::Global;
 
 /// The blocks that roots reach, each of which has a tree; where they are to be plain, one whose
@@ -124,6 +126,56 @@ pub fn marked_on<F: Flash>(
 {
     let mut store = Store::new(flash, storage);
     marked_in(alloc, &mut store, roots)
+}
+
+/// Of each block the number, from 1 on, of the first of some roots that reaches it, 0 where none does.
+fn first_roots_in<F: Flash>(
+    alloc: Global,
+    store: &mut Store<'_, F>,
+    roots: &[u32],
+) -> Result<Vec<u8>, Fault>
+    requires sound { IsSoundStore F.device store.old }
+    requires trees { AreRoots (block_bytes (F.device store.old.flash.now).geometry) (node_of (F.device store.old.flash.now)) roots.now }
+    requires few { length roots.now ≤ 255 }
+    ensures follows { Follows F.device store.old store.new }
+
+    // The numbers.
+    ensures firsts { IfOk result (λ firsts. AreFirstRoots (node_of (F.device store.old.flash.now)) roots.now firsts.items) }
+    ensures sized { IfOk result (λ firsts. length firsts.items ≡ (F.device store.old.flash.now).geometry.blocks) }
+
+    // By reads alone, and how many.
+    ensures looked { HasLooked (F.device store.old.flash.now) store.old.storage.now (F.device store.new.flash.now) store.new.storage.now }
+    ensures asks { AsksEach (F.device store.old.flash.now) roots.now (F.device store.new.flash.now) }
+    ensures why { IfErr result (λ fault. ReadCause (seen_of (F.device store.old.flash.now) store.old.storage.now) fault (seen_of (F.device store.new.flash.now) store.new.storage.now)) }
+{
+    find_first_roots(alloc, store, roots)
+}
+
+/// The same, on a flash ([`find_first_roots`]). There are at most 255 roots, each of which is known to have
+/// a tree. The nodes that they reach are read once, and of those of bodies the first page alone.
+pub fn first_roots_on<F: Flash>(
+    alloc: Global,
+    flash: &mut F,
+    storage: &mut Storage,
+    roots: &[u32],
+) -> Result<Vec<u8>, Fault>
+    requires lawful { IsGeometry (F.device flash.old).geometry }
+    requires ring_blocks { storage.old.ring.blocks ≡ (F.device flash.old).geometry.blocks }
+    requires fits { Fits (F.device flash.old) storage.old }
+    requires trees { AreRoots (block_bytes (F.device flash.old).geometry) (node_of (F.device flash.old)) roots.now }
+    requires few { length roots.now ≤ 255 }
+
+    // The numbers.
+    ensures firsts { IfOk result (λ firsts. AreFirstRoots (node_of (F.device flash.old)) roots.now firsts.items) }
+    ensures sized { IfOk result (λ firsts. length firsts.items ≡ (F.device flash.old).geometry.blocks) }
+
+    // By reads alone, and how many.
+    ensures looked { HasLooked (F.device flash.old) storage.old (F.device flash.new) storage.new }
+    ensures asks { AsksEach (F.device flash.old) roots.now (F.device flash.new) }
+    ensures why { IfErr result (λ fault. ReadCause (seen_of (F.device flash.old) storage.old) fault (seen_of (F.device flash.new) storage.new)) }
+{
+    let mut store = Store::new(flash, storage);
+    first_roots_in(alloc, &mut store, roots)
 }
 
 /// Makes exactly the blocks used that roots reach, where no block was noted; `Damaged` where a root has

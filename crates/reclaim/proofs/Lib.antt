@@ -17,3 +17,4 @@ pub mod Follows
 pub mod Telling
 pub mod Heads
 pub mod HeadLengths
+pub mod MoreRoots

@@ -39,7 +39,7 @@ begins_length xs ys (r, is) = omega (arith, length-append xs r, ap length is)
 
 -- ---- marking
 
-only_one : (x b : ℕ) → Contains (x ∷ []) b → x ≡ b
+pub only_one : (x b : ℕ) → Contains (x ∷ []) b → x ≡ b
 only_one x b h = one (Contains-push_cases [] x b h)
   where
     one : Contains [] b ⊎ (x ≡ b) → x ≡ b

@@ -6,3 +6,4 @@ pub mod Verified
 pub mod Kinds
 pub mod Tables
 pub mod Heads
+pub mod MoreRoots

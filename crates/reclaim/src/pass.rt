@@ -4,9 +4,12 @@ ghost use Rattle.std.specs.FinSet as set;
 ghost use Rattle.allocator.specs.Ring.{IsDataBlock};
 ghost use Rattle.block_trees.specs.Bodies.{Blocks};
 ghost use Rattle.block_trees.specs.Reached.{Reached, Names};
+ghost use Rattle.block_trees.specs.Trees.{IsRoot};
+ghost use Rattle.node_format.specs.Headers.{body_header};
 ghost use Rattle.node_store.specs.Faults.{IsReadFault};
 ghost use Rattle.node_store.specs.Frames.{OnlyLooks};
 ghost use Rattle.reclaim.specs.Kinds.{Knows, mark_pages, HasAsked};
+ghost use Rattle.reclaim.specs.MoreRoots.{AddsRoot};
 ghost use Rattle.reclaim.specs.Passes.{IsMarked, IsPass, IsFinished, HasRead, IsMarkFault, Begins, Advances, HasStepped, AreNoted};
 
 use crate::named::{Named, read_named};
@@ -73,6 +76,29 @@ impl Pass {
         };
         pass.mark_all(roots)?;
         Ok(pass)
+    }
+
+    /// Marks one root more, which is a data block: the pass goes on from it too. After a refusal it is of
+    /// no use, as after a step's.
+    pub fn add_root(&mut self, root: u32) -> Result<(), Fault>
+        requires { IsDataBlock self.old.blocks root }
+        ensures added { OnOk result (AddsRoot self.old root self.new) }
+        ensures pass { (f : Blocks) → IsPass f self.old → OnOk result (IsPass f self.new) }
+        ensures known { (limit : ℕ) (f : Blocks) → IsRoot (limit - body_header) f root → Knows limit f self.old → OnOk result (Knows limit f self.new) }
+        ensures memory { IfErr result (λ fault. fault ≡ Fault.NoMemory) }
+    {
+        self.roots.push(root)?;
+        self.mark_all(&[root])
+    }
+
+    /// The blocks that are marked so far, in the order of marking. They are data blocks.
+    pub fn marked(&self) -> &[u32]
+        ensures listed { result.now ≡ self.now.order }
+        ensures data_blocks { (b : ℕ) → Contains self.now.order b → IsDataBlock self.now.blocks b }
+    {
+        // The marks are data blocks, as their contract tells.
+        let _blocks = self.marks.blocks();
+        &self.order
     }
 
     /// Reads `budget` blocks that this pass had not read, or all that remain; whether none remains. One

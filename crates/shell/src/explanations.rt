@@ -105,7 +105,7 @@ fn meaning_of(fault: Fault) -> &'static str {
         Fault::DirectoryFull => "the directory has no room for a name. Put it into another one.",
         Fault::CheckpointsFull => "16 checkpoints are there. Remove one with `rmcheckpoint`.",
         Fault::FlashFull => {
-            "no block of the flash is free. Remove files, and let versions and checkpoints go that keep them, with `forget` and `rmcheckpoint`."
+            "no block of the flash is free. Let the oldest versions go with `forget`, and checkpoints with `rmcheckpoint`: what they keep stays used after it was removed."
         }
         Fault::ReadOnly => {
             "the flash is worn out, so that nothing is written any more. Copy what it holds to another one."

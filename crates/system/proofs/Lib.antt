@@ -14,3 +14,6 @@ pub mod StateSteps
 pub mod Syncs
 pub mod Tried
 pub mod Twice
+pub mod FreeSpace
+pub mod HistoryLooks
+pub mod Forgetting

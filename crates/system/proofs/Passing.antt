@@ -539,10 +539,10 @@ module _ (d e : Device) (m n : System) (p q : Pass) (st : Storage) (t : IsSteppe
 
 -- ---- whether power went
 
-abbrev with_power : System → Bool → System
+abbrev pub with_power : System → Bool → System
 with_power m off = record m { state = record m.state { is_off = off } }
 
-power_system : (e : Device) (n : System) (off : Bool) → IsSystem e n → n.state.is_off ≡ false → (off ≡ true → e.powered ≡ false) → IsSystem e (with_power n off)
+pub power_system : (e : Device) (n : System) (off : Bool) → IsSystem e n → n.state.is_off ≡ false → (off ≡ true → e.powered ≡ false) → IsSystem e (with_power n off)
 power_system e n off s on is_off = record {
   mounted = record {
     lawful = s.mounted.lawful;

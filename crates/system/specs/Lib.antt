@@ -6,3 +6,4 @@ pub mod Reclaiming
 pub mod Rooms
 pub mod Steps
 pub mod Systems
+pub mod HistorySpace

@@ -3,6 +3,7 @@
 #![tactic(auto)]
 
 mod forgotten;
+mod history_space;
 mod mounts;
 mod passes;
 mod room;

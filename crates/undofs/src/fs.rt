@@ -42,6 +42,7 @@ impl<'f, F: Flash> Fs<'f, F> {
     ghost use Rattle.flash_model.specs.Reading.{OnlyReads};
     ghost use Rattle.working_state.specs.Leaves.{is_still};
     ghost use Rattle.working_state.specs.Looking.{only_looks};
+    ghost use Rattle.system.specs.HistorySpace.{ForgetsUntil};
     ghost use Rattle.system.specs.Moments.{system_moment};
     ghost use Rattle.system.specs.Mounts.{AsksToMount};
     ghost use Rattle.system.specs.Mounts.{IsMountOf};
@@ -501,6 +502,18 @@ impl<'f, F: Flash> Fs<'f, F> {
             }),
             _ => unreachable!(),
         }
+    }
+
+    /// Forgets the fewest of the oldest versions before the present one that leave `blocks` blocks free,
+    /// as [`Fs::df`] shows them, and answers how many these are ([`System::forget_until_free`]).
+    ///
+    /// [`Fault::InGroup`] where a change group is open; what the reading meets; [`Fault::FlashFull`] where
+    /// no number of versions is enough, with nothing done; then as [`Fs::forget`].
+    pub fn forget_until_free(&mut self, alloc: Global, blocks: u64) -> Result<u64, Fault>
+        ensures step { ForgetsUntil (F.device self.old.flash.now) self.old.system blocks result (F.device self.new.flash.now) self.new.system }
+        ensures same_flash { flash_name self.new ≡ flash_name self.old }
+    {
+        self.system.forget_until_free(alloc, self.flash, blocks)
     }
 
     /// Takes a step of reclaiming: reads `budget` blocks more of those in use, or all that remain, and

@@ -1,0 +1,3 @@
+pub mod Walks
+pub mod Counted
+pub mod Numbers

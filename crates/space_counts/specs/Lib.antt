@@ -1,0 +1,3 @@
+pub mod FirstRoots
+pub mod Walks
+pub mod Counts

@@ -90,8 +90,8 @@ static int start_file_system(void) {
     if (why == UNDOFS_NO_IMAGE) return complain(options.part, "its sizes are not lawful");
     if (why != 0) {
         const char *message = saves.child == NULL ? "" : undofs_message(saves.child);
-        char text[64];
-        snprintf(text, sizeof text, "`uffs serve` did not start (%d)", why);
+        char text[100];
+        snprintf(text, sizeof text, "`uffs serve` did not start (%d): is it in PATH, or named by -o serve?", why);
         return complain(options.part, *message != 0 ? message : text) + 2;
     }
     times_start();
@@ -146,27 +146,35 @@ static void tell_status(int to, int status) {
     close(to);
 }
 
-static int run(struct fuse_args *args) {
+/* Mounts the folder, under the name of the part where that is none that FUSE would read otherwise. */
+static struct fuse *mount_folder(struct fuse_args *args) {
     char name[300];
+    int is_plain = strpbrk(options.part, ",\\") == NULL;
+    snprintf(name, sizeof name, "-osubtype=undofs%s%.250s", is_plain ? ",fsname=" : "", is_plain ? options.part : "");
+    if (fuse_opt_add_arg(args, name) != 0) return NULL;
+    struct fuse *fuse = fuse_new(args, &folder_operations, sizeof folder_operations, NULL);
+    if (fuse != NULL && fuse_mount(fuse, options.folder) != 0) {
+        fuse_destroy(fuse);
+        return NULL;
+    }
+    return fuse;
+}
+
+static int run(struct fuse_args *args) {
     int told = become_daemon();
     openlog("undofs-fuse", options.is_in_front ? LOG_PERROR : 0, LOG_DAEMON);
     int status = start_file_system();
-    struct fuse *fuse = NULL;
-    if (status == 0) {
-        snprintf(name, sizeof name, "-osubtype=undofs%s%.250s", strpbrk(options.part, ",\\") != NULL ? "" : ",fsname=", strpbrk(options.part, ",\\") != NULL ? "" : options.part);
-        (void)fuse_opt_add_arg(args, name);
-        fuse = fuse_new(args, &folder_operations, sizeof folder_operations, NULL);
-        if (fuse == NULL || fuse_mount(fuse, options.folder) != 0) status = 1;
-    }
+    struct fuse *fuse = status == 0 ? mount_folder(args) : NULL;
+    if (status == 0 && fuse == NULL) status = 1;
     tell_status(told, status);
-    if (status == 0) {
+    if (fuse != NULL) {
         struct fuse_session *session = fuse_get_session(fuse);
         (void)fuse_set_signal_handlers(session);
         serve_folder(session);
         fuse_remove_signal_handlers(session);
         fuse_unmount(fuse);
+        fuse_destroy(fuse);
     }
-    if (fuse != NULL) fuse_destroy(fuse);
     undofs_end(saves.child);
     return status;
 }

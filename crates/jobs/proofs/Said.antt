@@ -1,11 +1,13 @@
 -- What the matches of a subcommand say.
-use Rattle.std.proofs.Common.{◌≡◌, Option, Some, None, List, option_map, sym, subst}
+use Rattle.std.proofs.Common.{◌≡◌, ◌∙◌, Option, Some, None, List, codes, option_map, sym, subst}
 use Rattle.std.specs.Box.{box_value}
 use Rattle.clap.specs.Words.{Row, Text, found_of, rows_of, subcommand_name_of, subcommand_rows_of}
 use Rattle.clap.specs.declared.parser.matches.ArgMatches.{ArgMatches}
 use Rattle.clap.specs.declared.parser.matches.ArgMatches.TheViews.{out-ArgMatches, out-SubCommand}
-use Rattle.jobs.specs.Jobs.{AreNumbersOf, IsJobOf, SaysJob}
+use Rattle.clap.specs.Walk.{first_of}
+use Rattle.jobs.specs.Jobs.{AreNumbersOf, IsImageOf, IsJobOf, SaysJob, task_named, word_text}
 use Rattle.jobs.specs.declared.tasks.Job.{Job}
+use Rattle.jobs.specs.declared.tasks.Task.{Task}
 use Rattle.jobs.specs.declared.words.Numbers.{Numbers}
 
 both : {B : Type 0} (f : B → Text) (g : B → List Row) (o : Option B) (name : Text) (rows : List Row) → Some name ≡ option_map f o
@@ -21,16 +23,26 @@ rows_said m name rows e d =
 
 -- the numbers of a job
 abbrev numbers_in : Job → Numbers
-numbers_in job = record { page = job.page; pages = job.pages; blocks = job.blocks; history = job.history; refusal = job.refusal }
+numbers_in job = record { page = job.page; pages = job.pages; blocks = job.blocks; history = job.history; refusal = job.refusal; count = job.count }
 
 -- no job is said where the options give no numbers
 pub none_said : (m : ArgMatches) (name : Text) (rows : List Row) → Some name ≡ subcommand_name_of m → Some rows ≡ option_map (λ (p : Text × List Row). p.1) (subcommand_rows_of m)
     → ((numbers : Numbers) → AreNumbersOf rows numbers → ⊥) → (job : Job) → SaysJob (subcommand_rows_of m) job → ⊥
 none_said m name rows e d none job says =
     let is : IsJobOf name rows job = subst (λ o. SaysJob o job) (rows_said m name rows e d) says in
-    none (numbers_in job) (record { page = is.page; pages = is.pages; blocks = is.blocks; history = is.history; refusal = is.refusal })
+    none (numbers_in job) (record { page = is.page; pages = is.pages; blocks = is.blocks; history = is.history; refusal = is.refusal; count = is.count })
 
 -- a job is said where it is what the subcommand says
 pub job_said : (m : ArgMatches) (name : Text) (rows : List Row) (job : Job) → Some name ≡ subcommand_name_of m → Some rows ≡ option_map (λ (p : Text × List Row). p.1) (subcommand_rows_of m)
     → IsJobOf name rows job → SaysJob (subcommand_rows_of m) job
 job_said m name rows job e d is = subst (λ o. SaysJob o job) (sym (rows_said m name rows e d)) is
+
+-- no job is said where the task has an image and the words name none
+pub image_unsaid : (m : ArgMatches) (name : Text) (rows : List Row) (command : Task) → Some name ≡ subcommand_name_of m
+    → Some rows ≡ option_map (λ (p : Text × List Row). p.1) (subcommand_rows_of m) → task_named name ≡ Some command
+    → ((image : Option Text) → IsImageOf command (first_of (codes "IMAGE") rows) image → ⊥) → (job : Job) → SaysJob (subcommand_rows_of m) job → ⊥
+image_unsaid m name rows command e d named none job says =
+    let is : IsJobOf name rows job = subst (λ o. SaysJob o job) (rows_said m name rows e d) says in
+    let same : Some job.command ≡ Some command = sym is.command ∙ named in
+    let one : job.command ≡ command = cc in
+    none (word_text job.image) (subst (λ (task : Task). IsImageOf task (first_of (codes "IMAGE") rows) (word_text job.image)) one is.image)

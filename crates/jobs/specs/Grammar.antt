@@ -1,5 +1,5 @@
 -- The words of the program as they are read: its subcommands and their arguments.
-use Rattle.std.specs.Prelude.{true, Some, pos, codes}
+use Rattle.std.specs.Prelude.{Bool, true, false, Some, pos, codes}
 use Rattle.clap.specs.Words.{App, Rule, Shape, Text, new_app, new_rule, with_rule, with_subcommand}
 use Rattle.clap.specs.declared.builder.action.ArgAction.{ArgAction}
 use Rattle.clap.specs.declared.builder.value_parser.ValueParser.{ValueParser}
@@ -24,6 +24,10 @@ flag_rule name = record (new_rule name) { long = Some name; action = Some ArgAct
 abbrev pub refusal_rule : Rule
 refusal_rule = record (new_rule (codes "NO")) { required = true; action = Some ArgAction.Set; parser = Some (ValueParser.Signed (pos 0) (pos 4294967295)) }
 
+-- how many, by itself, which may have to be given
+abbrev pub count_rule : Bool → Rule
+count_rule is_required = record (new_rule (codes "N")) { required = is_required; action = Some ArgAction.Set; parser = Some (ValueParser.Signed (pos 0) (pos 4294967295)) }
+
 -- a subcommand that takes an image
 abbrev pub image_app : Text → App
 image_app name = with_rule (new_app name) (word_rule (codes "IMAGE"))
@@ -36,6 +40,17 @@ run_app = with_rule (image_app (codes "run")) (flag_rule (codes "stop"))
 
 abbrev pub put_app : App
 put_app = with_rule (with_rule (with_rule (image_app (codes "put")) (word_rule (codes "FILE"))) (word_rule (codes "PATH"))) (flag_rule (codes "progress"))
+
+-- steps in the history of an image, one where no word says how many
+abbrev pub steps_app : Text → App
+steps_app name = with_rule (image_app name) (count_rule false)
+
+-- a call for a checkpoint of an image
+abbrev pub checkpoint_app : Text → App
+checkpoint_app name = with_rule (image_app name) (word_rule (codes "NAME"))
+
+abbrev pub forget_app : App
+forget_app = with_rule (image_app (codes "forget")) (count_rule true)
 
 abbrev pub get_app : App
 get_app = with_rule (with_rule (with_rule (image_app (codes "get")) (word_rule (codes "PATH"))) (word_rule (codes "FILE"))) (optional_rule (codes "VIEW"))
@@ -64,6 +79,18 @@ bare_app = record (new_app (codes "uffs")) { top = bare_top }
 abbrev pub changing_app : App
 changing_app = with_subcommand (with_subcommand (with_subcommand bare_app format_app.top) run_app.top) put_app.top
 
+-- a program with the subcommands more that step in the history of an image; with those more for its checkpoints; and with all
+-- that change its history
+abbrev pub with_step_apps : App → App
+with_step_apps app = with_subcommand (with_subcommand app (steps_app (codes "undo")).top) (steps_app (codes "redo")).top
+
+abbrev pub with_checkpoint_apps : App → App
+with_checkpoint_apps app = with_subcommand (with_subcommand (with_subcommand app
+    (checkpoint_app (codes "rollback")).top) (checkpoint_app (codes "checkpoint")).top) (checkpoint_app (codes "rmcheckpoint")).top
+
+abbrev pub with_history_apps : App → App
+with_history_apps app = with_subcommand (with_checkpoint_apps (with_step_apps app)) forget_app.top
+
 -- a program with the subcommands more that read what stands in an image
 abbrev pub with_reading_apps : App → App
 with_reading_apps app = with_subcommand (with_subcommand (with_subcommand app get_app.top) tree_app.top) diff_app.top
@@ -75,4 +102,4 @@ with_image_apps app = with_subcommand (with_subcommand (with_subcommand (with_su
 
 -- the program
 abbrev pub uffs : App
-uffs = with_subcommand (with_subcommand (with_subcommand (with_image_apps (with_reading_apps changing_app)) (new_app (codes "memory")).top) serve_app.top) explain_app.top
+uffs = with_subcommand (with_subcommand (with_subcommand (with_image_apps (with_reading_apps (with_history_apps changing_app))) (new_app (codes "memory")).top) serve_app.top) explain_app.top

@@ -6,6 +6,7 @@ use Rattle.std.specs.Str.Parse.{IsNumeral, without_leading_plus, digits_value}
 use Rattle.clap.specs.Words.{Row, Text, subcommand_of}
 use Rattle.clap.specs.Walk.{first_of, one_of}
 use Rattle.jobs.specs.Grammar.{uffs}
+use Rattle.jobs.specs.declared.tasks.HistoryCall.{HistoryCall}
 use Rattle.jobs.specs.declared.tasks.Task.{Task}
 use Rattle.jobs.specs.declared.tasks.Job.{Job}
 use Rattle.jobs.specs.declared.words.Numbers.{Numbers}
@@ -18,6 +19,12 @@ abbrev pub task_named : Text → Option Task
 task_named name = if bytes_eq name (codes "format") then Some Task.Format
     else if bytes_eq name (codes "run") then Some Task.Run
     else if bytes_eq name (codes "put") then Some Task.Put
+    else if bytes_eq name (codes "undo") then Some (Task.History HistoryCall.Undo)
+    else if bytes_eq name (codes "redo") then Some (Task.History HistoryCall.Redo)
+    else if bytes_eq name (codes "rollback") then Some (Task.History HistoryCall.Rollback)
+    else if bytes_eq name (codes "checkpoint") then Some (Task.History HistoryCall.Checkpoint)
+    else if bytes_eq name (codes "rmcheckpoint") then Some (Task.History HistoryCall.RemoveCheckpoint)
+    else if bytes_eq name (codes "forget") then Some (Task.History HistoryCall.Forget)
     else if bytes_eq name (codes "get") then Some Task.Get
     else if bytes_eq name (codes "tree") then Some Task.Tree
     else if bytes_eq name (codes "diff") then Some Task.Diff
@@ -46,6 +53,7 @@ pub record AreNumbersOf (rows : List Row) (numbers : Numbers) : Type 0 where
   pub blocks : IsNumberOf (one_of (codes "blocks") rows) 32 numbers.blocks
   pub history : IsNumberOf (one_of (codes "history") rows) 8 numbers.history
   pub refusal : IsNumberOf (one_of (codes "NO") rows) 0 numbers.refusal
+  pub count : IsNumberOf (one_of (codes "N") rows) 1 numbers.count
 
 -- the tasks that are done on no image
 abbrev pub has_no_image : Task → Bool
@@ -68,7 +76,7 @@ flag_of None = false
 abbrev pub word_text : Option (Bor (List ℕ)) → Option Text
 word_text = option_map (λ (s : Bor (List ℕ)). s.now)
 
--- the job is what a subcommand with its arguments says: numbers that no word gives are 256, 16, 32, 8 and 0, and other words
+-- the job is what a subcommand with its arguments says: numbers that no word gives are 256, 16, 32, 8, 0 and 1, and other words
 -- are as given
 pub record IsJobOf (name : Text) (rows : List Row) (job : Job) : Type 0 where
   pub command : task_named name ≡ Some job.command
@@ -78,6 +86,8 @@ pub record IsJobOf (name : Text) (rows : List Row) (job : Job) : Type 0 where
   pub blocks : IsNumberOf (one_of (codes "blocks") rows) 32 job.blocks
   pub history : IsNumberOf (one_of (codes "history") rows) 8 job.history
   pub refusal : IsNumberOf (one_of (codes "NO") rows) 0 job.refusal
+  pub count : IsNumberOf (one_of (codes "N") rows) 1 job.count
+  pub checkpoint : word_text job.checkpoint ≡ first_of (codes "NAME") rows
   pub is_history_given : job.is_history_given ≡ is_some (first_of (codes "history") rows)
   pub answers : word_text job.answers ≡ first_of (codes "ANSWERS") rows
   pub orders : word_text job.orders ≡ first_of (codes "ORDERS") rows

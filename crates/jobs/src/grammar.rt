@@ -3,8 +3,9 @@ ghost use Rattle.std.specs.Prelude.{◌≡◌, IfOk, codes, false};
 ghost use Rattle.clap.specs.Words.{app_of, rule_of, new_app, with_rule, with_subcommand};
 ghost use Rattle.clap.specs.declared.builder.command.Command.TheViews.{out-Command};
 ghost use Rattle.jobs.specs.Grammar.{uffs, bare_app, changing_app, format_app, run_app, put_app, get_app, tree_app, diff_app, serve_app, explain_app, image_app};
-ghost use Rattle.jobs.specs.Grammar.{with_reading_apps, with_image_apps, flag_rule, number_rule, refusal_rule, word_rule, optional_rule};
+ghost use Rattle.jobs.specs.Grammar.{with_history_apps, with_reading_apps, with_image_apps, flag_rule, number_rule, refusal_rule, word_rule, optional_rule};
 
+use crate::history_commands::with_history_commands;
 use clap::{Arg, ArgAction, Command, value_parser};
 use std::alloc::{AllocError, Global};
 
@@ -175,7 +176,8 @@ Example: uffs explain 15";
 pub(crate) fn program<'a>(alloc: Global) -> Result<Command<'a>, AllocError>
     ensures { IfOk result (λ command. app_of command ≡ uffs) }
 {
-    let program = with_reading_commands(alloc, changing_program(alloc)?)?;
+    let program = with_history_commands(alloc, changing_program(alloc)?)?;
+    let program = with_reading_commands(alloc, program)?;
     let program = with_image_commands(alloc, program)?;
     let program = program.subcommand(memory_command(alloc))?;
     let program = program.subcommand(serve_command(alloc)?)?;
@@ -440,7 +442,7 @@ fn explain_command<'a>(alloc: Global) -> Result<Command<'a>, AllocError>
 }
 
 /// The subcommand with a word more that has to be given.
-fn with_word<'a>(
+pub(crate) fn with_word<'a>(
     alloc: Global,
     command: Command<'a>,
     name: &'a str,
@@ -493,7 +495,7 @@ fn with_number<'a>(
 }
 
 /// A subcommand that takes an image.
-fn image_command<'a>(
+pub(crate) fn image_command<'a>(
     alloc: Global,
     name: &'a str,
     about: &'a str,

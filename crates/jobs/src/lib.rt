@@ -2,8 +2,9 @@
 #![tactic(auto)]
 
 mod grammar;
+mod history_commands;
 mod tasks;
 mod words;
 
-pub use tasks::{Job, Task};
+pub use tasks::{HistoryCall, Job, Task};
 pub use words::job;

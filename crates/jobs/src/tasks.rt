@@ -1,5 +1,22 @@
 //! A job of the program.
 
+/// A call that moves or changes the history of an image, synced then.
+#[derive(Clone, Copy, Debug, PartialEq, Eq)]
+pub enum HistoryCall {
+    /// Versions before become the present one, step by step.
+    Undo,
+    /// Versions after become the present one, step by step.
+    Redo,
+    /// The tree of a checkpoint becomes the present one.
+    Rollback,
+    /// The present tree is kept under a name.
+    Checkpoint,
+    /// A checkpoint is given up.
+    RemoveCheckpoint,
+    /// The oldest versions are dropped.
+    Forget,
+}
+
 /// What is to be done.
 #[derive(Clone, Copy, Debug, PartialEq, Eq)]
 pub enum Task {
@@ -9,6 +26,8 @@ pub enum Task {
     Run,
     /// Files of the host are put into an image.
     Put,
+    /// The history of an image is moved or changed.
+    History(HistoryCall),
     /// A file of an image is put into a file of the host.
     Get,
     /// All that stands in an image is told.
@@ -54,6 +73,10 @@ pub struct Job<'a> {
     pub orders: Option<&'a str>,
     /// The number of a refusal, 1 to 31; 0 where none is named.
     pub refusal: u32,
+    /// How many steps, or how many versions; 1 where no word gives it.
+    pub count: u32,
+    /// The name of a checkpoint; none where none is named.
+    pub checkpoint: Option<&'a str>,
     /// Whether a script ends at its first line that is refused.
     pub stop: bool,
     /// The path in the image; none where none is named.

@@ -8,7 +8,8 @@ ghost use Rattle.jobs.specs.declared.tasks.Job.{Job};
 ghost use Rattle.jobs.specs.declared.words.Numbers.{Numbers};
 
 use crate::grammar::{ANSWERS, FILE, IMAGE, ORDERS, OTHER, PATH, REFUSAL, VIEW, program};
-use crate::tasks::{Job, Task};
+use crate::history_commands::{COUNT, NAME};
+use crate::tasks::{HistoryCall, Job, Task};
 use clap::error::ErrorKind;
 use clap::{ArgMatches, Command, Error};
 use std::alloc::Global;
@@ -20,13 +21,15 @@ struct Numbers {
     blocks: u32,
     history: u32,
     refusal: u32,
+    count: u32,
 }
 
 /// What the words that follow the program's name ask for.
 ///
-/// A number is the one that the word of its option spells, else its default: 256, 16, 32 and 8. It
-/// is any `u32`: whether it is lawful is the format's to say. The number of a refusal is 1 to 31. Where the words are no job the error
-/// has the text for the user and says why; want of memory is `OutOfMemory`.
+/// A number is the one that its word spells, else its default: 256, 16, 32 and 8 for the sizes and the
+/// history, and 1 for a count. It is any `u32`: whether it is lawful is the format's to say, or the
+/// call's. The number of a refusal is 1 to 31. Where the words are no job the error has the text for the
+/// user and says why; want of memory is `OutOfMemory`.
 pub fn job<'a>(alloc: Global, words: &'a [String]) -> Result<Job<'a>, Error>
     ensures given { IfOk result (AsksFor (map string_bytes words.now)) }
     // Words that are refused ask for no job.
@@ -79,6 +82,7 @@ fn said<'a>(matches: &ArgMatches<'a>) -> Option<Job<'a>>
         blocks,
         history,
         refusal,
+        count,
     } = numbers_of(given)?;
     Some(Job {
         command,
@@ -88,6 +92,8 @@ fn said<'a>(matches: &ArgMatches<'a>) -> Option<Job<'a>>
         blocks,
         history,
         refusal,
+        count,
+        checkpoint: word(given, NAME),
         is_history_given: is_given(given, "history"),
         answers: word(given, ANSWERS),
         orders: word(given, ORDERS),
@@ -111,6 +117,7 @@ fn numbers_of(given: &ArgMatches<'_>) -> Option<Numbers>
         blocks: number(given, "blocks", 32)?,
         history: number(given, "history", 8)?,
         refusal: number(given, REFUSAL, 0)?,
+        count: number(given, COUNT, 1)?,
     })
 }
 
@@ -121,6 +128,12 @@ fn task_named(name: &str) -> Option<Task>
         "format" => Some(Task::Format),
         "run" => Some(Task::Run),
         "put" => Some(Task::Put),
+        "undo" => Some(Task::History(HistoryCall::Undo)),
+        "redo" => Some(Task::History(HistoryCall::Redo)),
+        "rollback" => Some(Task::History(HistoryCall::Rollback)),
+        "checkpoint" => Some(Task::History(HistoryCall::Checkpoint)),
+        "rmcheckpoint" => Some(Task::History(HistoryCall::RemoveCheckpoint)),
+        "forget" => Some(Task::History(HistoryCall::Forget)),
         "get" => Some(Task::Get),
         "tree" => Some(Task::Tree),
         "diff" => Some(Task::Diff),

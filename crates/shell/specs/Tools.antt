@@ -27,6 +27,7 @@ use Rattle.script_runs.specs.Scripts.{Streams}
 use Rattle.host_files.specs.Sources.{Found, Gathered}
 use Rattle.host_files.specs.Streams.{Written}
 use Rattle.shell.specs.Places.{AreOthers}
+use Rattle.history_jobs.specs.Histories.{HistoryEnds, history_spelled}
 use Rattle.image_jobs.specs.declared.failure.Failure.{Failure}
 use Rattle.script_runs.specs.declared.scripts.Refusal.{Refusal}
 use Rattle.script_runs.specs.declared.scripts.ScriptFault.{ScriptFault}
@@ -171,6 +172,7 @@ EndsOn job name known before result after = elim (job.command) as (λ task. Type
   | Task.Format ↦ FormatEnds (sizes_of job) job.history (before.files name) (after.files name) result × KeepsOthers name before.files after.files × OnlyWrites before after
   | Task.Run ↦ RunEnds job.stop name (known.claimed name) before result after × KeepsOthers name before.files after.files
   | Task.Put ↦ PutEnds name (word_given job.path) (known.claimed name) before.files after.files (known.gathered (word_given job.file) name) result × KeepsOthers name before.files after.files × OnlyWrites before after
+  | Task.History call ↦ HistoryEnds (history_spelled call (word_given job.checkpoint) job.count) name (known.claimed name) before.files result after.files × KeepsOthers name before.files after.files × OnlyWrites before after
   | Task.Get ↦ GetEnds (file_spelled (word_given job.path) job.view) name (word_given job.file) before.files after.files result × KeepsOthers (word_given job.file) before.files after.files × OnlyWrites before after
   | Task.Tree ↦ TellEnds (tree_spelled job.view) (before.files name) result before.out after.out × OnlyPrints before after
   | Task.Diff ↦ TellEnds (differences_spelled job.view job.other) (before.files name) result before.out after.out × OnlyPrints before after

@@ -13,6 +13,7 @@ use crate::serving::serve_part;
 use clap::Error;
 use clap::error::ErrorKind;
 use flash_model::Geometry;
+use history_jobs::change_history;
 use host_files::{Channels, ImageFiles, Sources};
 use image_jobs::{Failure, check_image, format_image, look_at_image, run_image};
 use jobs::{Job, Task, job};
@@ -122,6 +123,10 @@ fn do_task<F: ImageFiles + Sources + Channels, R: Read, W: Write, E: Write>(
         Task::Format => format_image(files, alloc, name, sizes_of(job), job.history),
         Task::Run => run_image(files, alloc, name, job.stop, reader, out),
         Task::Put => put_into_image(files, alloc, name, order_of(job), err),
+        Task::History(call) => {
+            let checkpoint = word_given(job.checkpoint);
+            change_history(files, alloc, name, call, checkpoint, job.count)
+        }
         Task::Get => {
             let path = word_given(job.path);
             let file = word_given(job.file);

@@ -7,6 +7,7 @@ returns-clause-some c = record {
   blocks = c.in_ok-number-3.ensures.some;
   history = c.in_ok-number-4.ensures.some;
   refusal = c.in_ok-number-5.ensures.some;
+  count = c.in_ok-number-6.ensures.some;
 }
 
 pub returns-in_err-number-clause-none : goal.returns-in_err-number-clause-none
@@ -23,3 +24,6 @@ returns-in_err-number-4-clause-none c = rw c.from_residual-in_err-number-4.ensur
 
 pub returns-in_err-number-5-clause-none : goal.returns-in_err-number-5-clause-none
 returns-in_err-number-5-clause-none c = rw c.from_residual-in_err-number-5.ensures (λ numbers are. c.in_err-number-5.ensures.none numbers.refusal are.refusal)
+
+pub returns-in_err-number-6-clause-none : goal.returns-in_err-number-6-clause-none
+returns-in_err-number-6-clause-none c = rw c.from_residual-in_err-number-6.ensures (λ numbers are. c.in_err-number-6.ensures.none numbers.count are.count)

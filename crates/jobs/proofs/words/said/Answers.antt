@@ -1,7 +1,12 @@
 use Rattle.std.proofs.Common.{◌∙◌, sym}
 use Rattle.clap.specs.Words.{found_of, rows_of}
-use Rattle.jobs.proofs.Said.{none_said, job_said}
+use Rattle.jobs.proofs.Said.{image_unsaid, none_said, job_said}
 use Rattle.jobs.proofs.words.said.Goals as goal
+
+pub returns-in_err-image-clause-none : goal.returns-in_err-image-clause-none
+returns-in_err-image-clause-none c =
+    rw c.from_residual-in_err-image.ensures (image_unsaid c.args.matches.now c.in_ok-name.name.now (rows_of (found_of c.in_ok-name.given.now)) c.in_ok-command.command c.in_ok-name.ensures.name c.in_ok-name.ensures.rows
+    (sym c.task_named.ensures ∙ c.in_ok-command.was) c.in_err-image.ensures.none)
 
 pub returns-in_err-page-clause-none : goal.returns-in_err-page-clause-none
 returns-in_err-page-clause-none c =
@@ -18,13 +23,15 @@ returns-clause-some c =
       blocks = numbers.blocks;
       history = numbers.history;
       refusal = numbers.refusal;
+      count = numbers.count;
+      checkpoint = c.word.ensures;
       is_history_given = c.is_given.ensures;
-      answers = c.word.ensures;
-      orders = c.word-2.ensures;
+      answers = c.word-2.ensures;
+      orders = c.word-3.ensures;
       stop = c.has_flag.ensures;
-      path = c.word-3.ensures;
-      file = c.word-4.ensures;
-      view = c.word-5.ensures;
-      other = c.word-6.ensures;
+      path = c.word-4.ensures;
+      file = c.word-5.ensures;
+      view = c.word-6.ensures;
+      other = c.word-7.ensures;
       progress = c.has_flag-2.ensures;
     })

@@ -1,0 +1,72 @@
+-- Calls of the history on the file of an image: the script of a word, and how it ends.
+use Rattle.std.specs.Prelude.{◌≡◌, ◌⊎◌, ℕ, min, true, Option, Some, None, Result, Ok, Err, List, [], ◌++◌, codes, decimal}
+use Rattle.std.specs.List.{repeat}
+use Rattle.fs_types.specs.declared.limits.TheConstants.{MAX_VERSIONS}
+use Rattle.jobs.specs.declared.tasks.HistoryCall.{HistoryCall}
+use Rattle.script.specs.Lines.{line_of}
+use Rattle.script.specs.declared.line.Line.{Line}
+use Rattle.host_files.specs.Files.{Held}
+use Rattle.script_runs.specs.declared.scripts.Refusal.{Refusal}
+use Rattle.image_jobs.specs.Failures.{of_refusal}
+use Rattle.image_jobs.specs.Images.{RunEnds, host_at}
+use Rattle.image_jobs.specs.declared.failure.Failure.{Failure}
+
+-- the line of a script that asks for a call of the history
+abbrev pub history_line : HistoryCall → List ℕ → ℕ → List ℕ
+history_line HistoryCall.Undo checkpoint count = codes "undo"
+history_line HistoryCall.Redo checkpoint count = codes "redo"
+history_line HistoryCall.Rollback checkpoint count = codes "rollback " ++ checkpoint
+history_line HistoryCall.Checkpoint checkpoint count = codes "checkpoint " ++ checkpoint
+history_line HistoryCall.RemoveCheckpoint checkpoint count = codes "rmcheckpoint " ++ checkpoint
+history_line HistoryCall.Forget checkpoint count = codes "forget " ++ decimal count
+
+-- how often it is asked for: a step by each. A history has at most so many versions, and so fewer steps: as many lines as versions
+-- are refused, and stand for any greater number
+abbrev pub line_count : HistoryCall → ℕ → ℕ
+line_count HistoryCall.Undo count = min count MAX_VERSIONS
+line_count HistoryCall.Redo count = min count MAX_VERSIONS
+line_count _ count = 1
+
+-- the script: the line so many times, and a sync
+abbrev pub history_script : List ℕ → ℕ → List ℕ
+history_script line count = repeat count (line ++ codes "\n") ++ codes "sync\n"
+
+-- how a line is refused before a call is carried out, if it is
+abbrev pub refusal_of_line : Line → Option Refusal
+refusal_of_line (Line.Call call) = None
+refusal_of_line (Line.Refused fault) = Some (Refusal.Fault fault)
+refusal_of_line _ = Some Refusal.Syntax
+
+abbrev pub script_unless : Option Refusal → List ℕ → Result (List ℕ) Failure
+script_unless None script = Ok script
+script_unless (Some refusal) script = Err (Failure.Refused refusal)
+
+-- the script of a call with its words, or how they are refused
+abbrev pub history_spelled : HistoryCall → List ℕ → ℕ → Result (List ℕ) Failure
+history_spelled call checkpoint count =
+    script_unless (refusal_of_line (line_of (history_line call checkpoint count))) (history_script (history_line call checkpoint count) (line_count call count))
+
+-- why a script is not had: the words are refused, or for want of memory
+abbrev pub Unspelled : Result (List ℕ) Failure → Failure → Type 0
+Unspelled spelled failure = (failure ≡ Failure.Memory) ⊎ (spelled ≡ Err failure)
+
+-- what a failure of a script is told as, of which no reply is printed: a refused line without its number; and replies that are not
+-- kept want memory
+abbrev pub unprinted : Failure → Failure
+unprinted (Failure.Stopped at) = of_refusal at.refusal
+unprinted Failure.Output = Failure.Memory
+unprinted failure = failure
+
+abbrev pub told : Result (Unit {0}) Failure → Result (Unit {0}) Failure
+told (Ok done) = Ok done
+told (Err failure) = Err (unprinted failure)
+
+-- a script runs on an image up to its first refused line, and no reply is printed
+abbrev pub RunsUnprinted : List ℕ → List ℕ → (List ℕ → Type 0) → Held → Result (Unit {0}) Failure → Held → Type 0
+RunsUnprinted script name IsClaimed held result saved = (ended : Result (Unit {0}) Failure) × (left : Option (List ℕ)) × (replies : Option (List ℕ))
+    × RunEnds true name IsClaimed (host_at held (Some script) (Some [])) ended (host_at saved left replies) × (result ≡ told ended)
+
+-- a call of the history is carried out on an image, and synced, by its script; or there is none, and no file changes
+abbrev pub HistoryEnds : Result (List ℕ) Failure → List ℕ → (List ℕ → Type 0) → Held → Result (Unit {0}) Failure → Held → Type 0
+HistoryEnds spelled name IsClaimed held result saved = ((script : List ℕ) × (spelled ≡ Ok script) × RunsUnprinted script name IsClaimed held result saved)
+    ⊎ ((failure : Failure) × Unspelled spelled failure × (result ≡ Err failure) × (saved ≡ held))

@@ -1,0 +1,59 @@
+//! A call of the history on the file of an image.
+ghost use Rattle.std.specs.Prelude.{◌≡◌};
+ghost use Rattle.host_files.specs.Files.{KeepsOthers, ReadsClaimed};
+ghost use Rattle.history_jobs.specs.Histories.{HistoryEnds, RunsUnprinted, history_spelled, unprinted};
+
+use crate::history_lines::history_script;
+use host_files::ImageFiles;
+use image_jobs::{Failure, run_image};
+use jobs::HistoryCall;
+use std::alloc::Global;
+
+/// Carries out a call of the history on an image, which is claimed first, and syncs it: steps `count`
+/// times, all of them or none. Nothing is printed. Where it is refused the image stays as it was.
+pub fn change_history<F: ImageFiles>(
+    files: &mut F,
+    alloc: Global,
+    name: &str,
+    call: HistoryCall,
+    checkpoint: &str,
+    count: u32,
+) -> Result<(), Failure>
+    ensures ends { HistoryEnds (history_spelled call checkpoint.now count) name.now (ReadsClaimed F.claims F.reads name.now) (F.held files.old) result (F.held files.new) }
+    ensures others { KeepsOthers name.now (F.held files.old) (F.held files.new) }
+{
+    let script = match history_script(alloc, call, checkpoint, count) {
+        Ok(script) => script,
+        Err(failure) => return Err(failure),
+    };
+    run_unprinted(files, alloc, name, script.as_bytes())
+}
+
+/// Runs a script on an image up to its first refused line, and prints no reply.
+fn run_unprinted<F: ImageFiles>(
+    files: &mut F,
+    alloc: Global,
+    name: &str,
+    script: &[u8],
+) -> Result<(), Failure>
+    ensures ends { RunsUnprinted script.now name.now (ReadsClaimed F.claims F.reads name.now) (F.held files.old) result (F.held files.new) }
+    ensures others { KeepsOthers name.now (F.held files.old) (F.held files.new) }
+{
+    let mut reader = script;
+    let mut replies = Vec::new(alloc);
+    match run_image(files, alloc, name, true, &mut reader, &mut replies) {
+        Ok(()) => Ok(()),
+        Err(failure) => Err(unprinted(failure)),
+    }
+}
+
+/// What a failure of a script is told as, of which no reply is printed.
+fn unprinted(failure: Failure) -> Failure
+    ensures { result ≡ unprinted failure }
+{
+    match failure {
+        Failure::Stopped(stop) => Failure::of_refusal(stop.refusal),
+        Failure::Output => Failure::Memory,
+        _ => failure,
+    }
+}

@@ -1,0 +1,7 @@
+//! Calls of the history that a word of the program asks for, each carried out on the file of an image.
+#![tactic(auto)]
+
+mod change;
+mod history_lines;
+
+pub use change::change_history;

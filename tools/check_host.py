@@ -139,6 +139,7 @@ def in_use(program, folder):
     told = f"uffs: cannot write {image}\n".encode()
     want(run(program, ["run", image], SCRIPT), (1, b"", told))
     want(run(program, ["format", image]), (1, b"", told))
+    want(run(program, ["undo", image]), (1, b"", told))
     want(run(program, ["check", image]), (0, b"ok\n", b""))
     first.stdin.close()
     want(first.wait(60), 0)
@@ -178,7 +179,25 @@ def full_output(program, folder):
     want((done.returncode, done.stderr, read(image)), (1, b"uffs: output\n", before))
 
 
-CASES = [closed_output, closed_errors, closed_input, all_closed, limited, not_utf8, fifos, in_use, full_disk, full_output]
+def dash(program, folder):
+    """A file is written to the output where `-` stands for it, and to the file of that name for `./-`."""
+    image = made(program, folder)
+    want(run(program, ["run", image], b"write /f 6f6e650a\nsync\n"), (0, b"ok\nok\n", b""))
+    want(run(program, ["get", image, "/f", "-"], cwd=folder), (0, b"one\n", b""))
+    want(sorted(os.listdir(folder)), ["image"])
+    want(run(program, ["get", image, "/f", "./-"], cwd=folder), (0, b"", b""))
+    want((sorted(os.listdir(folder)), read(os.path.join(folder, "-"))), (["-", "image"], b"one\n"))
+
+
+def about(program, folder):
+    """`help` and `version` write to the output what `--help` and `--version` tell."""
+    for word in ("help", "version"):
+        status, out, told = run(program, ["--" + word])
+        want((status, out), (2, b""))
+        want(run(program, [word]), (0, told, b""))
+
+
+CASES = [closed_output, closed_errors, closed_input, all_closed, limited, not_utf8, fifos, in_use, full_disk, full_output, dash, about]
 
 
 def try_case(case, program):

@@ -28,12 +28,13 @@ abbrev pub of_image : ImageFault → Failure
 of_image ImageFault.Memory = Failure.Memory
 of_image fault = Failure.Image fault
 
--- 3 where the image, a format or a mount was refused, 4 where a call or a line of a script was, else 1
+-- 3 where the image, a format or a mount was refused, 4 where a call or a line of a script was, 5 where trees differ, else 1
 abbrev pub failure_status : Failure → ℕ
 failure_status (Failure.Image fault) = 3
 failure_status (Failure.System fault) = 3
 failure_status (Failure.Refused refusal) = 4
 failure_status (Failure.Stopped at) = 4
+failure_status Failure.Differs = 5
 failure_status _ = 1
 
 -- 0 where a job ran to its end

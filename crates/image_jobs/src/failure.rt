@@ -47,6 +47,9 @@ pub enum Failure {
     /// The script stopped at a refused line.
     #[error("stopped at a refused line")]
     Stopped(Stop),
+    /// Two trees differ, which was told, and the status is to tell it.
+    #[error("the trees differ")]
+    Differs,
 }
 
 impl Failure {
@@ -96,13 +99,14 @@ impl Failure {
     }
 
     /// The status of the program: 3 where the image, a format or a mount was refused, 4 where a call or
-    /// a line of a script was, else 1.
+    /// a line of a script was, 5 where trees differ, else 1.
     pub fn status(self) -> u8
         ensures { result ≡ failure_status self }
     {
         match self {
             Failure::Image(_) | Failure::System(_) => 3,
             Failure::Refused(_) | Failure::Stopped(_) => 4,
+            Failure::Differs => 5,
             _ => 1,
         }
     }
@@ -119,7 +123,7 @@ impl Failure {
             Failure::Memory => writeln!(err, "uffs: ENOMEM 25"),
             Failure::Image(fault) => writeln!(err, "uffs: image {fault}"),
             Failure::System(fault) => explain_fault(fault, err),
-            Failure::Source(_) => Ok(()),
+            Failure::Source(_) | Failure::Differs => Ok(()),
             Failure::Refused(refusal) => explain_refusal(refusal, err),
             Failure::Stopped(stop) => explain_stop(stop, err),
         };

@@ -23,14 +23,14 @@ rows_said m name rows e d =
 
 -- the numbers of a job
 abbrev numbers_in : Job → Numbers
-numbers_in job = record { page = job.page; pages = job.pages; blocks = job.blocks; history = job.history; refusal = job.refusal; count = job.count }
+numbers_in job = record { page = job.page; pages = job.pages; blocks = job.blocks; history = job.history; count = job.count }
 
 -- no job is said where the options give no numbers
 pub none_said : (m : ArgMatches) (name : Text) (rows : List Row) → Some name ≡ subcommand_name_of m → Some rows ≡ option_map (λ (p : Text × List Row). p.1) (subcommand_rows_of m)
     → ((numbers : Numbers) → AreNumbersOf rows numbers → ⊥) → (job : Job) → SaysJob (subcommand_rows_of m) job → ⊥
 none_said m name rows e d none job says =
     let is : IsJobOf name rows job = subst (λ o. SaysJob o job) (rows_said m name rows e d) says in
-    none (numbers_in job) (record { page = is.page; pages = is.pages; blocks = is.blocks; history = is.history; refusal = is.refusal; count = is.count })
+    none (numbers_in job) (record { page = is.page; pages = is.pages; blocks = is.blocks; history = is.history; count = is.count })
 
 -- a job is said where it is what the subcommand says
 pub job_said : (m : ArgMatches) (name : Text) (rows : List Row) (job : Job) → Some name ≡ subcommand_name_of m → Some rows ≡ option_map (λ (p : Text × List Row). p.1) (subcommand_rows_of m)

@@ -20,10 +20,6 @@ number_rule name = record (new_rule name) { long = Some name; value_names = 1; a
 abbrev pub flag_rule : Text → Rule
 flag_rule name = record (new_rule name) { long = Some name; action = Some ArgAction.SetTrue }
 
--- the number of a refusal, which has to be given
-abbrev pub refusal_rule : Rule
-refusal_rule = record (new_rule (codes "NO")) { required = true; action = Some ArgAction.Set; parser = Some (ValueParser.Signed (pos 0) (pos 4294967295)) }
-
 -- how many, by itself, which may have to be given
 abbrev pub count_rule : Bool → Rule
 count_rule is_required = record (new_rule (codes "N")) { required = is_required; action = Some ArgAction.Set; parser = Some (ValueParser.Signed (pos 0) (pos 4294967295)) }
@@ -55,18 +51,21 @@ forget_app = with_rule (image_app (codes "forget")) (count_rule true)
 abbrev pub get_app : App
 get_app = with_rule (with_rule (with_rule (image_app (codes "get")) (word_rule (codes "PATH"))) (word_rule (codes "FILE"))) (optional_rule (codes "VIEW"))
 
+abbrev pub cat_app : App
+cat_app = with_rule (with_rule (image_app (codes "cat")) (word_rule (codes "PATH"))) (optional_rule (codes "VIEW"))
+
 abbrev pub tree_app : App
 tree_app = with_rule (image_app (codes "tree")) (optional_rule (codes "VIEW"))
 
 abbrev pub diff_app : App
-diff_app = with_rule (with_rule (image_app (codes "diff")) (word_rule (codes "VIEW"))) (optional_rule (codes "OTHER"))
+diff_app = with_rule (with_rule (with_rule (image_app (codes "diff")) (word_rule (codes "VIEW"))) (optional_rule (codes "OTHER"))) (flag_rule (codes "exit-code"))
 
 -- a live file system on a part, whose driver is at the other end of two streams
 abbrev pub serve_app : App
 serve_app = with_rule (with_rule (with_rule (new_app (codes "serve")) (word_rule (codes "ANSWERS"))) (word_rule (codes "ORDERS"))) (number_rule (codes "history"))
 
 abbrev pub explain_app : App
-explain_app = with_rule (new_app (codes "explain")) refusal_rule
+explain_app = with_rule (new_app (codes "explain")) (word_rule (codes "REFUSAL"))
 
 -- the program before its subcommands: one of them has to be named, by the first word
 abbrev pub bare_top : Shape
@@ -93,13 +92,17 @@ with_history_apps app = with_subcommand (with_checkpoint_apps (with_step_apps ap
 
 -- a program with the subcommands more that read what stands in an image
 abbrev pub with_reading_apps : App → App
-with_reading_apps app = with_subcommand (with_subcommand (with_subcommand app get_app.top) tree_app.top) diff_app.top
+with_reading_apps app = with_subcommand (with_subcommand (with_subcommand (with_subcommand app get_app.top) cat_app.top) tree_app.top) diff_app.top
 
 -- a program with the subcommands more that take an image alone
 abbrev pub with_image_apps : App → App
 with_image_apps app = with_subcommand (with_subcommand (with_subcommand (with_subcommand app
     (image_app (codes "versions")).top) (image_app (codes "check")).top) (image_app (codes "log")).top) (image_app (codes "df")).top
 
+-- a program with the subcommands more that tell of the program itself
+abbrev pub with_about_apps : App → App
+with_about_apps app = with_subcommand (with_subcommand (with_subcommand app explain_app.top) (new_app (codes "help")).top) (new_app (codes "version")).top
+
 -- the program
 abbrev pub uffs : App
-uffs = with_subcommand (with_subcommand (with_subcommand (with_image_apps (with_reading_apps (with_history_apps changing_app))) (new_app (codes "memory")).top) serve_app.top) explain_app.top
+uffs = with_about_apps (with_subcommand (with_subcommand (with_image_apps (with_reading_apps (with_history_apps changing_app))) (new_app (codes "memory")).top) serve_app.top)

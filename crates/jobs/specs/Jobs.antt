@@ -26,6 +26,7 @@ task_named name = if bytes_eq name (codes "format") then Some Task.Format
     else if bytes_eq name (codes "rmcheckpoint") then Some (Task.History HistoryCall.RemoveCheckpoint)
     else if bytes_eq name (codes "forget") then Some (Task.History HistoryCall.Forget)
     else if bytes_eq name (codes "get") then Some Task.Get
+    else if bytes_eq name (codes "cat") then Some Task.Cat
     else if bytes_eq name (codes "tree") then Some Task.Tree
     else if bytes_eq name (codes "diff") then Some Task.Diff
     else if bytes_eq name (codes "versions") then Some Task.Versions
@@ -35,6 +36,8 @@ task_named name = if bytes_eq name (codes "format") then Some Task.Format
     else if bytes_eq name (codes "memory") then Some Task.Memory
     else if bytes_eq name (codes "serve") then Some Task.Serve
     else if bytes_eq name (codes "explain") then Some Task.Explain
+    else if bytes_eq name (codes "help") then Some Task.Help
+    else if bytes_eq name (codes "version") then Some Task.Version
     else None
 
 -- the number of 32 bits that a word spells in decimal digits
@@ -52,7 +55,6 @@ pub record AreNumbersOf (rows : List Row) (numbers : Numbers) : Type 0 where
   pub pages : IsNumberOf (one_of (codes "pages") rows) 16 numbers.pages
   pub blocks : IsNumberOf (one_of (codes "blocks") rows) 32 numbers.blocks
   pub history : IsNumberOf (one_of (codes "history") rows) 8 numbers.history
-  pub refusal : IsNumberOf (one_of (codes "NO") rows) 0 numbers.refusal
   pub count : IsNumberOf (one_of (codes "N") rows) 1 numbers.count
 
 -- the tasks that are done on no image
@@ -60,6 +62,8 @@ abbrev pub has_no_image : Task → Bool
 has_no_image Task.Memory = true
 has_no_image Task.Serve = true
 has_no_image Task.Explain = true
+has_no_image Task.Help = true
+has_no_image Task.Version = true
 has_no_image _ = false
 
 -- a job names the image that the words name, and none where the task has none
@@ -76,7 +80,7 @@ flag_of None = false
 abbrev pub word_text : Option (Bor (List ℕ)) → Option Text
 word_text = option_map (λ (s : Bor (List ℕ)). s.now)
 
--- the job is what a subcommand with its arguments says: numbers that no word gives are 256, 16, 32, 8, 0 and 1, and other words
+-- the job is what a subcommand with its arguments says: numbers that no word gives are 256, 16, 32, 8 and 1, and other words
 -- are as given
 pub record IsJobOf (name : Text) (rows : List Row) (job : Job) : Type 0 where
   pub command : task_named name ≡ Some job.command
@@ -85,12 +89,13 @@ pub record IsJobOf (name : Text) (rows : List Row) (job : Job) : Type 0 where
   pub pages : IsNumberOf (one_of (codes "pages") rows) 16 job.pages
   pub blocks : IsNumberOf (one_of (codes "blocks") rows) 32 job.blocks
   pub history : IsNumberOf (one_of (codes "history") rows) 8 job.history
-  pub refusal : IsNumberOf (one_of (codes "NO") rows) 0 job.refusal
   pub count : IsNumberOf (one_of (codes "N") rows) 1 job.count
+  pub refusal : word_text job.refusal ≡ first_of (codes "REFUSAL") rows
   pub checkpoint : word_text job.checkpoint ≡ first_of (codes "NAME") rows
   pub is_history_given : job.is_history_given ≡ is_some (first_of (codes "history") rows)
   pub answers : word_text job.answers ≡ first_of (codes "ANSWERS") rows
   pub orders : word_text job.orders ≡ first_of (codes "ORDERS") rows
+  pub exit_code : job.exit_code ≡ flag_of (first_of (codes "exit-code") rows)
   pub stop : job.stop ≡ flag_of (first_of (codes "stop") rows)
   pub path : word_text job.path ≡ first_of (codes "PATH") rows
   pub file : word_text job.file ≡ first_of (codes "FILE") rows

@@ -2,9 +2,10 @@
 ghost use Rattle.std.specs.Prelude.{◌≡◌, IfOk, codes, false};
 ghost use Rattle.clap.specs.Words.{app_of, rule_of, new_app, with_rule, with_subcommand};
 ghost use Rattle.clap.specs.declared.builder.command.Command.TheViews.{out-Command};
-ghost use Rattle.jobs.specs.Grammar.{uffs, bare_app, changing_app, format_app, run_app, put_app, get_app, tree_app, diff_app, serve_app, explain_app, image_app};
-ghost use Rattle.jobs.specs.Grammar.{with_history_apps, with_reading_apps, with_image_apps, flag_rule, number_rule, refusal_rule, word_rule, optional_rule};
+ghost use Rattle.jobs.specs.Grammar.{uffs, bare_app, changing_app, format_app, run_app, put_app, get_app, tree_app, diff_app, serve_app, cat_app, image_app};
+ghost use Rattle.jobs.specs.Grammar.{with_history_apps, with_reading_apps, with_image_apps, with_about_apps, flag_rule, number_rule, word_rule, optional_rule};
 
+use crate::about_commands::with_about_commands;
 use crate::history_commands::with_history_commands;
 use clap::{Arg, ArgAction, Command, value_parser};
 use std::alloc::{AllocError, Global};
@@ -30,11 +31,8 @@ pub(crate) const ANSWERS: &str = "ANSWERS";
 /// The name of the argument that names the stream of a driver's orders.
 pub(crate) const ORDERS: &str = "ORDERS";
 
-/// The name of the argument that is the number of a refusal.
-pub(crate) const REFUSAL: &str = "NO";
-
 /// What `uffs --version` says after the name.
-const VERSION: &str = "0.1.0";
+pub(crate) const VERSION: &str = "0.1.0";
 
 const PROGRAM_HELP: &str = "Status:
   0  it ran to its end, whatever the replies
@@ -79,7 +77,7 @@ Example: uffs put disk.image ./site /site --progress";
 
 const GET_HELP: &str =
     "The file at PATH of the image is written to FILE, whole or not at all: it is written as FILE.new,
-which is renamed. A file that is there is replaced. Without VIEW it is the file of the present
+which is renamed. A file that is there is replaced. As - for FILE it is printed. Without VIEW it is the file of the present
 version; @5 is the version of serial 5, and =name a checkpoint. PATH and VIEW are spelled as in a
 script. Nothing is written to IMAGE.
 
@@ -87,6 +85,15 @@ Status: 0 it is there; 1 IMAGE cannot be read, FILE cannot be written, or memory
 IMAGE holds no image, or its mount was refused; 4 it was refused, told as uffs: ENOENT 1.
 
 Example: uffs get disk.image /site/index.html ./index.html @5";
+
+const CAT_HELP: &str =
+    "Prints the bytes of the file at PATH of the image, and nothing else. VIEW is as of get. Nothing is
+written to IMAGE.
+
+Status: 0 it is printed; 1 IMAGE cannot be read, the output failed, or memory; 2 the words; 3 IMAGE
+holds no image, or its mount was refused; 4 it was refused, told as uffs: ENOENT 1.
+
+Example: uffs cat disk.image /site/index.html | less";
 
 const TREE_HELP: &str =
     "Prints a line for each directory and each file of a tree, a directory before what stands in it and
@@ -107,7 +114,7 @@ checkpoint. Nothing is written to IMAGE.
 
 Status: 0 it is printed, whatever differs; 1 IMAGE cannot be read, the output failed, or memory; 2
 the words; 3 IMAGE holds no image, or its mount was refused; 4 it was refused, told as
-uffs: NOSUCHVERSION 20.
+uffs: NOSUCHVERSION 20; 5 it is printed and something differs, with --exit-code.
 
 Example: uffs diff disk.image =before @5";
 
@@ -164,14 +171,6 @@ refused.
 
 Example: uffs serve /dev/fd/3 /dev/fd/4";
 
-const EXPLAIN_HELP: &str =
-    "Prints what the refusal of this number means, and what can be done. No file is read or written.
-
-Status: 0 it is printed; 1 the output failed, or memory; 2 the words; 4 no refusal has this number,
-told as uffs: EINVAL 7.
-
-Example: uffs explain 15";
-
 /// The program with all its subcommands.
 pub(crate) fn program<'a>(alloc: Global) -> Result<Command<'a>, AllocError>
     ensures { IfOk result (λ command. app_of command ≡ uffs) }
@@ -181,7 +180,7 @@ pub(crate) fn program<'a>(alloc: Global) -> Result<Command<'a>, AllocError>
     let program = with_image_commands(alloc, program)?;
     let program = program.subcommand(memory_command(alloc))?;
     let program = program.subcommand(serve_command(alloc)?)?;
-    program.subcommand(explain_command(alloc)?)
+    with_about_commands(alloc, program)
 }
 
 /// The program with the subcommands that make or change an image.
@@ -198,6 +197,7 @@ fn with_reading_commands<'a>(alloc: Global, program: Command<'a>) -> Result<Comm
     ensures { IfOk result (λ command. app_of command ≡ with_reading_apps (app_of program.entry)) }
 {
     let program = program.subcommand(get_command(alloc)?)?;
+    let program = program.subcommand(cat_command(alloc)?)?;
     let program = program.subcommand(tree_command(alloc)?)?;
     program.subcommand(diff_command(alloc)?)
 }
@@ -363,6 +363,25 @@ fn get_command<'a>(alloc: Global) -> Result<Command<'a>, AllocError>
     )
 }
 
+fn cat_command<'a>(alloc: Global) -> Result<Command<'a>, AllocError>
+    ensures app { IfOk result (λ command. app_of command ≡ cat_app) }
+    ensures local { IfOk result (λ command. (out-Command command).has_globals ≡ false) }
+{
+    let command = image_command(
+        alloc,
+        "cat",
+        "Prints the bytes of a file of an image",
+        CAT_HELP,
+    )?;
+    let command = with_word(alloc, command, PATH, "The path of the file in the image")?;
+    with_optional_word(
+        alloc,
+        command,
+        VIEW,
+        "The version, as @5, or the checkpoint, as =name",
+    )
+}
+
 fn tree_command<'a>(alloc: Global) -> Result<Command<'a>, AllocError>
     ensures app { IfOk result (λ command. app_of command ≡ tree_app) }
     ensures local { IfOk result (λ command. (out-Command command).has_globals ≡ false) }
@@ -397,11 +416,17 @@ fn diff_command<'a>(alloc: Global) -> Result<Command<'a>, AllocError>
         VIEW,
         "The version, as @5, or the checkpoint, as =name",
     )?;
-    with_optional_word(
+    let command = with_optional_word(
         alloc,
         command,
         OTHER,
         "The version or the checkpoint that it is compared with",
+    )?;
+    with_flag(
+        alloc,
+        command,
+        "exit-code",
+        "Status 5 where the trees differ",
     )
 }
 
@@ -429,16 +454,6 @@ fn serve_command<'a>(alloc: Global) -> Result<Command<'a>, AllocError>
         "H",
         "Makes an empty file system first, which keeps so many versions, 2 to 128",
     )
-}
-
-fn explain_command<'a>(alloc: Global) -> Result<Command<'a>, AllocError>
-    ensures app { IfOk result (λ command. app_of command ≡ explain_app) }
-    ensures local { IfOk result (λ command. (out-Command command).has_globals ≡ false) }
-{
-    let command = Command::new(alloc, "explain")
-        .about("Tells what a refusal means")
-        .after_help(EXPLAIN_HELP);
-    command.arg(refusal_arg(alloc))
 }
 
 /// The subcommand with a word more that has to be given.
@@ -521,7 +536,12 @@ fn memory_command<'a>(alloc: Global) -> Command<'a>
 }
 
 /// A subcommand before its arguments.
-fn named_command<'a>(alloc: Global, name: &'a str, about: &'a str, help: &'a str) -> Command<'a>
+pub(crate) fn named_command<'a>(
+    alloc: Global,
+    name: &'a str,
+    about: &'a str,
+    help: &'a str,
+) -> Command<'a>
     ensures app { app_of result ≡ new_app name.entry.now }
     ensures local { (out-Command result).has_globals ≡ false }
 {
@@ -556,18 +576,6 @@ fn flag_arg<'a>(alloc: Global, name: &'a str, help: &'a str) -> Arg<'a>
         .long(name)
         .action(ArgAction::SetTrue)
         .help(help)
-}
-
-/// The number of a refusal.
-fn refusal_arg<'a>(alloc: Global) -> Arg<'a>
-    ensures rule { rule_of result ≡ refusal_rule }
-    ensures local { result.global ≡ false }
-{
-    Arg::new(alloc, REFUSAL)
-        .required(true)
-        .action(ArgAction::Set)
-        .value_parser(value_parser!(u32))
-        .help("The number of the refusal")
 }
 
 /// An option that takes a number.

@@ -1,10 +1,13 @@
 //! What the words of the program `uffs` ask for.
 #![tactic(auto)]
 
+mod about;
+mod about_commands;
 mod grammar;
 mod history_commands;
 mod tasks;
 mod words;
 
+pub use about::{help_text, version_text};
 pub use tasks::{HistoryCall, Job, Task};
 pub use words::job;

@@ -30,6 +30,8 @@ pub enum Task {
     History(HistoryCall),
     /// A file of an image is put into a file of the host.
     Get,
+    /// The bytes of a file of an image are printed.
+    Cat,
     /// All that stands in an image is told.
     Tree,
     /// What differs between two trees of an image is told.
@@ -46,8 +48,12 @@ pub enum Task {
     Memory,
     /// A script is run on the part of a driver in another process.
     Serve,
-    /// What a refusal means is told.
+    /// What refusals mean is told.
     Explain,
+    /// What can be asked for is told.
+    Help,
+    /// The program and its version are told.
+    Version,
 }
 
 /// A task with what it is to be done on.
@@ -55,7 +61,7 @@ pub enum Task {
 pub struct Job<'a> {
     /// What is to be done.
     pub command: Task,
-    /// The file of the image; none for `memory`, `serve` and `explain`.
+    /// The file of the image; none for `memory`, `serve`, `explain`, `help` and `version`.
     pub image: Option<&'a str>,
     /// Bytes of a page.
     pub page: u32,
@@ -71,12 +77,14 @@ pub struct Job<'a> {
     pub answers: Option<&'a str>,
     /// The name under which a driver is given its orders; none where none is named.
     pub orders: Option<&'a str>,
-    /// The number of a refusal, 1 to 31; 0 where none is named.
-    pub refusal: u32,
+    /// The number of a refusal or its word; none where none is named.
+    pub refusal: Option<&'a str>,
     /// How many steps, or how many versions; 1 where no word gives it.
     pub count: u32,
     /// The name of a checkpoint; none where none is named.
     pub checkpoint: Option<&'a str>,
+    /// Whether the status tells that trees differ.
+    pub exit_code: bool,
     /// Whether a script ends at its first line that is refused.
     pub stop: bool,
     /// The path in the image; none where none is named.

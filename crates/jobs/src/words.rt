@@ -7,7 +7,8 @@ ghost use Rattle.jobs.specs.Jobs.{AreNumbersOf, AsksFor, SaysJob, IsNumberOf, Is
 ghost use Rattle.jobs.specs.declared.tasks.Job.{Job};
 ghost use Rattle.jobs.specs.declared.words.Numbers.{Numbers};
 
-use crate::grammar::{ANSWERS, FILE, IMAGE, ORDERS, OTHER, PATH, REFUSAL, VIEW, program};
+use crate::about_commands::REFUSAL;
+use crate::grammar::{ANSWERS, FILE, IMAGE, ORDERS, OTHER, PATH, VIEW, program};
 use crate::history_commands::{COUNT, NAME};
 use crate::tasks::{HistoryCall, Job, Task};
 use clap::error::ErrorKind;
@@ -20,7 +21,6 @@ struct Numbers {
     pages: u32,
     blocks: u32,
     history: u32,
-    refusal: u32,
     count: u32,
 }
 
@@ -28,8 +28,8 @@ struct Numbers {
 ///
 /// A number is the one that its word spells, else its default: 256, 16, 32 and 8 for the sizes and the
 /// history, and 1 for a count. It is any `u32`: whether it is lawful is the format's to say, or the
-/// call's. The number of a refusal is 1 to 31. Where the words are no job the error has the text for the
-/// user and says why; want of memory is `OutOfMemory`.
+/// call's. Where the words are no job the error has the text for the user and says why; want of
+/// memory is `OutOfMemory`.
 pub fn job<'a>(alloc: Global, words: &'a [String]) -> Result<Job<'a>, Error>
     ensures given { IfOk result (AsksFor (map string_bytes words.now)) }
     // Words that are refused ask for no job.
@@ -81,7 +81,6 @@ fn said<'a>(matches: &ArgMatches<'a>) -> Option<Job<'a>>
         pages,
         blocks,
         history,
-        refusal,
         count,
     } = numbers_of(given)?;
     Some(Job {
@@ -91,12 +90,13 @@ fn said<'a>(matches: &ArgMatches<'a>) -> Option<Job<'a>>
         pages,
         blocks,
         history,
-        refusal,
         count,
+        refusal: word(given, REFUSAL),
         checkpoint: word(given, NAME),
         is_history_given: is_given(given, "history"),
         answers: word(given, ANSWERS),
         orders: word(given, ORDERS),
+        exit_code: has_flag(given, "exit-code"),
         stop: has_flag(given, "stop"),
         path: word(given, PATH),
         file: word(given, FILE),
@@ -116,7 +116,6 @@ fn numbers_of(given: &ArgMatches<'_>) -> Option<Numbers>
         pages: number(given, "pages", 16)?,
         blocks: number(given, "blocks", 32)?,
         history: number(given, "history", 8)?,
-        refusal: number(given, REFUSAL, 0)?,
         count: number(given, COUNT, 1)?,
     })
 }
@@ -135,6 +134,7 @@ fn task_named(name: &str) -> Option<Task>
         "rmcheckpoint" => Some(Task::History(HistoryCall::RemoveCheckpoint)),
         "forget" => Some(Task::History(HistoryCall::Forget)),
         "get" => Some(Task::Get),
+        "cat" => Some(Task::Cat),
         "tree" => Some(Task::Tree),
         "diff" => Some(Task::Diff),
         "versions" => Some(Task::Versions),
@@ -144,6 +144,8 @@ fn task_named(name: &str) -> Option<Task>
         "memory" => Some(Task::Memory),
         "serve" => Some(Task::Serve),
         "explain" => Some(Task::Explain),
+        "help" => Some(Task::Help),
+        "version" => Some(Task::Version),
         _ => None,
     }
 }
@@ -153,7 +155,7 @@ fn has_no_image(command: Task) -> bool
     ensures { result ≡ has_no_image command }
 {
     match command {
-        Task::Memory | Task::Serve | Task::Explain => true,
+        Task::Memory | Task::Serve | Task::Explain | Task::Help | Task::Version => true,
         _ => false,
     }
 }

@@ -1,5 +1,5 @@
 -- How what is asked of an image ends, by how its parts do.
-use Rattle.std.proofs.Common.{◌≡◌, ◌⊎◌, ℕ, false, Option, Result, Ok, Err, List, IfErr, OnOk, IfSome, take, inl, inr, refl, sym, subst, ap, ◌∙◌}
+use Rattle.std.proofs.Common.{◌≡◌, ◌⊎◌, ℕ, Bool, false, Option, Result, Ok, Err, List, IfErr, OnOk, IfSome, take, inl, inr, refl, sym, subst, ap, ◌∙◌}
 use Rattle.std.specs.Io.KnownBytes.{Appends}
 use Rattle.fs_types.specs.Names.{Path}
 use Rattle.fs_types.specs.declared.call.View.{View}
@@ -7,7 +7,7 @@ use Rattle.inquiries.specs.declared.inquiry.Inquiry.{Inquiry}
 use Rattle.shell.specs.Asking.{IsMisspelled, file_at, file_in, tree_in, differences_between, differences_from}
 use Rattle.host_files.specs.Files.{Held, takes_away}
 use Rattle.image_jobs.specs.Images.{IsUnclaimed, Unsaved}
-use Rattle.shell.specs.Tools.{IsTold, GetEnds, TellEnds}
+use Rattle.shell.specs.Tools.{DiffEnds, IsTold, GetEnds, TellEnds, status_of_told}
 use Rattle.image_jobs.specs.declared.failure.Failure.{Failure}
 
 -- the bytes that are told are put into a file
@@ -64,3 +64,13 @@ new_misspelled old new there failure is (inr wrong) = inr (ap (λ v. differences
 
 pub differences_there : (old new : Result View Failure) (there seen : View) → old ≡ Ok there → new ≡ Ok seen → differences_between old new ≡ Ok (Inquiry.Differences there seen)
 differences_there old new there seen is sees = ap (λ v. differences_between v new) is ∙ ap (differences_from there) sees
+
+-- differences are told, with the status that they ask for
+pub told_with_status : (exit_code : Bool) (held : Option (List ℕ)) (inquiry : Inquiry) (bytes lent : List ℕ) (result : Result (Unit {0}) Failure) (old new : Option (List ℕ))
+    → IsTold held inquiry bytes → lent ≡ bytes → Appends old new lent → result ≡ status_of_told exit_code lent → DiffEnds exit_code (Ok inquiry) held result old new
+told_with_status exit_code held inquiry bytes lent result old new told same ok status =
+    inl (lent, record { inquiry = inquiry; is = refl; told = subst (IsTold held inquiry) (sym same) told }, ok, status)
+
+pub diff_spelled : (exit_code : Bool) (spelled : Result Inquiry Failure) (inquiry : Inquiry) (held : Option (List ℕ)) (result : Result (Unit {0}) Failure) (old new : Option (List ℕ))
+    → spelled ≡ Ok inquiry → DiffEnds exit_code (Ok inquiry) held result old new → DiffEnds exit_code spelled held result old new
+diff_spelled exit_code spelled inquiry held result old new is told = subst (λ (s : Result Inquiry Failure). DiffEnds exit_code s held result old new) (sym is) told

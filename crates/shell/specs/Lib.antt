@@ -1,4 +1,5 @@
 pub mod Asking
+pub mod Explained
 pub mod Places
 pub mod Puts
 pub mod Served

@@ -1,13 +1,11 @@
 -- What the program does on the files of images, on its input and on its output, and its status, for each way it ends.
-use Rattle.std.specs.Prelude.{◌≡◌, ◌≢◌, ◌⊎◌, ℕ, Bool, false, if◌then◌else◌, Option, Some, None, Result, Ok, Err, IfSome, List, [], ◌∷◌, ◌++◌, take, codes, decimal}
+use Rattle.std.specs.Prelude.{◌≡◌, ◌≢◌, ◌⊎◌, ℕ, Bool, true, false, if◌then◌else◌, Option, Some, None, Result, Ok, Err, IfSome, List, [], ◌∷◌, take, codes}
 use Rattle.std.specs.Borrow.{Bor}
 use Rattle.std.specs.Str.{bytes_eq}
 use Rattle.std.specs.Io.KnownBytes.{Appends}
 use Rattle.clap.specs.Words.{fault_of}
 use Rattle.clap.specs.declared.error.kind.ErrorKind.{ErrorKind}
-use Rattle.fs_types.specs.Faults.{number_of, word_of}
 use Rattle.fs_types.specs.Names.{Path}
-use Rattle.fs_types.specs.declared.fault.Fault.{Fault}
 use Rattle.flash_model.specs.Simulation.{device_of}
 use Rattle.flash_model.specs.declared.sim_flash.SimFlash.{SimFlash}
 use Rattle.flash_model.specs.declared.geometry.Geometry.{Geometry}
@@ -17,6 +15,7 @@ use Rattle.jobs.specs.Jobs.{AsksFor}
 use Rattle.jobs.specs.declared.tasks.Job.{Job}
 use Rattle.jobs.specs.declared.tasks.Task.{Task}
 use Rattle.inquiries.specs.declared.inquiry.Inquiry.{Inquiry}
+use Rattle.shell.specs.Explained.{ExplainEnds, HelpEnds, PrintEnds, version_line}
 use Rattle.shell.specs.Asking.{file_spelled, tree_spelled, differences_spelled, IsMisspelled, IsToldBy, UntoldBy}
 use Rattle.image_jobs.specs.Failures.{of_image, of_script, of_system, job_status, status_of}
 use Rattle.image_jobs.specs.Images.{IsSpelledFlash, LoadCause, IsUnclaimed, Unsaved, SavesChange, ChangeUnsaved, FormatEnds, Host, streams_of, RunEnds, LookEnds, CheckEnds}
@@ -29,7 +28,6 @@ use Rattle.host_files.specs.Streams.{Written}
 use Rattle.shell.specs.Places.{AreOthers}
 use Rattle.history_jobs.specs.Histories.{HistoryEnds, history_spelled}
 use Rattle.image_jobs.specs.declared.failure.Failure.{Failure}
-use Rattle.script_runs.specs.declared.scripts.Refusal.{Refusal}
 use Rattle.script_runs.specs.declared.scripts.ScriptFault.{ScriptFault}
 use Rattle.told_flash.specs.declared.start.StartFault.{StartFault}
 use Rattle.told_sessions.specs.Sessions.{SessionEnds}
@@ -74,6 +72,16 @@ TellEnds spelled held (Ok done) old new = (bytes : List ℕ) × IsAnswer spelled
 TellEnds spelled held (Err failure) old new = (IsUnanswered spelled held failure × (new ≡ old))
     ⊎ ((bytes : List ℕ) × (n : ℕ) × IsAnswer spelled held bytes × (failure ≡ Failure.Output) × Appends old new (take n bytes))
 
+-- the job fails where its status is to tell that trees differ, and something is told
+abbrev pub status_of_told : Bool → List ℕ → Result (Unit {0}) Failure
+status_of_told true (byte ∷ bytes) = Err Failure.Differs
+status_of_told _ _ = Ok tt
+
+-- what differs between two trees of an image is written, with the status that it asks for; or it is not told, or not written
+abbrev pub DiffEnds : Bool → Result Inquiry Failure → Option (List ℕ) → Result (Unit {0}) Failure → Option (List ℕ) → Option (List ℕ) → Type 0
+DiffEnds exit_code spelled held result old new = ((bytes : List ℕ) × IsAnswer spelled held bytes × Appends old new bytes × (result ≡ status_of_told exit_code bytes))
+    ⊎ ((failure : Failure) × (result ≡ Err failure) × TellEnds spelled held (Err failure) old new)
+
 -- what is told of an image is not had: the words spell nothing, or nothing is told, and no file changes; or it is told, and not
 -- written to a file, or not for good
 abbrev pub NotGot : Result Inquiry Failure → List ℕ → List ℕ → Held → Held → Failure → Type 0
@@ -85,6 +93,10 @@ NotGot spelled name file held saved failure = (IsUnanswered spelled (held name) 
 abbrev pub GetEnds : Result Inquiry Failure → List ℕ → List ℕ → Held → Held → Result (Unit {0}) Failure → Type 0
 GetEnds spelled name file held saved (Ok done) = (takes_away file name ≡ false) × ((bytes : List ℕ) × IsAnswer spelled (held name) bytes × IfSome (saved file) (λ all. all ≡ bytes))
 GetEnds spelled name file held saved (Err failure) = (IsUnclaimed failure × (saved ≡ held)) ⊎ ((takes_away file name ≡ false) × NotGot spelled name file held saved failure)
+
+-- the word of a standard stream in the place of a file
+abbrev pub is_stream : List ℕ → Bool
+is_stream file = bytes_eq file (codes "-")
 
 -- a script is run on a flash in memory
 abbrev pub MemoryEnds : Streams → Result (Unit {0}) Failure → Streams → Type 0
@@ -120,19 +132,6 @@ ServeEnds history answers before (Ok done) after = ServesScript history answers 
 ServeEnds history answers before (Err failure) after = (IsUnreached failure × (after ≡ before))
     ⊎ ((fault : SessionFault) × ServesScript history answers before (Err fault) after × (failure ≡ of_session fault))
 
--- what is printed of a refusal: its word, its number and what it means
-abbrev pub explanation : Fault → List ℕ → List ℕ
-explanation fault meaning = word_of fault ++ codes " " ++ decimal (number_of fault) ++ codes ": " ++ meaning ++ codes "\n"
-
--- what the refusal of a number means is written; or there is no such refusal, or memory is wanted, and nothing is written; or the
--- output fails
-abbrev pub ExplainEnds : ℕ → Result (Unit {0}) Failure → Option (List ℕ) → Option (List ℕ) → Type 0
-ExplainEnds number (Ok done) old new = (fault : Fault) × (meaning : List ℕ) × (number_of fault ≡ number) × Appends old new (explanation fault meaning)
-ExplainEnds number (Err (Failure.Refused refusal)) old new = (refusal ≡ Refusal.Fault Fault.Invalid) × ((fault : Fault) → number_of fault ≡ number → ⊥) × (new ≡ old)
-ExplainEnds number (Err Failure.Memory) old new = new ≡ old
-ExplainEnds number (Err Failure.Output) old new = (fault : Fault) × (meaning : List ℕ) × (n : ℕ) × (number_of fault ≡ number) × Appends old new (take n (explanation fault meaning))
-ExplainEnds number (Err _) old new = ⊥
-
 -- a word of a job; the empty one where it has none
 abbrev pub word_given : Option (Bor (List ℕ)) → List ℕ
 word_given (Some word) = word.now
@@ -151,6 +150,12 @@ pub record OnlyPrints (before after : Host) : Type 0 where
 pub record OnlyWrites (before after : Host) : Type 0 where
   pub unread : after.input ≡ before.input
   pub unprinted : after.out ≡ before.out
+
+-- a file of an image is written to a file of the host, or to the output
+abbrev pub GetsTo : Bool → Job → List ℕ → Host → Result (Unit {0}) Failure → Host → Type 0
+GetsTo true job name before result after = TellEnds (file_spelled (word_given job.path) job.view) (before.files name) result before.out after.out × OnlyPrints before after
+GetsTo false job name before result after = GetEnds (file_spelled (word_given job.path) job.view) name (word_given job.file) before.files after.files result
+    × KeepsOthers (word_given job.file) before.files after.files × OnlyWrites before after
 
 -- the bytes that the file of each name may have where it is claimed
 abbrev pub Claimed : Type 1
@@ -173,22 +178,27 @@ EndsOn job name known before result after = elim (job.command) as (λ task. Type
   | Task.Run ↦ RunEnds job.stop name (known.claimed name) before result after × KeepsOthers name before.files after.files
   | Task.Put ↦ PutEnds name (word_given job.path) (known.claimed name) before.files after.files (known.gathered (word_given job.file) name) result × KeepsOthers name before.files after.files × OnlyWrites before after
   | Task.History call ↦ HistoryEnds (history_spelled call (word_given job.checkpoint) job.count) name (known.claimed name) before.files result after.files × KeepsOthers name before.files after.files × OnlyWrites before after
-  | Task.Get ↦ GetEnds (file_spelled (word_given job.path) job.view) name (word_given job.file) before.files after.files result × KeepsOthers (word_given job.file) before.files after.files × OnlyWrites before after
+  | Task.Get ↦ GetsTo (is_stream (word_given job.file)) job name before result after
+  | Task.Cat ↦ TellEnds (file_spelled (word_given job.path) job.view) (before.files name) result before.out after.out × OnlyPrints before after
   | Task.Tree ↦ TellEnds (tree_spelled job.view) (before.files name) result before.out after.out × OnlyPrints before after
-  | Task.Diff ↦ TellEnds (differences_spelled job.view job.other) (before.files name) result before.out after.out × OnlyPrints before after
+  | Task.Diff ↦ DiffEnds job.exit_code (differences_spelled job.view job.other) (before.files name) result before.out after.out × OnlyPrints before after
   | Task.Versions ↦ TellEnds (Ok Inquiry.Versions) (before.files name) result before.out after.out × OnlyPrints before after
   | Task.Check ↦ CheckEnds (before.files name) result before.out after.out × OnlyPrints before after
   | Task.Log ↦ LookEnds (codes "log\n") (before.files name) result before.out after.out × OnlyPrints before after
   | Task.Df ↦ LookEnds (codes "df\n") (before.files name) result before.out after.out × OnlyPrints before after
   | Task.Memory ↦ MemoryEnds (streams_of before) result (streams_of after) × (after.files ≡ before.files)
   | Task.Serve ↦ ServeEnds (history_given job) (known.written (word_given job.answers)) (streams_of before) result (streams_of after) × (after.files ≡ before.files)
-  | Task.Explain ↦ ExplainEnds job.refusal result before.out after.out × OnlyPrints before after
+  | Task.Explain ↦ ExplainEnds (word_given job.refusal) result before.out after.out × OnlyPrints before after
+  | Task.Help ↦ HelpEnds result before.out after.out × OnlyPrints before after
+  | Task.Version ↦ PrintEnds version_line result before.out after.out × OnlyPrints before after
 ]
 
 -- how a task ends that is done on no file
 abbrev pub EndsAlone : Task → Job → Known → Host → Result (Unit {0}) Failure → Host → Type 0
 EndsAlone Task.Serve job known before result after = ServeEnds (history_given job) (known.written (word_given job.answers)) (streams_of before) result (streams_of after) × (after.files ≡ before.files)
-EndsAlone Task.Explain job known before result after = ExplainEnds job.refusal result before.out after.out × OnlyPrints before after
+EndsAlone Task.Explain job known before result after = ExplainEnds (word_given job.refusal) result before.out after.out × OnlyPrints before after
+EndsAlone Task.Help job known before result after = HelpEnds result before.out after.out × OnlyPrints before after
+EndsAlone Task.Version job known before result after = PrintEnds version_line result before.out after.out × OnlyPrints before after
 EndsAlone _ job known before result after = MemoryEnds (streams_of before) result (streams_of after) × (after.files ≡ before.files)
 
 -- by the file that a job names, if any

@@ -3,7 +3,7 @@ ghost use Rattle.std.specs.Prelude.{◌≡◌, ◌⊎◌, false, Ok, IfOk, OnOk,
 ghost use Rattle.shell.specs.Asking.{file_spelled, tree_spelled, differences_spelled, of_ask, IsMisspelled};
 ghost use Rattle.host_files.specs.Files.{KeepsOthers, takes_away};
 ghost use Rattle.image_jobs.specs.Images.{IsUnclaimed, Unsaved};
-ghost use Rattle.shell.specs.Tools.{IsTold, UntoldCause, TellEnds, GetEnds};
+ghost use Rattle.shell.specs.Tools.{DiffEnds, status_of_told, IsTold, UntoldCause, TellEnds, GetEnds};
 
 use crate::path_word::path_of_word;
 use crate::view_word::view_of_word;
@@ -66,6 +66,23 @@ fn spare_image<F: ImageFiles>(
     }
 }
 
+/// Writes the bytes of the file at a path of an image.
+pub(crate) fn tell_file<F: ImageFiles, W: Write>(
+    files: &F,
+    alloc: Global,
+    name: &str,
+    path: &str,
+    view: Option<&str>,
+    out: &mut W,
+) -> Result<(), Failure>
+    ensures { TellEnds (file_spelled path.now view.entry) (F.held files.now name.now) result (W.contents out.old) (W.contents out.new) }
+{
+    match file_inquiry(alloc, path, view) {
+        Ok(inquiry) => tell_image(files, alloc, name, &inquiry, out),
+        Err(failure) => Err(failure),
+    }
+}
+
 /// Writes a line for each directory and each file of an image.
 pub(crate) fn tell_tree<F: ImageFiles, W: Write>(
     files: &F,
@@ -82,20 +99,54 @@ pub(crate) fn tell_tree<F: ImageFiles, W: Write>(
     }
 }
 
-/// Writes a line for each path at which two trees of an image differ.
+/// Writes a line for each path at which two trees of an image differ. Where the status is to tell it the
+/// job fails if there is one.
 pub(crate) fn tell_differences<F: ImageFiles, W: Write>(
     files: &F,
     alloc: Global,
     name: &str,
     view: Option<&str>,
     other: Option<&str>,
+    exit_code: bool,
     out: &mut W,
 ) -> Result<(), Failure>
-    ensures { TellEnds (differences_spelled view.entry other.entry) (F.held files.now name.now) result (W.contents out.old) (W.contents out.new) }
+    ensures { DiffEnds exit_code (differences_spelled view.entry other.entry) (F.held files.now name.now) result (W.contents out.old) (W.contents out.new) }
 {
     match difference_inquiry(alloc, view, other) {
-        Ok(inquiry) => tell_image(files, alloc, name, &inquiry, out),
+        Ok(inquiry) => tell_with_status(files, alloc, name, &inquiry, exit_code, out),
         Err(failure) => Err(failure),
+    }
+}
+
+/// Writes what is told of an image. Where the status is to tell it the job fails if there is something.
+fn tell_with_status<F: ImageFiles, W: Write>(
+    files: &F,
+    alloc: Global,
+    name: &str,
+    inquiry: &Inquiry,
+    exit_code: bool,
+    out: &mut W,
+) -> Result<(), Failure>
+    ensures { DiffEnds exit_code (Ok inquiry.now) (F.held files.now name.now) result (W.contents out.old) (W.contents out.new) }
+{
+    let bytes = match ask_image(files, alloc, name, inquiry) {
+        Ok(bytes) => bytes,
+        Err(failure) => return Err(failure),
+    };
+    let told = bytes.as_slice();
+    match write_out(out, told) {
+        Ok(()) => status_of_told(exit_code, told),
+        Err(_) => Err(Failure::Output),
+    }
+}
+
+/// Fails where the status is to tell that trees differ, and something is told.
+fn status_of_told(exit_code: bool, bytes: &[u8]) -> Result<(), Failure>
+    ensures { result ≡ status_of_told exit_code bytes.now }
+{
+    match bytes {
+        [_, ..] if exit_code => Err(Failure::Differs),
+        _ => Ok(()),
     }
 }
 

@@ -1,8 +1,7 @@
 //! What the refusals mean.
-ghost use Rattle.std.specs.Prelude.{◌≡◌, ◌++◌, OnOk, IfSome, IfNone};
-ghost use Rattle.fs_types.specs.Faults.{number_of};
-ghost use Rattle.fs_types.specs.declared.fault.Fault.{Fault};
-ghost use Rattle.shell.specs.Tools.{ExplainEnds, explanation};
+ghost use Rattle.std.specs.Prelude.{◌≡◌, ◌++◌, IfOk, OnOk};
+ghost use Rattle.std.specs.List.{filter};
+ghost use Rattle.shell.specs.Explained.{ExplainEnds, PrintsAny, TellsEach, explanation, is_meant};
 
 use fs_types::Fault;
 use image_jobs::Failure;
@@ -11,22 +10,85 @@ use script_runs::Refusal;
 use std::alloc::{AllocError, Global};
 use std::io::Write;
 
-/// Writes what the refusal of a number means. Refused by [`Fault::Invalid`] where no refusal has it.
-pub(crate) fn explain<W: Write>(alloc: Global, number: u32, out: &mut W) -> Result<(), Failure>
-    ensures { ExplainEnds number result (W.contents out.old) (W.contents out.new) }
+/// The refusals, in the order of their numbers.
+const FAULTS: [Fault; 31] = [
+    Fault::NoEntry,
+    Fault::NotDirectory,
+    Fault::IsDirectory,
+    Fault::Exists,
+    Fault::NotEmpty,
+    Fault::NotPermitted,
+    Fault::Invalid,
+    Fault::NameTooLong,
+    Fault::TooBig,
+    Fault::BadDescriptor,
+    Fault::TooManyOpen,
+    Fault::Busy,
+    Fault::DirectoryFull,
+    Fault::CheckpointsFull,
+    Fault::FlashFull,
+    Fault::ReadOnly,
+    Fault::NothingToUndo,
+    Fault::TooOld,
+    Fault::NothingToRedo,
+    Fault::NoSuchVersion,
+    Fault::Discarded,
+    Fault::Overflow,
+    Fault::ReadFailed,
+    Fault::PowerCut,
+    Fault::NoMemory,
+    Fault::Damaged,
+    Fault::NoRecord,
+    Fault::BadGeometry,
+    Fault::NoAnchors,
+    Fault::NoGroup,
+    Fault::InGroup,
+];
+
+/// Writes what the refusal of this number means, or each that has this word, in the order of their
+/// numbers. Refused by [`Fault::Invalid`] where none is meant.
+pub(crate) fn explain<W: Write>(alloc: Global, word: &str, out: &mut W) -> Result<(), Failure>
+    ensures { ExplainEnds word.now result (W.contents out.old) (W.contents out.new) }
 {
-    let Some(fault) = fault_numbered(number) else {
-        return Err(Failure::Refused(Refusal::Fault(Fault::Invalid)));
-    };
+    match text_of_meant(alloc, &FAULTS, word) {
+        Ok(text) => print_any(out, text.as_slice()),
+        Err(_) => Err(Failure::Memory),
+    }
+}
+
+/// Writes a text; refused by [`Fault::Invalid`] where it has no byte.
+fn print_any<W: Write>(out: &mut W, text: &[u8]) -> Result<(), Failure>
+    ensures { PrintsAny text.now result (W.contents out.old) (W.contents out.new) }
+{
+    match text {
+        [] => Err(Failure::Refused(Refusal::Fault(Fault::Invalid))),
+        _ => match write_out(out, text) {
+            Ok(()) => Ok(()),
+            Err(_) => Err(Failure::Output),
+        },
+    }
+}
+
+/// A line for each of these refusals that is meant, in order.
+fn text_of_meant(alloc: Global, faults: &[Fault], word: &str) -> Result<Vec<u8>, AllocError>
+    ensures { IfOk result (λ text. TellsEach (filter (is_meant word.now) faults.now) text.items) }
+{
     let mut text = Vec::new(alloc);
-    match print_explanation(&mut text, fault, meaning_of(fault)) {
-        Ok(()) => {}
-        Err(_) => return Err(Failure::Memory),
+    for fault in faults {
+        if is_meant(alloc, word, *fault)? {
+            print_explanation(&mut text, *fault, meaning_of(*fault))?;
+        }
     }
-    match write_out(out, &text) {
-        Ok(()) => Ok(()),
-        Err(_) => Err(Failure::Output),
-    }
+    Ok(text)
+}
+
+/// Whether a word is the number of a refusal or its word.
+fn is_meant(alloc: Global, word: &str, fault: Fault) -> Result<bool, AllocError>
+    ensures { IfOk result (λ meant. meant ≡ is_meant word.now fault) }
+{
+    let number = fault.number();
+    let number = format!(in alloc; "{number}")?;
+    Ok(number.as_str() == word || fault.word() == word)
 }
 
 /// Appends the line that tells what a refusal means.
@@ -40,47 +102,6 @@ fn print_explanation(text: &mut Vec<u8>, fault: Fault, meaning: &str) -> Result<
     text.extend_from_slice(meaning.as_bytes())?;
     text.push(b'\n')?;
     Ok(())
-}
-
-/// The refusal of a number.
-fn fault_numbered(number: u32) -> Option<Fault>
-    ensures some { IfSome result (λ fault. number_of fault ≡ number) }
-    ensures none { IfNone result ((fault : Fault) → number_of fault ≡ number → ⊥) }
-{
-    match number {
-        1 => Some(Fault::NoEntry),
-        2 => Some(Fault::NotDirectory),
-        3 => Some(Fault::IsDirectory),
-        4 => Some(Fault::Exists),
-        5 => Some(Fault::NotEmpty),
-        6 => Some(Fault::NotPermitted),
-        7 => Some(Fault::Invalid),
-        8 => Some(Fault::NameTooLong),
-        9 => Some(Fault::TooBig),
-        10 => Some(Fault::BadDescriptor),
-        11 => Some(Fault::TooManyOpen),
-        12 => Some(Fault::Busy),
-        13 => Some(Fault::DirectoryFull),
-        14 => Some(Fault::CheckpointsFull),
-        15 => Some(Fault::FlashFull),
-        16 => Some(Fault::ReadOnly),
-        17 => Some(Fault::NothingToUndo),
-        18 => Some(Fault::TooOld),
-        19 => Some(Fault::NothingToRedo),
-        20 => Some(Fault::NoSuchVersion),
-        21 => Some(Fault::Discarded),
-        22 => Some(Fault::Overflow),
-        23 => Some(Fault::ReadFailed),
-        24 => Some(Fault::PowerCut),
-        25 => Some(Fault::NoMemory),
-        26 => Some(Fault::Damaged),
-        27 => Some(Fault::NoRecord),
-        28 => Some(Fault::BadGeometry),
-        29 => Some(Fault::NoAnchors),
-        30 => Some(Fault::NoGroup),
-        31 => Some(Fault::InGroup),
-        _ => None,
-    }
 }
 
 /// What a refusal means, and what can be done.

@@ -1,8 +1,10 @@
 //! The whole program: its words, what is done on the files of images, and its statuses.
 #![tactic(auto)]
 
+mod about;
 mod asking;
 mod explanations;
+mod get;
 mod path_word;
 mod place;
 mod process;

@@ -6,8 +6,10 @@ ghost use Rattle.script_runs.specs.Scripts.{streams_at};
 ghost use Rattle.image_jobs.specs.Images.{host_at};
 ghost use Rattle.shell.specs.Tools.{known_by, EndsOn, JobEnds, MemoryEnds, ToolEnds, MemoryBy, sizes_of, word_given, refused_status, is_memory};
 
-use crate::asking::{get_file, tell_differences, tell_tree, tell_versions};
+use crate::about::{tell_help, tell_version};
+use crate::asking::{tell_differences, tell_file, tell_tree, tell_versions};
 use crate::explanations::explain;
+use crate::get::get_to;
 use crate::put::{Order, put_into_image};
 use crate::serving::serve_part;
 use clap::Error;
@@ -27,7 +29,7 @@ use std::io::{Read, Write};
 /// Status 0: the job ran to its end, whatever the replies to a script. 1: the image, the input, the
 /// output or memory failed. 2: the words were refused, or help was asked for. 3: the image, a format
 /// or a mount was refused. 4: what was asked for was refused, or a line of a script that is to stop
-/// there. Where it is not 0, `err` says why.
+/// there. 5: trees differ, where the status is to tell it. Where it is 1 to 4, `err` says why.
 pub fn tool<F: ImageFiles + Sources + Channels, R: Read, W: Write, E: Write>(
     files: &mut F,
     alloc: Global,
@@ -100,7 +102,9 @@ fn carry_out<F: ImageFiles + Sources + Channels, R: Read, W: Write, E: Write>(
     match job.image {
         Some(name) => do_task(files, alloc, job, name, reader, out, err),
         None => match job.command {
-            Task::Explain => explain(alloc, job.refusal, out),
+            Task::Explain => explain(alloc, word_given(job.refusal), out),
+            Task::Help => tell_help(alloc, out),
+            Task::Version => tell_version(alloc, out),
             Task::Serve => serve_part(files, alloc, job, reader, out),
             _ => play_in_memory(alloc, reader, out),
         },
@@ -127,20 +131,22 @@ fn do_task<F: ImageFiles + Sources + Channels, R: Read, W: Write, E: Write>(
             let checkpoint = word_given(job.checkpoint);
             change_history(files, alloc, name, call, checkpoint, job.count)
         }
-        Task::Get => {
-            let path = word_given(job.path);
-            let file = word_given(job.file);
-            get_file(files, alloc, name, path, job.view, file)
-        }
+        Task::Get => get_to(files, alloc, job, name, out),
+        Task::Cat => tell_file(files, alloc, name, word_given(job.path), job.view, out),
         Task::Tree => tell_tree(files, alloc, name, job.view, out),
-        Task::Diff => tell_differences(files, alloc, name, job.view, job.other, out),
+        Task::Diff => {
+            let exit_code = job.exit_code;
+            tell_differences(files, alloc, name, job.view, job.other, exit_code, out)
+        }
         Task::Versions => tell_versions(files, alloc, name, out),
         Task::Check => check_image(files, alloc, name, out),
         Task::Log => look_at_image(files, alloc, name, b"log\n", out),
         Task::Df => look_at_image(files, alloc, name, b"df\n", out),
         Task::Memory => play_in_memory(alloc, reader, out),
         Task::Serve => serve_part(files, alloc, job, reader, out),
-        Task::Explain => explain(alloc, job.refusal, out),
+        Task::Explain => explain(alloc, word_given(job.refusal), out),
+        Task::Help => tell_help(alloc, out),
+        Task::Version => tell_version(alloc, out),
     }
 }
 

@@ -402,7 +402,6 @@ fn words_that_ask_for_no_job_are_told(rt: HostRuntime) -> Result<(), Fail> {
         (none, "Usage: uffs <COMMAND>"),
         (&["--help"], "Usage: uffs <COMMAND>"),
         (&["--version"], "uffs 0.1.0\n"),
-        (&["help"], "error: unrecognized subcommand 'help'"),
         (&["mount", "x"], "error: unrecognized subcommand 'mount'"),
         (&["run"], "<IMAGE>"),
         (&["memory", "x"], "error: unexpected argument 'x' found"),
@@ -425,6 +424,19 @@ fn words_that_ask_for_no_job_are_told(rt: HostRuntime) -> Result<(), Fail> {
         assert!(rt; given.err.contains(text), "{text}");
     }
     assert_eq!(rt; files.bytes.len(), 0);
+    Ok(())
+}
+
+#[test]
+fn help_and_the_version_are_printed(rt: HostRuntime) -> Result<(), Fail> {
+    let alloc = rt.alloc();
+    let mut files = OneFile::new(alloc);
+    for (word, flag) in [("help", "--help"), ("version", "--version")] {
+        let printed = call(&mut files, alloc, &[word], "")?;
+        let told = call(&mut files, alloc, &[flag], "")?;
+        assert_eq!(rt; (printed.status, printed.err.as_str()), (0, ""));
+        assert_eq!(rt; printed.out.as_str(), told.err.as_str());
+    }
     Ok(())
 }
 

@@ -1,14 +1,15 @@
 use Rattle.std.proofs.Common.{◌∙◌, ap, codes}
 use Rattle.std.proofs.lemmas.Result.{IfOk-weaker}
 use Rattle.clap.specs.Words.{with_rule}
-use Rattle.jobs.specs.Grammar.{optional_rule, word_rule}
+use Rattle.jobs.specs.Grammar.{flag_rule, optional_rule, word_rule}
 use Rattle.jobs.proofs.grammar.diff_command.Goals as goal
 
 pub returns-clause-app : goal.returns-clause-app
 returns-clause-app c =
     let view = c.in_ok-command-2.ensures.app ∙ ap (λ a. with_rule a (word_rule (codes "VIEW"))) c.in_ok-command.ensures.app in
-    IfOk-weaker c.with_optional_word.result _ _ (λ more is. is ∙ ap (λ a. with_rule a (optional_rule (codes "OTHER"))) view) c.with_optional_word.ensures.app
+    let other = c.in_ok-command-3.ensures.app ∙ ap (λ a. with_rule a (optional_rule (codes "OTHER"))) view in
+    IfOk-weaker c.with_flag.result _ _ (λ more is. is ∙ ap (λ a. with_rule a (flag_rule (codes "exit-code"))) other) c.with_flag.ensures.app
 
 pub returns-clause-local : goal.returns-clause-local
 returns-clause-local c =
-    IfOk-weaker c.with_optional_word.result _ _ (λ more is. is ∙ c.in_ok-command-2.ensures.local ∙ c.in_ok-command.ensures.local) c.with_optional_word.ensures.local
+    IfOk-weaker c.with_flag.result _ _ (λ more is. is ∙ c.in_ok-command-3.ensures.local ∙ c.in_ok-command-2.ensures.local ∙ c.in_ok-command.ensures.local) c.with_flag.ensures.local

@@ -6,8 +6,7 @@ returns-clause-some c = record {
   pages = c.in_ok-number-2.ensures.some;
   blocks = c.in_ok-number-3.ensures.some;
   history = c.in_ok-number-4.ensures.some;
-  refusal = c.in_ok-number-5.ensures.some;
-  count = c.in_ok-number-6.ensures.some;
+  count = c.in_ok-number-5.ensures.some;
 }
 
 pub returns-in_err-number-clause-none : goal.returns-in_err-number-clause-none
@@ -23,7 +22,4 @@ pub returns-in_err-number-4-clause-none : goal.returns-in_err-number-4-clause-no
 returns-in_err-number-4-clause-none c = rw c.from_residual-in_err-number-4.ensures (λ numbers are. c.in_err-number-4.ensures.none numbers.history are.history)
 
 pub returns-in_err-number-5-clause-none : goal.returns-in_err-number-5-clause-none
-returns-in_err-number-5-clause-none c = rw c.from_residual-in_err-number-5.ensures (λ numbers are. c.in_err-number-5.ensures.none numbers.refusal are.refusal)
-
-pub returns-in_err-number-6-clause-none : goal.returns-in_err-number-6-clause-none
-returns-in_err-number-6-clause-none c = rw c.from_residual-in_err-number-6.ensures (λ numbers are. c.in_err-number-6.ensures.none numbers.count are.count)
+returns-in_err-number-5-clause-none c = rw c.from_residual-in_err-number-5.ensures (λ numbers are. c.in_err-number-5.ensures.none numbers.count are.count)

@@ -1,12 +1,12 @@
-use Rattle.std.proofs.Common.{inl, refl}
+use Rattle.std.proofs.Common.{inl, inr, refl}
 use Rattle.shell.specs.Asking.{differences_spelled}
-use Rattle.shell.proofs.AskLemmas.{told_spelled}
+use Rattle.shell.proofs.AskLemmas.{diff_spelled}
 use Rattle.shell.proofs.asking.tell_differences.Goals as goal
 
 pub returns-in-Ok : goal.returns-in-Ok
 returns-in-Ok g c =
-    told_spelled (differences_spelled c.args.view c.args.other) c.in-Ok.inquiry (g.F.ImageFiles.held c.args.files.now c.args.name.now) c.tell_image.result
-    (g.W.Write.contents c.args.out.now) (g.W.Write.contents c.tell_image.new.out) c.in-Ok.ensures.ok c.tell_image.ensures
+    diff_spelled c.args.exit_code (differences_spelled c.args.view c.args.other) c.in-Ok.inquiry (g.F.ImageFiles.held c.args.files.now c.args.name.now) c.tell_with_status.result
+    (g.W.Write.contents c.args.out.now) (g.W.Write.contents c.tell_with_status.new.out) c.in-Ok.ensures.ok c.tell_with_status.ensures
 
 pub returns-in-Err : goal.returns-in-Err
-returns-in-Err g c = inl (inl c.in-Err.ensures.err, refl)
+returns-in-Err g c = inr (c.in-Err.failure, refl, inl (inl c.in-Err.ensures.err, refl))

@@ -102,6 +102,9 @@ fn a_folder_is_put_as_one_version(rt: HostRuntime) -> Result<(), Fail> {
     assert_given(&rt, &["run", image], lines, (0, replies, ""))?;
     let told = "uffs: 42 of 42\n";
     assert_put(&rt, image, source.as_str(), told)?;
+    let before = fs::read(&rt, image)?;
+    assert_put(&rt, image, source.as_str(), told)?;
+    assert_eq!(rt; fs::read(&rt, image)?.as_slice(), before.as_slice());
     let looked =
         "stat /below\nread /below/file0007 0 9\nread /below/file0039 0 9\nlog\nundo\nstat /below\nread /below/file0007 0 9\n";
     let seen =

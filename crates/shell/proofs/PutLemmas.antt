@@ -1,5 +1,5 @@
 -- Events of a put, one after the other, and what comes of them.
-use Rattle.std.proofs.Common.{◌≡◌, ◌<◌, ◌+◌, ◌≤◌, ℕ, List, [], ◌∷◌, ◌++◌, take, drop, map, length, get_or, Option, Some, None, Result, Ok, Err, false, IfSome, IfErr, OnOk, ◌⊎◌, inl, inr, refl, sym, ap, ◌∙◌, subst, append_assoc, append-nil, take_all, take-append-drop}
+use Rattle.std.proofs.Common.{◌≡◌, ◌<◌, ◌+◌, ◌≤◌, ℕ, List, [], ◌∷◌, ◌++◌, take, drop, map, length, get_or, Option, Some, None, Result, Ok, Err, Bool, true, false, if◌then◌else◌, IfSome, IfErr, OnOk, ◌⊎◌, inl, inr, refl, sym, ap, ◌∙◌, subst, append_assoc, append-nil, take_all, take-append-drop}
 use Rattle.std.specs.List.{flat_map, Contains}
 use Rattle.std.proofs.lemmas.List.{take_more, map_more, map-append}
 use Rattle.std.proofs.lemmas.List.Concat.{flat_map-append}
@@ -21,8 +21,8 @@ use Rattle.undofs.specs.Sessions.{Stands, world}
 use Rattle.undofs.proofs.SessionSteps.{mount_begins, serve_law}
 use Rattle.image_jobs.specs.Failures.{of_refusal}
 use Rattle.host_files.specs.Files.{Held, AreBytesRead, takes_away}
-use Rattle.shell.specs.Puts.{thing_events, group_start, group_end, put_events, stop_of, GoOn, StopLast, IsThingBy, IsThing, AreThings, Puts, Stops, IsUnput, PlaceCause, PutsBy, PutCause, GatherCause, SpellingCause, path_spelled}
-use Rattle.shell.specs.Served.{Place, place, Turns, ServesAll, Halts, ServesPut, PutsOne, PutsEach, PutsAll}
+use Rattle.shell.specs.Puts.{thing_events, group_start, group_events, group_end, is_due, stop_of, GoOn, StopLast, IsThingBy, IsThing, AreThings, Puts, StopsWithin, StopsAtEnd, IsUnput, PlaceCause, PutsBy, PutCause, GatherCause, SpellingCause, path_spelled}
+use Rattle.shell.specs.Served.{Place, place, Turns, ServesAll, Halts, ServesPut, PutsOne, PutsEach, PutsGroup, EndsGroup, PutsAll}
 use Rattle.host_files.specs.Sources.{Found, source_found}
 use Rattle.shell.specs.Places.{put_place, way_fault, kind_fault, either_fault, source_fault, Unplaced, AreOthers}
 use Rattle.script_runs.specs.Flashes.{IsDecoded}
@@ -149,44 +149,28 @@ puts_broken held base sources i source p q r failure below is (things, are, pass
 
 -- it does not begin
 pub unbegun : (held : Held) (base : Path) (all : List Found) (p q : Place) (refusal : Refusal) (failure : Failure) → ServesPut p group_start (Err refusal) q → failure ≡ of_refusal refusal
-    → PutsAll held base all p (Err failure) q
+    → PutsGroup held base all p (Err failure) q
 unbegun held base all p q refusal failure (made, rest, begins, halts) why =
-    inr (inr ([], all, [], made, rest ++ group_end, refusal, refl, tt, ap (λ (x : List Event). x ++ group_end) begins ∙ append_assoc made rest group_end, halts, why))
+    inr (inr ([], all, [], made, rest, refusal, refl, tt, begins, halts, why))
 
-pub broken_within : (held : Held) (base : Path) (all : List Found) (p q r : Place) (failure : Failure) → ServesAll p group_start q → PutsEach held base all q (Err failure) r
-    → PutsAll held base all p (Err failure) r
-broken_within held base all p q r failure begun (inl memory) = inl memory
-broken_within held base all p q r failure begun (inr (inl cause)) = inr (inl cause)
-broken_within held base all p q r failure begun (inr (inr (first, later, things, made, rest, refusal, parts, are, begins, halts, why))) =
-    let is : put_events things ≡ (group_start ++ made) ++ (rest ++ group_end) =
-    ap (λ (x : List Event). group_start ++ x ++ group_end) begins ∙ ap (λ (x : List Event). x ++ group_end) (sym (append_assoc group_start made rest)) ∙ append_assoc (group_start ++ made) rest group_end in
-    inr (inr (first, later, things, group_start ++ made, rest ++ group_end, refusal, parts, are, is, halts_more p q r group_start made refusal begun halts, why))
+-- it begins, and sources are put in it
+pub grouped : (held : Held) (base : Path) (all : List Found) (p q r : Place) (result : Result (Unit {0}) Failure) → ServesAll p group_start q → PutsEach held base all q result r
+    → PutsGroup held base all p result r
+grouped held base all p q r (Ok done) begun (things, are, passes) = (things, are, passes_more p q r group_start (flat_map thing_events things) begun passes)
+grouped held base all p q r (Err failure) begun (inl memory) = inl memory
+grouped held base all p q r (Err failure) begun (inr (inl cause)) = inr (inl cause)
+grouped held base all p q r (Err failure) begun (inr (inr (first, later, things, made, rest, refusal, parts, are, begins, halts, why))) =
+    let is : group_events things ≡ (group_start ++ made) ++ rest = ap (λ (x : List Event). group_start ++ x) begins ∙ sym (append_assoc group_start made rest) in
+    inr (inr (first, later, things, group_start ++ made, rest, refusal, parts, are, is, halts_more p q r group_start made refusal begun halts, why))
 
--- all of it is carried out, or its end is refused
-pub group_ends : (held : Held) (base : Path) (all : List Found) (p q r s : Place) → ServesAll p group_start q → PutsEach held base all q (Ok tt) r → ServesPut r group_end (Ok tt) s
-    → PutsAll held base all p (Ok tt) s
-group_ends held base all p q r s begun (things, are, passes) ended =
-    let within : ServesAll p (group_start ++ flat_map thing_events things) r = passes_more p q r group_start (flat_map thing_events things) begun passes in
-    (things, are, passes_more p r s (group_start ++ flat_map thing_events things) group_end within ended)
-
-pub group_unended : (held : Held) (base : Path) (all : List Found) (p q r s : Place) (refusal : Refusal) (failure : Failure) → ServesAll p group_start q → PutsEach held base all q (Ok tt) r
-    → ServesPut r group_end (Err refusal) s → failure ≡ of_refusal refusal → PutsAll held base all p (Err failure) s
-group_unended held base all p q r s refusal failure begun (things, are, passes) (made, rest, begins, halts) why =
-    let within : List Event = group_start ++ flat_map thing_events things in
-    let done : ServesAll p within r = passes_more p q r group_start (flat_map thing_events things) begun passes in
-    inr (inr (
-      all,
-      [],
-      things,
-      within ++ made,
-      rest,
-      refusal,
-      sym (append-nil all),
-      are,
-      ap (λ (x : List Event). within ++ x) begins ∙ sym (append_assoc within made rest),
-      halts_more p r s within made refusal done halts,
-      why,
-    ))
+-- so many events end it
+pub ended_by : (p q : Place) (result : Result (Unit {0}) Refusal) (due : Bool) (count : ℕ) → due ≡ is_due p.system → count ≡ (if due then 2 else 1) → ServesPut p (take count (group_end true)) result q
+    → EndsGroup p result q
+ended_by p q result due count is so h = by due is (subst (λ (n : ℕ). ServesPut p (take n (group_end true)) result q) so h)
+  where
+    by : (due : Bool) → due ≡ is_due p.system → ServesPut p (take (if due then 2 else 1) (group_end true)) result q → EndsGroup p result q
+    by true is h = subst (λ (x : Bool). ServesPut p (group_end x) result q) is h
+    by false is h = subst (λ (x : Bool). ServesPut p (group_end x) result q) is h
 
 -- ---- sessions
 
@@ -216,27 +200,55 @@ stop_last (e ∷ []) (a ∷ []) event answer refusal h is = (h.0, is)
 stop_last (e ∷ []) (a ∷ other ∷ answers) event answer refusal h is = absurd h.1
 stop_last (e ∷ next ∷ events) (a ∷ answers) event answer refusal h is = (h.0, stop_last (next ∷ events) answers event answer refusal h.1 is)
 
-pub put_session : (start mid : SimFlash) (m : System) (end : Mounted) (things : List Thing) → OnlyReads (device_of start) (device_of mid) → IsMountOf (device_of start) (device_of mid) m
-    → IsSystem (device_of mid) m → ServesAll (record { device = device_of mid; system = Some m }) (put_events things) (place end) → Puts start things end.flash
-put_session start mid m end things reads begins system passes =
+pub put_session : (start mid : SimFlash) (m : System) (inside : Place) (end : Mounted) (things : List Thing) → OnlyReads (device_of start) (device_of mid) → IsMountOf (device_of start) (device_of mid) m
+    → IsSystem (device_of mid) m → ServesAll (record { device = device_of mid; system = Some m }) (group_events things) inside → EndsGroup inside (Ok tt) (place end) → Puts start things end.flash
+put_session start mid m inside end things reads begins system passes ended =
     let first = mount_begins (device_of start) (device_of mid) m reads begins system in
-    let all = passes_run (record { device = device_of mid; system = Some m }) (place end) (put_events things) passes (first.0 ∷ []) first.3 in
-    (all.1, world (device_of end.flash) end.system all.0, (first.0, world (device_of mid) (Some m) (first.0 ∷ []), first.1, first.2, all.2), refl, all.3)
-
-pub stopped_session : (start mid : SimFlash) (m : System) (q : Place) (things : List Thing) (made rest : List Event) (refusal : Refusal) → OnlyReads (device_of start) (device_of mid)
-    → IsMountOf (device_of start) (device_of mid) m → IsSystem (device_of mid) m → put_events things ≡ made ++ rest → Halts (record { device = device_of mid; system = Some m }) made refusal q
-    → Stops start things refusal
-stopped_session start mid m q things made rest refusal reads begins system is h =
-    let first = mount_begins (device_of start) (device_of mid) m reads begins system in
-    let all = passes_run (record { device = device_of mid; system = Some m }) h.between h.earlier h.passes (first.0 ∷ []) first.3 in
-    let one = serve_law h.between.device q.device h.between.system q.system h.last h.answer all.0 h.turns all.4 in
+    let all = passes_run (record { device = device_of mid; system = Some m }) inside (group_events things) passes (first.0 ∷ []) first.3 in
+    let last = passes_run inside (place end) (group_end (is_due inside.system)) ended all.0 all.4 in
     let u : World = world (device_of mid) (Some m) (first.0 ∷ []) in
+    let w : World = world inside.device inside.system all.0 in (
+      w,
+      world (device_of end.flash) end.system last.0,
+      last.1,
+      record { answers = all.1; run = (first.0, u, first.1, first.2, all.2); goes = all.3 },
+      last.2,
+      refl,
+      last.3,
+    )
+
+-- from a world on, the first of some events are carried out, and the answer to the last of them ends the put
+halted_run : (p q : Place) (made : List Event) (refusal : Refusal) (found : List (Past Tree)) → Stands (world p.device p.system found) → Halts p made refusal q
+    → (w : World) × (answers : List Answer) × Run (world p.device p.system found) made answers w × StopLast made answers refusal
+halted_run p q made refusal found stands h =
+    let all = passes_run p h.between h.earlier h.passes found stands in
+    let one = serve_law h.between.device q.device h.between.system q.system h.last h.answer all.0 h.turns all.4 in
+    let u : World = world p.device p.system found in
     let v : World = world h.between.device h.between.system all.0 in
     let w : World = world q.device q.system one.0 in
     let answers : List Answer = all.1 ++ h.answer ∷ [] in
     let run : Run u made answers w = subst (λ (x : List Event). Run u x answers w) (sym h.are) (run_more u v w h.earlier all.1 h.last h.answer all.2 one.1) in
     let last : StopLast made answers refusal = subst (λ (x : List Event). StopLast x answers refusal) (sym h.are) (stop_last h.earlier all.1 h.last h.answer refusal all.3 h.stops) in
-    (made, rest, answers, w, is, (first.0, u, first.1, first.2, run), last)
+    (w, answers, run, last)
+
+pub stopped_session : (start mid : SimFlash) (m : System) (q : Place) (things : List Thing) (made rest : List Event) (refusal : Refusal) → OnlyReads (device_of start) (device_of mid)
+    → IsMountOf (device_of start) (device_of mid) m → IsSystem (device_of mid) m → group_events things ≡ made ++ rest → Halts (record { device = device_of mid; system = Some m }) made refusal q
+    → StopsWithin start things refusal
+stopped_session start mid m q things made rest refusal reads begins system is h =
+    let first = mount_begins (device_of start) (device_of mid) m reads begins system in
+    let all = halted_run (record { device = device_of mid; system = Some m }) q made refusal (first.0 ∷ []) first.3 h in
+    let u : World = world (device_of mid) (Some m) (first.0 ∷ []) in
+    (made, rest, all.1, all.0, is, (first.0, u, first.1, first.2, all.2), all.3)
+
+pub unended_session : (start mid : SimFlash) (m : System) (inside q : Place) (things : List Thing) (refusal : Refusal) → OnlyReads (device_of start) (device_of mid) → IsMountOf (device_of start) (device_of mid) m
+    → IsSystem (device_of mid) m → ServesAll (record { device = device_of mid; system = Some m }) (group_events things) inside → EndsGroup inside (Err refusal) q → StopsAtEnd start things refusal
+unended_session start mid m inside q things refusal reads begins system passes (made, rest, is, h) =
+    let first = mount_begins (device_of start) (device_of mid) m reads begins system in
+    let all = passes_run (record { device = device_of mid; system = Some m }) inside (group_events things) passes (first.0 ∷ []) first.3 in
+    let last = halted_run inside q made refusal all.0 all.4 h in
+    let u : World = world (device_of mid) (Some m) (first.0 ∷ []) in
+    let w : World = world inside.device inside.system all.0 in
+    (w, last.0, made, rest, last.1, record { answers = all.1; run = (first.0, u, first.1, first.2, all.2); goes = all.3 }, is, last.2, last.3)
 
 -- ---- one source
 
@@ -277,15 +289,18 @@ one_stopped held base found thing events lent p q refusal failure is same are (m
 pub all_put : (IsThere : SimFlash → Type 0) (held : Held) (base : Path) (all : List Found) (start mid : SimFlash) (m : System) (end : Mounted) → IsThere start
     → OnlyReads (device_of start) (device_of mid) → IsMountOf (device_of start) (device_of mid) m → IsSystem (device_of mid) m
     → PutsAll held base all (record { device = device_of mid; system = Some m }) (Ok tt) (place end) → PutsBy IsThere held base all start end.flash
-all_put IsThere held base all start mid m end there reads begins system (things, are, passes) = (things, there, are, put_session start mid m end things reads begins system passes)
+all_put IsThere held base all start mid m end there reads begins system (inside, (things, are, passes), ended) =
+    (things, there, are, put_session start mid m inside end things reads begins system passes ended)
 
 pub not_put : (IsThere : SimFlash → Type 0) (Cause : Failure → Type 0) (held : Held) (base : Path) (all : List Found) (start mid : SimFlash) (m : System) (q : Place) (failure : Failure) → IsThere start
     → OnlyReads (device_of start) (device_of mid) → IsMountOf (device_of start) (device_of mid) m → IsSystem (device_of mid) m
     → PutsAll held base all (record { device = device_of mid; system = Some m }) (Err failure) q → PutCause IsThere Cause held base all failure
-not_put IsThere Cause held base all start mid m q failure there reads begins system (inl memory) = inr (inl memory)
-not_put IsThere Cause held base all start mid m q failure there reads begins system (inr (inl cause)) = inr (inr (inl cause))
-not_put IsThere Cause held base all start mid m q failure there reads begins system (inr (inr (first, later, things, made, rest, refusal, parts, are, is, halts, why))) =
-    inr (inr (inr (inr (start, first, later, things, refusal, there, parts, are, stopped_session start mid m q things made rest refusal reads begins system is halts, why))))
+not_put IsThere Cause held base all start mid m q failure there reads begins system (inl (inl memory)) = inr (inl memory)
+not_put IsThere Cause held base all start mid m q failure there reads begins system (inl (inr (inl cause))) = inr (inr (inl cause))
+not_put IsThere Cause held base all start mid m q failure there reads begins system (inl (inr (inr (first, later, things, made, rest, refusal, parts, are, is, halts, why)))) =
+    inr (inr (inr (inr (start, first, later, things, refusal, there, parts, are, inl (stopped_session start mid m q things made rest refusal reads begins system is halts), why))))
+not_put IsThere Cause held base all start mid m q failure there reads begins system (inr (inside, refusal, (things, are, passes), ended, why)) =
+    inr (inr (inr (inr (start, all, [], things, refusal, there, sym (append-nil all), are, inr (unended_session start mid m inside q things refusal reads begins system passes ended), why))))
 
 -- ---- the image
 

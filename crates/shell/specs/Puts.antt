@@ -1,6 +1,8 @@
 -- Files of the host that are put into an image, all in one change group.
-use Rattle.std.specs.Prelude.{◌≡◌, ◌⊎◌, ℕ, Bool, true, false, Option, Some, None, Result, Ok, Err, IfSome, List, [], ◌∷◌, ◌++◌, codes, Contains, if◌then◌else◌}
+use Rattle.std.specs.Prelude.{◌≡◌, ◌⊎◌, ℕ, Bool, true, false, Option, Some, None, is_some, Result, Ok, Err, IfSome, List, [], ◌∷◌, ◌++◌, codes, Contains, if◌then◌else◌}
 use Rattle.std.specs.List.{flat_map}
+use Rattle.std.specs.Option.{option_and_then}
+use Rattle.history_machine.specs.History.{due_root}
 use Rattle.fs_types.specs.Names.{Path}
 use Rattle.fs_types.specs.declared.call.Call.{Call}
 use Rattle.fs_types.specs.declared.call.Reply.{Reply}
@@ -13,7 +15,8 @@ use Rattle.flash_model.specs.Simulation.{device_of}
 use Rattle.flash_model.specs.declared.sim_flash.SimFlash.{SimFlash}
 use Rattle.script.specs.Lines.{line_of}
 use Rattle.script.specs.declared.line.Line.{Line}
-use Rattle.undofs.specs.Runs.{World}
+use Rattle.system.specs.declared.systems.System.{System}
+use Rattle.undofs.specs.Runs.{World, Run}
 use Rattle.undofs.specs.Sessions.{Session}
 use Rattle.image_jobs.specs.Failures.{of_system, of_refusal}
 use Rattle.host_files.specs.Files.{Held, AreBytesRead}
@@ -31,15 +34,21 @@ abbrev pub thing_events : Thing → List Event
 thing_events (Thing.Directory path) = Event.Call (Call.Mkdir path) ∷ Event.Call (Call.Stat View.Present path) ∷ []
 thing_events (Thing.File path bytes) = Event.Call (Call.WriteFile path bytes) ∷ []
 
--- one change group, which is synced
+-- things are put in one change group
 abbrev pub group_start : List Event
 group_start = Event.Call Call.Begin ∷ []
 
-abbrev pub group_end : List Event
-group_end = Event.Call Call.End ∷ Event.Call Call.Sync ∷ []
+abbrev pub group_events : List Thing → List Event
+group_events things = group_start ++ flat_map thing_events things
 
-abbrev pub put_events : List Thing → List Event
-put_events things = group_start ++ flat_map thing_events things ++ group_end
+-- whether a version is due in the group that is open, if one is
+abbrev pub is_due : Option System → Bool
+is_due system = is_some (option_and_then (λ s. due_root s.state.group) system)
+
+-- the group is ended, and synced where a version is due
+abbrev pub group_end : Bool → List Event
+group_end true = Event.Call Call.End ∷ Event.Call Call.Sync ∷ []
+group_end false = Event.Call Call.End ∷ []
 
 abbrev pub makes_directory : Call → Bool
 makes_directory (Call.Mkdir path) = true
@@ -90,15 +99,29 @@ AreThings held base [] [] = Unit {0}
 AreThings held base (found ∷ all) (thing ∷ things) = IsThing held base found thing × AreThings held base all things
 AreThings held base _ _ = ⊥
 
--- what is mounted on a flash carries out all events of a put, and no answer ends it
-abbrev pub Puts : SimFlash → List Thing → SimFlash → Type 0
-Puts start things end = (answers : List Answer) × (v : World) × Session (device_of start) (put_events things) (Answer.Mounted ∷ answers) v
-    × (v.device ≡ device_of end) × GoOn (put_events things) answers
+-- what is mounted on a flash carries out the events of a group, and no answer ends the put; in this world a version is due or not
+pub record IsGrouped (start : SimFlash) (things : List Thing) (w : World) : Type 0 where
+  pub answers : List Answer
+  pub run : Session (device_of start) (group_events things) (Answer.Mounted ∷ answers) w
+  pub goes : GoOn (group_events things) answers
 
--- it carries out the first events, and the answer to the last of them ends it
-abbrev pub Stops : SimFlash → List Thing → Refusal → Type 0
-Stops start things refusal = (made : List Event) × (rest : List Event) × (answers : List Answer) × (v : World) × (put_events things ≡ made ++ rest)
+-- it carries out all events of a put, and no answer ends it
+abbrev pub Puts : SimFlash → List Thing → SimFlash → Type 0
+Puts start things end = (w : World) × (v : World) × (answers : List Answer) × IsGrouped start things w × Run w (group_end (is_due w.system)) answers v
+    × (v.device ≡ device_of end) × GoOn (group_end (is_due w.system)) answers
+
+-- it carries out the first events of the group, and the answer to the last of them ends the put
+abbrev pub StopsWithin : SimFlash → List Thing → Refusal → Type 0
+StopsWithin start things refusal = (made : List Event) × (rest : List Event) × (answers : List Answer) × (v : World) × (group_events things ≡ made ++ rest)
     × Session (device_of start) made (Answer.Mounted ∷ answers) v × StopLast made answers refusal
+
+-- or it carries out all of them, and the end of the group is refused, or its sync
+abbrev pub StopsAtEnd : SimFlash → List Thing → Refusal → Type 0
+StopsAtEnd start things refusal = (w : World) × (v : World) × (made : List Event) × (rest : List Event) × (answers : List Answer) × IsGrouped start things w
+    × (group_end (is_due w.system) ≡ made ++ rest) × Run w made answers v × StopLast made answers refusal
+
+abbrev pub Stops : SimFlash → List Thing → Refusal → Type 0
+Stops start things refusal = StopsWithin start things refusal ⊎ StopsAtEnd start things refusal
 
 -- the path that a line `mkdir` names, or how the line is refused
 abbrev pub path_of_call : Call → Result Path Failure

@@ -4,8 +4,8 @@ ghost use Rattle.flash_model.specs.Simulation.{device_of};
 ghost use Rattle.flash_model.specs.declared.sim_flash.SimFlash.{SimFlash};
 ghost use Rattle.system.specs.Systems.{IsSystem};
 ghost use Rattle.host_files.specs.Files.{KeepsOthers, ReadsClaimed, takes_away};
-ghost use Rattle.shell.specs.Puts.{stop_of, stop_of_reply, refused_by, is_mkdir, makes_directory, PutsBy, PutCause, PlaceCause};
-ghost use Rattle.shell.specs.Served.{place, ServesPut, PutsOne, PutsEach, PutsAll};
+ghost use Rattle.shell.specs.Puts.{stop_of, stop_of_reply, refused_by, is_mkdir, makes_directory, is_due, PutsBy, PutCause, PlaceCause};
+ghost use Rattle.shell.specs.Served.{place, ServesPut, PutsOne, PutsEach, PutsGroup, EndsGroup, PutsAll};
 ghost use Rattle.host_files.specs.Sources.{Found, source_found};
 ghost use Rattle.shell.specs.Places.{AreOthers, IsMisplaced};
 ghost use Rattle.script_runs.specs.Flashes.{IsDecoded};
@@ -182,7 +182,7 @@ fn put_on<F: ImageFiles, E: Write>(
     }
 }
 
-/// Puts sources in one change group, and brings it to the flash.
+/// Puts sources in one change group, and brings it to the flash where it makes a version.
 fn put_all<F: ImageFiles, E: Write>(
     files: &F,
     alloc: Global,
@@ -195,19 +195,57 @@ fn put_all<F: ImageFiles, E: Write>(
     requires { IfSome mounted.old.system (IsSystem (device_of mounted.old.flash)) }
     ensures { PutsAll (F.held files.now) base.now (map source_found sources.now) (place mounted.old) result (place mounted.new) }
 {
-    let start = [Event::Call(Call::Begin)];
-    match ask_all(alloc, mounted, &start) {
-        Ok(()) => {}
-        Err(refusal) => return Err(Failure::of_refusal(refusal)),
-    }
-    match put_each(files, alloc, base, sources, mounted, progress, err) {
+    match put_group(files, alloc, base, sources, mounted, progress, err) {
         Ok(()) => {}
         Err(failure) => return Err(failure),
     }
-    let end = [Event::Call(Call::End), Event::Call(Call::Sync)];
-    match ask_all(alloc, mounted, &end) {
+    match end_group(alloc, mounted) {
         Ok(()) => Ok(()),
         Err(refusal) => Err(Failure::of_refusal(refusal)),
+    }
+}
+
+/// Begins a change group, and puts sources in it.
+fn put_group<F: ImageFiles, E: Write>(
+    files: &F,
+    alloc: Global,
+    base: &Path,
+    sources: &[Source],
+    mounted: &mut Mounted,
+    progress: bool,
+    err: &mut E,
+) -> Result<(), Failure>
+    requires { IfSome mounted.old.system (IsSystem (device_of mounted.old.flash)) }
+    ensures mounted { IfSome mounted.new.system (IsSystem (device_of mounted.new.flash)) }
+    ensures ends { PutsGroup (F.held files.now) base.now (map source_found sources.now) (place mounted.old) result (place mounted.new) }
+{
+    let start = [Event::Call(Call::Begin)];
+    match ask_all(alloc, mounted, &start) {
+        Ok(()) => put_each(files, alloc, base, sources, mounted, progress, err),
+        Err(refusal) => Err(Failure::of_refusal(refusal)),
+    }
+}
+
+/// Ends the change group, and syncs where it makes a version: nothing is written where it makes none.
+fn end_group(alloc: Global, mounted: &mut Mounted) -> Result<(), Refusal>
+    requires { IfSome mounted.old.system (IsSystem (device_of mounted.old.flash)) }
+    ensures { EndsGroup (place mounted.old) result (place mounted.new) }
+{
+    let end = [Event::Call(Call::End), Event::Call(Call::Sync)];
+    let count = if is_due(&mounted.system) { 2 } else { 1 };
+    ask_all(alloc, mounted, &end[..count])
+}
+
+/// Whether a version is due in the change group that is open, if one is.
+fn is_due(system: &Option<System>) -> bool
+    ensures { result ≡ is_due system.now }
+{
+    let Some(system) = system else {
+        return false;
+    };
+    match &system.state.group {
+        Some(group) => group.is_due,
+        None => false,
     }
 }
 

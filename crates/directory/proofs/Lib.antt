@@ -26,3 +26,4 @@ pub mod WrittenNodes
 pub mod ReadLists
 pub mod ListEdits
 pub mod BesidePaths
+pub mod DirectoryPuts

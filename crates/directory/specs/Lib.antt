@@ -10,3 +10,4 @@ pub mod Places
 pub mod Reads
 pub mod Written
 pub mod Beside
+pub mod Puts

@@ -2,6 +2,7 @@
 #![tactic(auto)]
 
 mod depths;
+mod directory_puts;
 mod edits;
 mod list_writes;
 mod listings;
@@ -13,6 +14,7 @@ mod places;
 mod trail;
 
 pub use depths::{any_is_deeper, depth_laws, is_deeper};
+pub use directory_puts::{NamedPlace, put_in_directory};
 pub use edits::{put_directory, put_entry, remove_entry};
 pub use listings::{entry_count, is_empty, names};
 pub use lookups::{Found, lookup, lookup_laws};

@@ -6,6 +6,8 @@ mod chains;
 #[cfg(test)]
 mod contents;
 #[cfg(test)]
+mod forgetting;
+#[cfg(test)]
 mod mounts;
 #[cfg(test)]
 mod older_format;

@@ -15,7 +15,8 @@ use std::alloc::Global;
 
 /// Of each block the number, from 1 on, of the first of some roots that reaches it, and 0 where none
 /// does. There are at most 255 roots, each of which is known to have a tree. Each node that they reach
-/// is read once, and of those of bodies the first page alone; memory is a byte and two bits a block.
+/// is read once, and of those of bodies the first page alone; memory is a byte and two bits a block,
+/// and four bytes for each block that is reached.
 ///
 /// [`Fault::ReadFailed`], [`Fault::PowerCut`], [`Fault::NoMemory`].
 pub fn find_first_roots<N: Nodes>(

@@ -88,6 +88,7 @@ looking_needs : (call : Call) → only_looks call ≡ true → NeedsNothing call
 looking_needs (Call.Stat view path) is = record { none = λ capacity x. refl; unsynced = refl }
 looking_needs (Call.List view path) is = record { none = λ capacity x. refl; unsynced = refl }
 looking_needs (Call.ReadAt view path offset count) is = record { none = λ capacity x. refl; unsynced = refl }
+looking_needs (Call.Entries view path from most) is = record { none = λ capacity x. refl; unsynced = refl }
 looking_needs (Call.Pread descriptor offset count) is = record { none = λ capacity x. refl; unsynced = refl }
 looking_needs _ is = absurd (true≢false (sym is))
 
@@ -99,6 +100,7 @@ changes_none : (m : Machine) (call : Call) → only_looks call ≡ true → chan
 changes_none m (Call.Stat view path) is = and_false (is_accepted m (Call.Stat view path))
 changes_none m (Call.List view path) is = and_false (is_accepted m (Call.List view path))
 changes_none m (Call.ReadAt view path offset count) is = and_false (is_accepted m (Call.ReadAt view path offset count))
+changes_none m (Call.Entries view path from most) is = and_false (is_accepted m (Call.Entries view path from most))
 changes_none m (Call.Pread descriptor offset count) is = and_false (is_accepted m (Call.Pread descriptor offset count))
 changes_none m _ is = absurd (true≢false (sym is))
 

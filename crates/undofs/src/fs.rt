@@ -33,6 +33,7 @@ pub struct Fs<'f, F: Flash> {
 
 impl<'f, F: Flash> Fs<'f, F> {
     ghost use Rattle.std.specs.Prelude.{ℕ, ◌<◌, ◌≢◌, ◌↔◌, ◌⊎◌, true, Err, IfOk, IfErr, IsErrAnd};
+    ghost use Rattle.std.specs.Option.{option_copied};
     ghost use Rattle.node_cache.specs.declared.cache.TheConstants.{MAX_CACHED_NODES};
     ghost use Rattle.fs_types.specs.Requests.{call_of};
     ghost use Rattle.fs_types.specs.declared.fault.Fault.{Fault};
@@ -289,6 +290,35 @@ impl<'f, F: Flash> Fs<'f, F> {
     {
         match self.carry_out(alloc, Request::List { view, path })? {
             Reply::Names(names) => Ok(names),
+            _ => unreachable!(),
+        }
+    }
+
+    /// The entries of the directory at a path, in byte order of their names, each with what `stat` tells
+    /// of it: those that come after the name `from`, or all where none is given, and of these the first
+    /// `most`. Fewer are answered only at the end. `from` need not stand in the directory.
+    ///
+    /// Refused as `list` is. The nodes of the directory are read, and the first page of each node of the
+    /// directories that are told.
+    pub fn entries(
+        &mut self,
+        alloc: Global,
+        view: &View,
+        path: &Path,
+        from: Option<&Name>,
+        most: u64,
+    ) -> Result<Sequence<(Name, Stat)>, Fault>
+        ensures step { StepsBetween self.old (Call.Entries view.now path.now (option_copied from.entry) most) (replied Reply.Entries result) self.new }
+        ensures pages { (p : ℕ) → (F.device self.new.flash.now).pages p ≡ (F.device self.old.flash.now).pages p }
+    {
+        let request = Request::Entries {
+            view,
+            path,
+            from,
+            most,
+        };
+        match self.carry_out(alloc, request)? {
+            Reply::Entries(entries) => Ok(entries),
             _ => unreachable!(),
         }
     }

@@ -195,8 +195,9 @@ fn are_whole<N: Nodes>(
 /// with `plain` no node of a chain is among all that they reach.
 ///
 /// `Damaged` where that is not so, and only there: a root that is no data block has no tree. Nothing
-/// is written. Each node is read once, and of each block that it names the first page at most; the depths
-/// read nodes that name directories once at each level, and the first ones of the last level.
+/// is written. Each node is read once, and the first page of the node after it and of those that its
+/// pointers name; for its entries none is read. The depths read nodes that name directories once at each
+/// level, and the first ones of the last level.
 pub fn verify<N: Nodes>(
     alloc: Global,
     blocks: u32,

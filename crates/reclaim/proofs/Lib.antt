@@ -18,3 +18,4 @@ pub mod Telling
 pub mod Heads
 pub mod HeadLengths
 pub mod MoreRoots
+pub mod Paths

@@ -25,7 +25,7 @@ use Rattle.reclaim.proofs.Marking.{pass_marks}
 use Rattle.reclaim.proofs.Soundness.{trees_are_sound, trees_hold_nodes}
 use Rattle.reclaim.proofs.Verifying.{all_of, at_place}
 
-list_is : (node : Option (List ℕ)) (l : Link) → link_of node ≡ Some l → link_items node ≡ l.items
+pub list_is : (node : Option (List ℕ)) (l : Link) → link_of node ≡ Some l → link_items node ≡ l.items
 list_is node l is = ap (λ (o : Option Link). option_map_or (λ k. k.items) o []) is
 
 by_bool : (P : Type 0) (t : Bool) → (t ≡ true → P) → (t ≡ false → P) → P
@@ -44,7 +44,7 @@ module _ (f : Blocks) (p : Pass) (pass : IsPass f p) (end : IsFinished p) where
   pub all_seen : (b : ℕ) → Contains p.order b → HasSeen p b
   all_seen b has = let at = at_place p b has in (at.0, omega (arith, at.1, end), at.2)
 
-  reached_seen : (b : ℕ) → Reached f p.roots b → HasSeen p b
+  pub reached_seen : (b : ℕ) → Reached f p.roots b → HasSeen p b
   reached_seen b reached = all_seen b ((pass_marks f p pass end b).1 reached)
 
   pub names_seen : (a b : ℕ) → HasSeen p a → Names (f a) b → HasSeen p b

@@ -50,7 +50,7 @@ module _ (p q : Pass) (block : ℕ) (on : Advances p q) (left : p.next < length 
   seen_new : HasSeen q block
   seen_new = (p.next, omega (arith, next), begins_at p.order q.order p.next on.begins left ∙ sym at)
 
-  seen_back : (b : ℕ) → HasSeen q b → HasSeen p b ⊎ (block ≡ b)
+  pub seen_back : (b : ℕ) → HasSeen q b → HasSeen p b ⊎ (block ≡ b)
   seen_back b (k, lt, is) = elim (cases_lt k p.next) [
     | inl before ↦ inl (k, before, sym (begins_at p.order q.order k on.begins (omega (arith, before, left))) ∙ is)
     | inr past ↦

@@ -7,3 +7,4 @@ pub mod Kinds
 pub mod Tables
 pub mod Heads
 pub mod MoreRoots
+pub mod Levels

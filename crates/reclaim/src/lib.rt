@@ -4,6 +4,7 @@
 mod edge;
 mod fronts;
 mod laws;
+mod levels;
 mod looks;
 mod named;
 mod pass;

@@ -11,6 +11,7 @@ ghost use Rattle.block_trees.specs.Reached.{Reached};
 ghost use Rattle.node_store.specs.Faults.{IsLookFault, IsReadFault};
 ghost use Rattle.node_store.specs.Frames.{OnlyLooks};
 ghost use Rattle.reclaim.specs.Heads.{HeadsAreTold};
+ghost use Rattle.reclaim.specs.Levels.{AreLeveled};
 ghost use Rattle.reclaim.specs.Looks.{NamesNodes, NextHoldsLink, IsLooked, look_reads};
 ghost use Rattle.reclaim.specs.Passes.{IsPass, IsFinished, Advances};
 ghost use Rattle.reclaim.specs.Sound.{IsPlain};
@@ -18,6 +19,8 @@ ghost use Rattle.reclaim.specs.Tables.{IsTold};
 ghost use Rattle.reclaim.specs.Verified.{AreRoots, AreAllowed, AreLooked, AreWhole, HasLookedOnce, HasCost};
 ghost use Rattle.fs_types.specs.declared.limits.TheConstants.{MAX_NAMES};
 
+use crate::edge::next_in;
+use crate::levels::Levels;
 use crate::looks::{look, parts_in};
 use crate::named::{list_directories, list_names};
 use crate::pass::Pass;
@@ -48,15 +51,18 @@ fn are_data_blocks(blocks: u32, list: &[u32]) -> bool
     true
 }
 
-// Whether no path below any root has too many names. All that the roots lead to are directories.
+// Whether no path below any root has too many names, which may be known. All that the roots lead to are
+// directories.
 fn are_shallow<N: Nodes>(
     alloc: Global,
     nodes: &mut N,
     roots: &[u32],
+    is_known: bool,
     quiet: &BlockSet,
     nexts: &[u32],
 ) -> Result<bool, Fault>
     requires sound { N.is_sound nodes.old }
+    requires known { is_known ≡ true → All (λ root. IsShallow (N.node nodes.old) (Dir root) MAX_NAMES) roots.now }
     requires quiet { AreQuiet (N.node nodes.old) quiet.now.members nexts.now }
     requires whole { (root : ℕ) → Contains roots.now root → LeadsToDirectories (N.node nodes.old) root }
     ensures exact { IfOk result (λ good. IsTrue good ↔ All (λ root. IsShallow (N.node nodes.old) (Dir root) MAX_NAMES) roots.now) }
@@ -65,6 +71,9 @@ fn are_shallow<N: Nodes>(
     ensures looks { OnlyLooks N.node N.kept N.writes N.follows N.is_sound N.limit N.blocks nodes.old nodes.new }
     ensures reads { (all : List ℕ) → HasDirectories (N.node nodes.old) (N.blocks nodes.old) roots.now all → N.reads nodes.new ≤ N.reads nodes.old + (16 * length (loud_of quiet.now.members all) + length all) }
 {
+    if is_known {
+        return Ok(true);
+    }
     let deep = any_is_deeper(alloc, nodes, roots, MAX_NAMES, quiet, nexts)?;
     Ok(!deep)
 }
@@ -78,6 +87,7 @@ fn look_at_next<N: Nodes>(
     block: u32,
     pass: &mut Pass,
     table: &mut Table,
+    levels: &mut Levels,
 ) -> Result<bool, Fault>
     requires sound { N.is_sound nodes.old }
     requires blocks { pass.old.blocks ≡ N.blocks nodes.old }
@@ -85,11 +95,13 @@ fn look_at_next<N: Nodes>(
     requires pass { IsPass (N.node nodes.old) pass.old }
     requires told { IsTold (N.node nodes.old) pass.old table.old }
     requires heads { HeadsAreTold (N.limit nodes.old - body_header) (N.node nodes.old) pass.old table.old }
+    requires leveled { AreLeveled (N.node nodes.old) pass.old levels.old }
 
     // The pass goes on, and what is found.
     ensures pass { OnOk result (IsPass (N.node nodes.new) pass.new × IsTold (N.node nodes.new) pass.new table.new) }
     ensures on { Advances pass.old pass.new }
     ensures next { OnOk result (pass.new.next ≡ pass.old.next + 1) }
+    ensures leveled { OnOk result (AreLeveled (N.node nodes.old) pass.new levels.new) }
     ensures heads { IfOk result (λ good. good ≡ true → HeadsAreTold (N.limit nodes.old - body_header) (N.node nodes.old) pass.new table.new) }
     ensures looked { IfOk result (λ good. good ≡ true → NamesNodes (N.node nodes.old) (N.node nodes.old block) → NextHoldsLink (N.node nodes.old) (N.node nodes.old block) → IsLooked (N.limit nodes.old - body_header) (N.node nodes.old) plain (N.node nodes.old block)) }
     ensures bad { IfOk result (λ good. good ≡ false → AreAllowed (N.limit nodes.old) (N.node nodes.old) pass.old.roots plain → ⊥) }
@@ -108,6 +120,12 @@ fn look_at_next<N: Nodes>(
     let names = list_names(alloc, bytes)?;
     let directories = list_directories(alloc, bytes)?;
     pass.mark_next(&names)?;
+    levels.take_in(
+        block,
+        next_in(&parts.edge),
+        parts.places.is_empty(),
+        &directories,
+    );
     let have_heads = table.take_in(capacity, block, &parts, &directories);
     if !have_heads {
         return Ok(false);
@@ -122,15 +140,18 @@ fn look_at_all<N: Nodes>(
     plain: bool,
     pass: &mut Pass,
     table: &mut Table,
+    levels: &mut Levels,
 ) -> Result<bool, Fault>
     requires sound { N.is_sound nodes.old }
     requires blocks { pass.old.blocks ≡ N.blocks nodes.old }
     requires pass { IsPass (N.node nodes.old) pass.old }
     requires told { IsTold (N.node nodes.old) pass.old table.old }
     requires heads { HeadsAreTold (N.limit nodes.old - body_header) (N.node nodes.old) pass.old table.old }
+    requires leveled { AreLeveled (N.node nodes.old) pass.old levels.old }
     requires begun { pass.old.next ≡ 0 }
 
     // All was read and is sound, or some is not.
+    ensures leveled { OnOk result (AreLeveled (N.node nodes.old) pass.new levels.new) }
     ensures told { OnOk result (IsPass (N.node nodes.new) pass.new × IsTold (N.node nodes.new) pass.new table.new) }
     ensures looked { IfOk result (λ good. good ≡ true → IsFinished pass.new × AreLooked (N.limit nodes.old - body_header) (N.node nodes.old) plain pass.new × (N.reads nodes.new ≤ N.reads nodes.old + sum_by (λ b. 1 + look_reads (N.node nodes.old b)) pass.new.order)) }
     ensures heads { IfOk result (λ good. good ≡ true → HeadsAreTold (N.limit nodes.old - body_header) (N.node nodes.old) pass.new table.new) }
@@ -145,7 +166,7 @@ fn look_at_all<N: Nodes>(
     ensures reads { HasLookedOnce (N.node nodes.old) pass.old.roots (N.reads nodes.old) (N.reads nodes.new) }
 {
     while let Some(block) = pass.next_block() {
-        let good = look_at_next(alloc, nodes, plain, block, pass, table)?;
+        let good = look_at_next(alloc, nodes, plain, block, pass, table, levels)?;
         if !good {
             return Ok(false);
         }
@@ -161,15 +182,18 @@ fn are_whole<N: Nodes>(
     plain: bool,
     pass: &mut Pass,
     table: &mut Table,
+    levels: &mut Levels,
 ) -> Result<bool, Fault>
     requires sound { N.is_sound nodes.old }
     requires blocks { pass.old.blocks ≡ N.blocks nodes.old }
     requires pass { IsPass (N.node nodes.old) pass.old }
     requires told { IsTold (N.node nodes.old) pass.old table.old }
     requires heads { HeadsAreTold (N.limit nodes.old - body_header) (N.node nodes.old) pass.old table.old }
+    requires leveled { AreLeveled (N.node nodes.old) pass.old levels.old }
     requires begun { (pass.old.roots ≡ roots.now) × (pass.old.next ≡ 0) }
 
     // What is answered, and the pass.
+    ensures leveled { OnOk result (AreLeveled (N.node nodes.old) pass.new levels.new) }
     ensures whole { IfOk result (λ good. good ≡ true → IsPass (N.node nodes.old) pass.new × IsFinished pass.new × AreWhole (N.limit nodes.old) (N.node nodes.old) roots.now plain × IsTold (N.node nodes.old) pass.new table.new × (N.reads nodes.new ≤ N.reads nodes.old + sum_by (λ b. 1 + look_reads (N.node nodes.old b)) pass.new.order)) }
     ensures bad { IfOk result (λ good. good ≡ false → AreAllowed (N.limit nodes.old) (N.node nodes.old) roots.now plain → ⊥) }
     ensures on { Advances pass.old pass.new }
@@ -181,7 +205,7 @@ fn are_whole<N: Nodes>(
     ensures looks { OnlyLooks N.node N.kept N.writes N.follows N.is_sound N.limit N.blocks nodes.old nodes.new }
     ensures reads { HasLookedOnce (N.node nodes.old) roots.now (N.reads nodes.old) (N.reads nodes.new) }
 {
-    let are_looked = look_at_all(alloc, nodes, plain, pass, table)?;
+    let are_looked = look_at_all(alloc, nodes, plain, pass, table, levels)?;
     if !are_looked {
         return Ok(false);
     }
@@ -196,8 +220,9 @@ fn are_whole<N: Nodes>(
 ///
 /// `Damaged` where that is not so, and only there: a root that is no data block has no tree. Nothing
 /// is written. Each node is read once, and the first page of the node after it and of those that its
-/// pointers name; for its entries none is read. The depths read nodes that name directories once at each
-/// level, and the first ones of the last level.
+/// pointers name; for its entries none is read. Where a directory stands at more than one
+/// depth, or too deep, the depths read nodes that name directories once more at each level, and the first
+/// ones of the last level.
 pub fn verify<N: Nodes>(
     alloc: Global,
     blocks: u32,
@@ -225,11 +250,20 @@ pub fn verify<N: Nodes>(
     }
     let mut pass = Pass::start(alloc, blocks, roots)?;
     let mut table = Table::new(alloc, blocks)?;
-    let are_whole = are_whole(alloc, nodes, roots, plain, &mut pass, &mut table)?;
+    let mut levels = Levels::new(alloc, blocks)?;
+    let are_whole = are_whole(
+        alloc,
+        nodes,
+        roots,
+        plain,
+        &mut pass,
+        &mut table,
+        &mut levels,
+    )?;
     if !are_whole {
         return Err(Fault::Damaged);
     }
-    let are_shallow = are_shallow(alloc, nodes, roots, &table.quiet, &table.words)?;
+    let are_shallow = are_shallow(alloc, nodes, roots, levels.hold, &table.quiet, &table.words)?;
     if !are_shallow {
         return Err(Fault::Damaged);
     }

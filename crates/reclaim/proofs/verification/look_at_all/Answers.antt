@@ -1,6 +1,7 @@
 use Rattle.std.proofs.Common.{◌≤◌, ◌+◌, ◌-◌, ℕ, List, refl, subst, sym, ◌∙◌, arith}
 use Rattle.block_trees.specs.Bodies.{Blocks}
 use Rattle.reclaim.specs.Heads.{HeadsAreTold}
+use Rattle.reclaim.specs.Levels.{AreLeveled}
 use Rattle.reclaim.specs.Looks.{look_reads, NamesNodes, NextHoldsLink, IsLooked}
 use Rattle.reclaim.specs.Passes.{IsPass}
 use Rattle.reclaim.specs.Tables.{IsTold}
@@ -16,6 +17,7 @@ loop-block-init g c = record {
   told = c.requires.told;
   looked = looked_none (g.N.Nodes.limit c.args.nodes.now - 80) (g.N.Nodes.node c.args.nodes.now) c.args.plain c.args.pass.now c.requires.begun;
   heads = c.requires.heads;
+  leveled = c.requires.leveled;
   on = record { blocks = refl; roots = refl; begins = begins_itself c.args.pass.now.order };
   reads = omega arith;
   looks = record { same_nodes = refl; same_kept = refl; same_writes = refl; came = g.met.N.Nodes.follows_itself c.args.nodes.now; sound = c.requires.sound; same_limit = refl; same_blocks = refl };
@@ -38,6 +40,12 @@ look_at_next-requires-clause-heads g c =
     let so_far = c.loop-block.invariant in
     subst (λ (n : ℕ). HeadsAreTold (n - 80) (g.N.Nodes.node c.loop-block.nodes) c.loop-block.pass c.loop-block.table) (sym so_far.looks.same_limit)
     (subst (λ (h : Blocks). HeadsAreTold (g.N.Nodes.limit c.args.nodes.now - 80) h c.loop-block.pass c.loop-block.table) (sym so_far.looks.same_nodes) so_far.heads)
+
+pub look_at_next-requires-clause-leveled : goal.look_at_next-requires-clause-leveled
+look_at_next-requires-clause-leveled g c = subst (λ (h : Blocks). AreLeveled h c.loop-block.pass c.loop-block.levels) (sym c.loop-block.invariant.looks.same_nodes) c.loop-block.invariant.leveled
+
+pub returns-then-not-good-clause-leveled : goal.returns-then-not-good-clause-leveled
+returns-then-not-good-clause-leveled g c = subst (λ (h : Blocks). AreLeveled h c.look_at_next.new.pass c.look_at_next.new.levels) c.loop-block.invariant.looks.same_nodes c.in_ok-good.ensures.leveled
 
 pub loop-block-preserved : goal.loop-block-preserved
 loop-block-preserved g c =
@@ -66,6 +74,7 @@ loop-block-preserved g c =
       told = subst (λ (h : Blocks). IsTold h q u) both c.in_ok-good.ensures.pass.1;
       looked = looked_on p q block on left.0 left.1 c.in_ok-good.ensures.next (g.N.Nodes.limit s - 80) f c.args.plain so_far.looked looked;
       heads = heads;
+      leveled = subst (λ (h : Blocks). AreLeveled h q c.look_at_next.new.levels) so_far.looks.same_nodes c.in_ok-good.ensures.leveled;
       on = record { blocks = on.blocks ∙ so_far.on.blocks; roots = on.roots ∙ so_far.on.roots; begins = begins_on c.args.pass.now.order p.order q.order so_far.on.begins on.begins };
       reads = omega (arith, own, so_far.reads, reads_on p q block on left.0 left.1 c.in_ok-good.ensures.next (λ b. 1 + look_reads (f b)));
       looks = g.met.N.Nodes.looks_on s mid new so_far.looks c.look_at_next.ensures.looks;

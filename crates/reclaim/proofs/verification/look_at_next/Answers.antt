@@ -1,6 +1,6 @@
-use Rattle.std.proofs.Common.{◌≡◌, ◌≢◌, ◌↔◌, ◌≤◌, ◌-◌, ◌^◌, ◌++◌, ℕ, List, [], ◌∷◌, take, true, Option, Some, None, Err, ◌<◌, inl, inr, refl, ap, subst, sym, ◌∙◌, arith}
+use Rattle.std.proofs.Common.{vec_len, ◌≡◌, ◌≢◌, ◌↔◌, ◌≤◌, ◌-◌, ◌^◌, ◌++◌, ℕ, List, [], ◌∷◌, take, true, Option, Some, None, Err, ◌<◌, inl, inr, refl, ap, subst, sym, ◌∙◌, arith}
 use Rattle.std.specs.Prelude.{IsTrue, Contains, is_some, option_map}
-use Rattle.std.proofs.lemmas.Bool.{true≢false, cases_lt}
+use Rattle.std.proofs.lemmas.Bool.{true≢false, cases_lt, eqb-true}
 use Rattle.std.proofs.lemmas.Result.{err_from_is_err_and, IfOk-weaker, IfErr-weaker}
 use Rattle.fields.proofs.Found.{found}
 use Rattle.fs_types.specs.declared.fault.Fault.{Fault}
@@ -17,6 +17,8 @@ use Rattle.reclaim.specs.Heads.{longest, KeepsHeads, FitHeads, IsNew, places_rea
 use Rattle.reclaim.proofs.Looking.{next_said, edge_some}
 use Rattle.reclaim.proofs.Looked.{tree_names, tree_next, tree_looked}
 use Rattle.reclaim.proofs.HeadLengths.{parts_allow, linked_allows, next_fresh, trees_fit, heads_on}
+use Rattle.reclaim.specs.Levels.{AreLeveled}
+use Rattle.reclaim.proofs.Paths.{leveled_on, stands_block, no_entries}
 use Rattle.reclaim.proofs.Telling.{told_on, on_any, ok_any, mark_why, next_reached}
 use Rattle.reclaim.proofs.verification.look_at_next.Goals as goal
 
@@ -82,10 +84,10 @@ returns-then-not-have_heads-clause-pass g c =
     subst (λ (l : List ℕ). (b : ℕ) → Contains l b ↔ Names (f block) b) (sym c.deref.ensures.value) (subst (λ (o : Option (List ℕ)). (b : ℕ) → Contains names b ↔ Names o b) (sym held) c.in_ok-names.ensures.names) in
     let pass : IsPass f q = c.in_ok-mark_next.ensures.pass f c.requires.pass (subst (λ (b : ℕ). f b ≢ None) c.requires.left.1 there) (subst (λ (k : ℕ). (b : ℕ) → Contains c.deref.result.now b ↔ Names (f k) b) c.requires.left.1 named) in
     let below : block < p.blocks = elim (cases_lt block p.blocks) [ inl less ↦ less | inr past ↦ absurd (there (g.met.N.Nodes.none_beyond s block (subst (λ (n : ℕ). n ≤ block) c.requires.blocks past))) ] in
-    let directories : (b : ℕ) → Contains c.deref-2.result.now b ↔ NamesDirectory (f block) b =
-    subst (λ (l : List ℕ). (b : ℕ) → Contains l b ↔ NamesDirectory (f block) b) (sym c.deref-2.ensures.value) (subst (λ (o : Option (List ℕ)). (b : ℕ) → Contains c.in_ok-directories.directories.items b ↔ NamesDirectory o b) (sym held) c.in_ok-directories.ensures.names) in
+    let directories : (b : ℕ) → Contains c.deref-3.result.now b ↔ NamesDirectory (f block) b =
+    subst (λ (l : List ℕ). (b : ℕ) → Contains l b ↔ NamesDirectory (f block) b) (sym c.deref-3.ensures.value) (subst (λ (o : Option (List ℕ)). (b : ℕ) → Contains c.in_ok-directories.directories.items b ↔ NamesDirectory o b) (sym held) c.in_ok-directories.ensures.names) in
     let told : IsTold f q u =
-    told_on p q block c.mark_next.ensures.on c.requires.left.0 c.requires.left.1 c.in_ok-mark_next.ensures.next.0 f t u c.deref-2.result.now c.requires.told below c.take_in-have_heads.ensures.sized directories c.take_in-have_heads.ensures.named c.take_in-have_heads.ensures.stay
+    told_on p q block c.mark_next.ensures.on c.requires.left.0 c.requires.left.1 c.in_ok-mark_next.ensures.next.0 f t u c.deref-3.result.now c.requires.told below c.take_in-have_heads.ensures.sized directories c.take_in-have_heads.ensures.named c.take_in-have_heads.ensures.stay
     (is_some c.in_ok-parts.parts.edge) (edge_some (f block) c.in_ok-parts.parts.edge says.edge) c.take_in-have_heads.ensures.links
     (λ l is. c.take_in-have_heads.ensures.nexts l.next (next_said (f block) c.in_ok-parts.parts.edge says.edge ∙ ap (option_map (λ (l : Link). l.next)) is)) c.take_in-have_heads.ensures.quiet in
     (subst (λ (h : Blocks). IsPass h q) (sym same) pass, subst (λ (h : Blocks). IsTold h q u) (sym same) told)
@@ -151,10 +153,10 @@ returns-clause-pass g c =
     subst (λ (l : List ℕ). (b : ℕ) → Contains l b ↔ Names (f block) b) (sym c.deref.ensures.value) (subst (λ (o : Option (List ℕ)). (b : ℕ) → Contains names b ↔ Names o b) (sym held) c.in_ok-names.ensures.names) in
     let pass : IsPass f q = c.in_ok-mark_next.ensures.pass f c.requires.pass (subst (λ (b : ℕ). f b ≢ None) c.requires.left.1 there) (subst (λ (k : ℕ). (b : ℕ) → Contains c.deref.result.now b ↔ Names (f k) b) c.requires.left.1 named) in
     let below : block < p.blocks = elim (cases_lt block p.blocks) [ inl less ↦ less | inr past ↦ absurd (there (g.met.N.Nodes.none_beyond s block (subst (λ (n : ℕ). n ≤ block) c.requires.blocks past))) ] in
-    let directories : (b : ℕ) → Contains c.deref-2.result.now b ↔ NamesDirectory (f block) b =
-    subst (λ (l : List ℕ). (b : ℕ) → Contains l b ↔ NamesDirectory (f block) b) (sym c.deref-2.ensures.value) (subst (λ (o : Option (List ℕ)). (b : ℕ) → Contains c.in_ok-directories.directories.items b ↔ NamesDirectory o b) (sym held) c.in_ok-directories.ensures.names) in
+    let directories : (b : ℕ) → Contains c.deref-3.result.now b ↔ NamesDirectory (f block) b =
+    subst (λ (l : List ℕ). (b : ℕ) → Contains l b ↔ NamesDirectory (f block) b) (sym c.deref-3.ensures.value) (subst (λ (o : Option (List ℕ)). (b : ℕ) → Contains c.in_ok-directories.directories.items b ↔ NamesDirectory o b) (sym held) c.in_ok-directories.ensures.names) in
     let told : IsTold f q u =
-    told_on p q block c.mark_next.ensures.on c.requires.left.0 c.requires.left.1 c.in_ok-mark_next.ensures.next.0 f t u c.deref-2.result.now c.requires.told below c.take_in-have_heads.ensures.sized directories c.take_in-have_heads.ensures.named c.take_in-have_heads.ensures.stay
+    told_on p q block c.mark_next.ensures.on c.requires.left.0 c.requires.left.1 c.in_ok-mark_next.ensures.next.0 f t u c.deref-3.result.now c.requires.told below c.take_in-have_heads.ensures.sized directories c.take_in-have_heads.ensures.named c.take_in-have_heads.ensures.stay
     (is_some c.in_ok-parts.parts.edge) (edge_some (f block) c.in_ok-parts.parts.edge says.edge) c.take_in-have_heads.ensures.links
     (λ l is. c.take_in-have_heads.ensures.nexts l.next (next_said (f block) c.in_ok-parts.parts.edge says.edge ∙ ap (option_map (λ (l : Link). l.next)) is)) c.take_in-have_heads.ensures.quiet in
     on_any c.look.result (IsPass f' q × IsTold f' q u) (subst (λ (h : Blocks). IsPass h q) (sym same) pass, subst (λ (h : Blocks). IsTold h q u) (sym same) told)
@@ -238,3 +240,37 @@ returns-clause-why g c =
 
 pub returns-clause-looks : goal.returns-clause-looks
 returns-clause-looks g c = g.met.N.Nodes.looks_on c.args.nodes.now c.read.new.self c.look.new.nodes c.read.ensures.looks c.look.ensures.looks
+
+pub returns-then-not-have_heads-clause-leveled : goal.returns-then-not-have_heads-clause-leveled
+returns-then-not-have_heads-clause-leveled g c =
+    let f = g.N.Nodes.node c.args.nodes.now in
+    let block = c.args.block in
+    let bytes = c.lent-bytes.result.now in
+    let held : f block ≡ Some bytes = c.in_ok-read.ensures.shown ∙ ap (λ (xs : List ℕ). Some xs) (sym c.lent-bytes.ensures) in
+    let says : Says (f block) c.in_ok-parts.parts = subst (λ (o : Option (List ℕ)). Says o c.in_ok-parts.parts) (sym held) c.in_ok-parts.ensures in
+    let directories : (b : ℕ) → Contains c.deref-2.result.now b ↔ NamesDirectory (f block) b =
+    subst (λ (l : List ℕ). (b : ℕ) → Contains l b ↔ NamesDirectory (f block) b) (sym c.deref-2.ensures.value) (subst (λ (o : Option (List ℕ)). (b : ℕ) → Contains c.in_ok-directories.directories.items b ↔ NamesDirectory o b) (sym held) c.in_ok-directories.ensures.names) in
+    let leveled : AreLeveled f c.mark_next.new.self c.take_in.new.self =
+    leveled_on f c.args.levels.now c.take_in.new.self c.take_in.ensures.goes c.args.pass.now c.mark_next.new.self block c.mark_next.ensures.on c.requires.left.0 c.requires.left.1 c.in_ok-mark_next.ensures.next.0 c.requires.leveled
+    (stands_block f c.take_in.new.self block c.next_in.result c.is_empty.result c.deref-2.result.now
+    (λ l is. c.next_in.ensures ∙ next_said (f block) c.in_ok-parts.parts.edge says.edge ∙ ap (option_map (λ (l : Link). l.next)) is)
+    (λ is. no_entries (f block) c.in_ok-parts.parts.places.items says.places (omega (arith, eqb-true (vec_len c.in_ok-parts.parts.places) 0 (sym c.is_empty.ensures ∙ is), c.in_ok-parts.parts.places.ok.0)))
+    directories c.take_in.ensures.stands) in
+    leveled
+
+pub returns-clause-leveled : goal.returns-clause-leveled
+returns-clause-leveled g c =
+    let f = g.N.Nodes.node c.args.nodes.now in
+    let block = c.args.block in
+    let bytes = c.lent-bytes.result.now in
+    let held : f block ≡ Some bytes = c.in_ok-read.ensures.shown ∙ ap (λ (xs : List ℕ). Some xs) (sym c.lent-bytes.ensures) in
+    let says : Says (f block) c.in_ok-parts.parts = subst (λ (o : Option (List ℕ)). Says o c.in_ok-parts.parts) (sym held) c.in_ok-parts.ensures in
+    let directories : (b : ℕ) → Contains c.deref-2.result.now b ↔ NamesDirectory (f block) b =
+    subst (λ (l : List ℕ). (b : ℕ) → Contains l b ↔ NamesDirectory (f block) b) (sym c.deref-2.ensures.value) (subst (λ (o : Option (List ℕ)). (b : ℕ) → Contains c.in_ok-directories.directories.items b ↔ NamesDirectory o b) (sym held) c.in_ok-directories.ensures.names) in
+    let leveled : AreLeveled f c.mark_next.new.self c.take_in.new.self =
+    leveled_on f c.args.levels.now c.take_in.new.self c.take_in.ensures.goes c.args.pass.now c.mark_next.new.self block c.mark_next.ensures.on c.requires.left.0 c.requires.left.1 c.in_ok-mark_next.ensures.next.0 c.requires.leveled
+    (stands_block f c.take_in.new.self block c.next_in.result c.is_empty.result c.deref-2.result.now
+    (λ l is. c.next_in.ensures ∙ next_said (f block) c.in_ok-parts.parts.edge says.edge ∙ ap (option_map (λ (l : Link). l.next)) is)
+    (λ is. no_entries (f block) c.in_ok-parts.parts.places.items says.places (omega (arith, eqb-true (vec_len c.in_ok-parts.parts.places) 0 (sym c.is_empty.ensures ∙ is), c.in_ok-parts.parts.places.ok.0)))
+    directories c.take_in.ensures.stands) in
+    on_any c.look.result (AreLeveled f c.mark_next.new.self c.take_in.new.self) leveled

@@ -11,7 +11,8 @@ use Rattle.block_trees.specs.Laws.{IsShallow}
 use Rattle.block_trees.specs.Reached.{Reached}
 use Rattle.directory.specs.Depths.{HasDirectories, AreQuiet, loud_of}
 use Rattle.directory.specs.Lookups.{LeadsToDirectories}
-use Rattle.reclaim.specs.Sound.{HoldsLink}
+use Rattle.reclaim.specs.Sound.{HoldsLink, IsSoundNode}
+use Rattle.reclaim.proofs.Paths.{leveled_none, leveled_shallow, sound_names}
 use Rattle.reclaim.specs.Passes.{IsPass}
 use Rattle.reclaim.specs.Tables.{IsSized}
 use Rattle.reclaim.proofs.HeadLengths.{heads_none}
@@ -51,6 +52,23 @@ are_whole-requires-clause-heads g c =
     heads_none (g.N.Nodes.limit c.args.nodes.now - 80) (g.N.Nodes.node c.args.nodes.now) c.in_ok-pass.pass c.in_ok-table.table c.in_ok-pass.ensures.begun.2
     (λ b high. g.met.N.Nodes.none_beyond c.args.nodes.now b (subst (λ (n : ℕ). n ≤ b) (c.in_ok-table.ensures.sized.links ∙ c.requires.blocks) high))
     c.in_ok-table.ensures.none.0 c.in_ok-table.ensures.none.3 c.in_ok-table.ensures.words
+
+pub are_whole-requires-clause-leveled : goal.are_whole-requires-clause-leveled
+are_whole-requires-clause-leveled g c = leveled_none (g.N.Nodes.node c.args.nodes.now) c.in_ok-pass.pass c.in_ok-levels.levels c.in_ok-pass.ensures.begun.2
+
+pub returns-in_err-levels-clause-reads : goal.returns-in_err-levels-clause-reads
+returns-in_err-levels-clause-reads g c = none_read (g.N.Nodes.node c.args.nodes.now) c.args.roots.now (g.N.Nodes.reads c.args.nodes.now)
+
+pub are_shallow-requires-clause-known : goal.are_shallow-requires-clause-known
+are_shallow-requires-clause-known g c hold =
+    let f = g.N.Nodes.node c.args.nodes.now in
+    let q = c.are_whole.new.pass in
+    let roots = c.args.roots.now in
+    let found = c.in_ok-are_whole.ensures.whole c.if-not-are_whole.false in
+    let same : q.roots ≡ roots = c.are_whole.ensures.on.roots ∙ c.in_ok-pass.ensures.begun.1 in
+    let sound : (b : ℕ) → Reached f q.roots b → IsSoundNode (g.N.Nodes.limit c.args.nodes.now - 80) f b = λ b reached. found.2.nodes b (subst (λ (l : List ℕ). Reached f l b) same reached) in
+    subst (λ (h : Blocks). All (λ root. IsShallow h (Dir root) 16) roots) (sym c.are_whole.ensures.looks.same_nodes)
+    (leveled_shallow f q c.are_whole.new.levels found.0 found.1 hold c.in_ok-are_whole.ensures.leveled (sound_names (g.N.Nodes.limit c.args.nodes.now - 80) f q found.0 sound) roots same found.2.directories)
 
 pub are_shallow-requires-clause-quiet : goal.are_shallow-requires-clause-quiet
 are_shallow-requires-clause-quiet g c =

@@ -1,3 +1,4 @@
 pub mod Files
 pub mod Sources
+pub mod Steps
 pub mod Streams

@@ -3,15 +3,18 @@ ghost use Rattle.std.specs.Prelude.{◌≡◌, take, IfSome, IfOk};
 
 mod claims;
 mod gathering;
+mod host_part;
 mod identity;
 mod replaced;
 mod replacing;
 
 use crate::channels::Channels;
 use crate::image_files::{FileFault, ImageFiles, MOST_BYTES};
+use crate::parts::Parts;
 use crate::source::{Source, Sources};
 use claims::Claim;
 use gathering::gather;
+pub use host_part::HostPart;
 use identity::Identity;
 use replaced::Replaced;
 use replacing::replace_file;
@@ -104,6 +107,14 @@ impl<R: Files<File = File>> Channels for HostFiles<'_, R> {
 
     fn open_outgoing(&self, alloc: Global, name: &str) -> Result<BufWriter<File>, FileFault> {
         open_buffered(self.rt, alloc, name).map_err(|error| fault_of(&error))
+    }
+}
+
+impl<R: Files<File = File>> Parts for HostFiles<'_, R> {
+    type Part = HostPart;
+
+    fn open_part(&self, alloc: Global, name: &str) -> Result<HostPart, FileFault> {
+        HostPart::open(self.rt, alloc, name).map_err(|error| fault_of(&error))
     }
 }
 

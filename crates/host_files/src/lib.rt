@@ -1,17 +1,21 @@
-//! The files of the host: images that are claimed, read and replaced, what is put into them, and streams
-//! that join the program to another one.
+//! The files of the host: images that are claimed, read and replaced, what is put into them, parts that
+//! are written in place, and streams that join the program to another one.
 #![tactic(auto)]
 
+mod backing;
 mod channels;
 mod host_files;
 mod image_files;
 mod limits;
 mod names;
+mod parts;
 mod source;
 
+pub use backing::Backing;
 pub use channels::Channels;
-pub use host_files::HostFiles;
+pub use host_files::{HostFiles, HostPart};
 pub use image_files::{FileFault, ImageFiles, MOST_BYTES};
 pub use limits::read_limit_law;
 pub use names::takes_away;
+pub use parts::Parts;
 pub use source::{Source, SourceKind, Sources};

@@ -10,13 +10,13 @@ use Rattle.flash_model.specs.Geometry.{page_count}
 use Rattle.flash_model.specs.Device.{Device, Page, erased, bytes_of, unreadable, Programs, Erases}
 use Rattle.part_file.specs.Layout.{IsHead, state_place, data_place, program_steps, erase_steps, barrier_at}
 use Rattle.part_file.specs.Pages.{IsPart, HasPage, KeepsPart}
-use Rattle.part_file.specs.Steps.{Step, writes, overwritten, all_after, Becomes}
+use Rattle.host_files.specs.Steps.{Step, writes, overwritten, all_after, Becomes}
 use Rattle.part_file.proofs.Overwriting.{overwritten-length, apart, within}
 use Rattle.part_file.proofs.Placing.{state-before, page-apart, page-inside}
 use Rattle.part_file.proofs.StepLemmas.{all_after-append, after-barrier}
 
 -- a part at the sizes that a flash has
-part_of : (g : Geometry) (e : Device) (xs : List ℕ) → e.geometry ≡ g → IsHead (take 20 xs) g → data_place g (page_count g) ≤ length xs
+pub part_of : (g : Geometry) (e : Device) (xs : List ℕ) → e.geometry ≡ g → IsHead (take 20 xs) g → data_place g (page_count g) ≤ length xs
     → ((p : ℕ) → p < page_count g → HasPage xs g p (e.pages p)) → IsPart e xs
 part_of g e xs same head whole pages =
     subst (λ (h : Geometry). IsHead (take 20 xs) h → data_place h (page_count h) ≤ length xs → ((p : ℕ) → p < page_count h → HasPage xs h p (e.pages p)) → IsPart e xs) same
@@ -25,18 +25,18 @@ part_of g e xs same head whole pages =
     head whole pages
 
 -- a page of which no byte changed stands there still
-page_stays : (g : Geometry) (q : ℕ) (page : Page) (xs ys : List ℕ) → take 1 (drop (state_place q) ys) ≡ take 1 (drop (state_place q) xs)
+pub page_stays : (g : Geometry) (q : ℕ) (page : Page) (xs ys : List ℕ) → take 1 (drop (state_place q) ys) ≡ take 1 (drop (state_place q) xs)
     → take g.page (drop (data_place g q) ys) ≡ take g.page (drop (data_place g q) xs) → HasPage xs g q page → HasPage ys g q page
 page_stays g q erased xs ys state content has = state ∙ has
 page_stays g q (bytes_of bytes) xs ys state content has = (state ∙ has.0, content ∙ has.1)
 page_stays g q unreadable xs ys state content has = state ∙ has
 
 -- the first twenty bytes stay
-head_stays : (g : Geometry) (a : ℕ) (ys xs : List ℕ) → 20 ≤ a → a ≤ length xs → IsHead (take 20 xs) g → IsHead (take 20 (overwritten a ys xs)) g
+pub head_stays : (g : Geometry) (a : ℕ) (ys xs : List ℕ) → 20 ≤ a → a ≤ length xs → IsHead (take 20 xs) g → IsHead (take 20 (overwritten a ys xs)) g
 head_stays g a ys xs late fits head = subst (λ (h : List ℕ). IsHead h g) (sym (apart a 0 20 ys xs fits (inl late))) head
 
 -- what is written at a place stands there
-at_place : (a n : ℕ) (ys xs : List ℕ) → a ≤ length xs → n ≡ length ys → take n (drop a (overwritten a ys xs)) ≡ ys
+pub at_place : (a n : ℕ) (ys xs : List ℕ) → a ≤ length xs → n ≡ length ys → take n (drop a (overwritten a ys xs)) ≡ ys
 at_place a n ys xs fits all =
     let start : a + 0 ≡ a = omega arith in
     ap (λ (i : ℕ). take n (drop i (overwritten a ys xs))) (sym start) ∙ within a 0 n ys xs fits (omega (arith, all)) ∙ take_all n ys (omega (arith, all))
@@ -51,7 +51,7 @@ program_bytes g p content xs =
     ∙ ap (all_after ((writes (state_place p) (1 ∷ []) ∷ []) ++ barrier_at block)) (after-barrier block first)
     ∙ after-barrier block (overwritten (state_place p) (1 ∷ []) first)
 
-program_part : (g : Geometry) (d e : Device) (p : ℕ) (content xs : List ℕ) → d.geometry ≡ g → p < page_count g → length content ≡ g.page → e.geometry ≡ g
+pub program_part : (g : Geometry) (d e : Device) (p : ℕ) (content xs : List ℕ) → d.geometry ≡ g → p < page_count g → length content ≡ g.page → e.geometry ≡ g
     → e.pages p ≡ bytes_of content → ((q : ℕ) → q ≢ p → e.pages q ≡ d.pages q)
     → IsHead (take 20 xs) g → data_place g (page_count g) ≤ length xs → ((q : ℕ) → q < page_count g → HasPage xs g q (d.pages q))
     → IsPart e (overwritten (state_place p) (1 ∷ []) (overwritten (data_place g p) content xs))
@@ -117,7 +117,7 @@ erase_bytes g b xs =
     all_after-append (barrier_at b) (clear ++ barrier_at b) xs ∙ ap (all_after (clear ++ barrier_at b)) (after-barrier b xs)
     ∙ after-barrier b (overwritten (state_place (b * g.pages)) (replicate g.pages 0) xs)
 
-one_zero : (j m : ℕ) → j < m → take {A = ℕ} 1 (drop {A = ℕ} j (replicate {A = ℕ} m 0)) ≡ 0 ∷ []
+pub one_zero : (j m : ℕ) → j < m → take {A = ℕ} 1 (drop {A = ℕ} j (replicate {A = ℕ} m 0)) ≡ 0 ∷ []
 one_zero j m low =
     let zero : ℕ = 0 in
     let zeros : List ℕ = replicate m zero in

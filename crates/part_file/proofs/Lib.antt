@@ -4,3 +4,5 @@ pub mod Overwriting
 pub mod Placing
 pub mod PagesRead
 pub mod Keeping
+pub mod BlankParts
+pub mod Putting

@@ -1,9 +1,9 @@
 -- Where a part stands in a flat file, and the steps of each operation.
-use Rattle.std.specs.Prelude.{◌≡◌, ℕ, ◌+◌, ◌*◌, ◌/◌, Bool, nat_lt, List, [], ◌∷◌, ◌++◌, take, replicate, codes, if◌then◌else◌}
-use Rattle.byteorder.specs.Endian.{little_from}
+use Rattle.std.specs.Prelude.{◌≡◌, ℕ, ◌+◌, ◌-◌, ◌*◌, ◌/◌, Bool, nat_lt, List, [], ◌∷◌, ◌++◌, take, replicate, codes, if◌then◌else◌}
+use Rattle.byteorder.specs.Endian.{little_from, little_bytes}
 use Rattle.flash_model.specs.declared.geometry.Geometry.{Geometry}
 use Rattle.flash_model.specs.Geometry.{IsGeometry, page_count}
-use Rattle.part_file.specs.Steps.{Step, writes, barrier}
+use Rattle.host_files.specs.Steps.{Step, writes, barrier}
 
 -- the sizes in the first twenty bytes, after the magic, in four bytes each
 abbrev pub sizes_in : List ℕ → Geometry
@@ -22,6 +22,18 @@ state_place p = 4096 + p
 -- the first byte of a page: the states are filled up to a multiple of 4,096
 abbrev pub data_place : Geometry → ℕ → ℕ
 data_place g p = 4096 + (page_count g + 4095) / 4096 * 4096 + p * g.page
+
+-- how many bytes a part has
+abbrev pub part_length : Geometry → ℕ
+part_length g = data_place g (page_count g)
+
+-- the head: the magic, and the sizes in four bytes each
+abbrev pub head_text : Geometry → List ℕ
+head_text g = codes "UFFSPART" ++ (little_bytes 4 g.page ++ (little_bytes 4 g.pages ++ little_bytes 4 g.blocks))
+
+-- a part of which each page is erased
+abbrev pub blank_part : Geometry → List ℕ
+blank_part g = head_text g ++ replicate (part_length g - 20) 0
 
 -- a block in which records stand
 abbrev pub is_anchor : ℕ → Bool

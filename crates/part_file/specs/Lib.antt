@@ -1,4 +1,3 @@
-pub mod Steps
 pub mod Layout
 pub mod Pages
 pub mod Flashes

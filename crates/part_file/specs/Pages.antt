@@ -5,7 +5,8 @@ use Rattle.flash_model.specs.declared.flash.PageState.{PageState}
 use Rattle.flash_model.specs.declared.flash.PageState.TheVariants.{Erased, Data, Unreadable}
 use Rattle.flash_model.specs.Geometry.{page_count}
 use Rattle.flash_model.specs.Device.{Device, Page, erased, bytes_of, unreadable}
-use Rattle.part_file.specs.Layout.{IsHead, state_place, data_place}
+use Rattle.host_files.specs.Steps.{overwritten}
+use Rattle.part_file.specs.Layout.{IsHead, state_place, data_place, part_length}
 
 -- the byte of a state
 abbrev pub state_code : PageState → ℕ
@@ -23,9 +24,15 @@ HasPage bytes g p erased = HasState bytes p 0
 HasPage bytes g p (bytes_of content) = HasState bytes p 1 × (take g.page (drop (data_place g p) bytes) ≡ content)
 HasPage bytes g p unreadable = HasState bytes p 2
 
+-- bytes of a part into which a page is put that was erased there
+abbrev pub page_put : Geometry → ℕ → Page → List ℕ → List ℕ
+page_put g p erased bytes = bytes
+page_put g p (bytes_of content) bytes = overwritten (state_place p) (1 ∷ []) (overwritten (data_place g p) content bytes)
+page_put g p unreadable bytes = overwritten (state_place p) (2 ∷ []) bytes
+
 -- each page stands there, and the bytes go up to the end of the last one
 pub record HasPages (d : Device) (bytes : List ℕ) : Type 0 where
-  pub whole : data_place d.geometry (page_count d.geometry) ≤ length bytes
+  pub whole : part_length d.geometry ≤ length bytes
   pub pages : (p : ℕ) → p < page_count d.geometry → HasPage bytes d.geometry p (d.pages p)
 
 -- the bytes are the part of a flash: the head has its sizes, and its pages stand there

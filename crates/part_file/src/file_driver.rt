@@ -1,7 +1,7 @@
 //! What programs and erases a part in a flat file.
-use crate::backing::Backing;
 use crate::part_file::PartFile;
 use flash_model::DevFault;
+use host_files::Backing;
 
 /// A part in a flat file, until an operation on it fails: from then on it has no power, and nothing is
 /// written any more, since what the file holds is not known.
@@ -33,7 +33,7 @@ impl<B: Backing> FileDriver<B> {
     ghost use Rattle.part_file.specs.Flashes.{is_lost};
     ghost use Rattle.part_file.specs.Layout.{program_steps, erase_steps};
     ghost use Rattle.part_file.specs.Parts.{sizes_of, backing_of, driven_part};
-    ghost use Rattle.part_file.specs.Steps.{Does, Becomes};
+    ghost use Rattle.host_files.specs.Steps.{Does, Becomes};
 
     /// Programs a page, which is erased.
     pub(crate) fn program(&mut self, page: u32, bytes: &[u8]) -> Result<(), DevFault>

@@ -5,14 +5,14 @@
 //! and its state, and after each operation. docs/format.md has the layout.
 #![tactic(auto)]
 
-mod backing;
 mod file_driver;
 mod part_file;
 mod part_flash;
 mod places;
 mod reading;
+mod spelling;
 
-pub use backing::Backing;
 pub use part_file::{PartFault, PartFile};
 pub use part_flash::PartFlash;
 pub use reading::read_part;
+pub use spelling::spelled_part;

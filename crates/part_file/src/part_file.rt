@@ -4,16 +4,16 @@ ghost use Rattle.part_file.specs.Pages.{state_code};
 ghost use Rattle.flash_model.specs.Geometry.{IsGeometry};
 ghost use Rattle.part_file.specs.Layout as spec;
 
-use crate::backing::Backing;
 use crate::places::{data_place, state_place};
 use fields::u32_at;
 use flash_model::{Geometry, PageState};
 use fs_types::ANCHORS;
+use host_files::Backing;
 use std::io;
 use thiserror::Error;
 
 /// The first bytes of a part in a file.
-const MAGIC: [u8; 8] = *b"UFFSPART";
+pub(crate) const MAGIC: [u8; 8] = *b"UFFSPART";
 
 /// The state of a page with data.
 const DATA: [u8; 1] = [1];
@@ -70,7 +70,7 @@ impl<B: Backing> PartFile<B> {
     ghost use Rattle.flash_model.specs.Geometry.{IsGeometry, page_count};
     ghost use Rattle.part_file.specs.Layout as spec;
     ghost use Rattle.part_file.specs.Parts.{sizes_of, backing_of};
-    ghost use Rattle.part_file.specs.Steps.{Does, Becomes};
+    ghost use Rattle.host_files.specs.Steps.{Does, Becomes};
     ghost use Rattle.part_file.specs.Pages.{HasPage};
     ghost use Rattle.flash_model.specs.Stored.{page_of};
 

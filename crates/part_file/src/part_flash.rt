@@ -3,11 +3,11 @@ ghost use Rattle.std.specs.Prelude.{◌≡◌};
 ghost use Rattle.mirrored_flash.specs.Mirrors.{mirror_device};
 ghost use Rattle.part_file.specs.Parts.{sizes_driven};
 
-use crate::backing::Backing;
 use crate::file_driver::FileDriver;
 use crate::part_file::{PartFault, PartFile};
 use crate::reading::read_part;
 use flash_model::{DevFault, Flash, Geometry, PageState, SimFlash};
+use host_files::Backing;
 use mirrored_flash::Mirror;
 use std::alloc::Global;
 
@@ -54,7 +54,7 @@ impl<B: Backing> Flash for PartFlash<B> {
     ghost use Rattle.part_file.specs.Flashes.{part_device, driver_of, is_lost, backing_behind, whole_part_pages};
     ghost use Rattle.part_file.specs.Layout.{program_steps, erase_steps};
     ghost use Rattle.part_file.specs.Pages.{KeepsPart};
-    ghost use Rattle.part_file.specs.Steps.{Does};
+    ghost use Rattle.host_files.specs.Steps.{Does};
 
     ghost device = { part_device };
 

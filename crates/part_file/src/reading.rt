@@ -7,9 +7,9 @@ ghost use Rattle.flash_model.specs.Stored.{shown_page, page_of};
 ghost use Rattle.part_file.specs.Pages.{HasPages};
 ghost use Rattle.part_file.specs.Parts.{sizes_of, backing_of};
 
-use crate::backing::Backing;
 use crate::part_file::{PartFault, PartFile};
 use flash_model::{PageState, PageView, SimFlash};
+use host_files::Backing;
 use std::alloc::Global;
 
 /// The flash of a part: its pages, with power on and no block worn. Each page is read, also one without

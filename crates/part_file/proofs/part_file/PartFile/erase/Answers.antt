@@ -1,7 +1,7 @@
 use Rattle.std.proofs.Common.{◌≡◌, ◌*◌, [], ◌∷◌, ◌++◌, take, replicate, subst, arith}
 use Rattle.std.proofs.lemmas.List.{take-replicate}
 use Rattle.part_file.specs.Layout.{state_place, barrier_at}
-use Rattle.part_file.specs.Steps.{writes, Does, Becomes}
+use Rattle.host_files.specs.Steps.{writes, Does, Becomes}
 use Rattle.part_file.proofs.Sizes.{pages-most}
 use Rattle.part_file.proofs.StepLemmas.{Does-then, Becomes-then, Becomes-barrier, on_ok, on_ok_always}
 use Rattle.part_file.proofs.part_file.PartFile.erase.Goals as goal

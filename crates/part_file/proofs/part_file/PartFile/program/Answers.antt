@@ -1,6 +1,6 @@
 use Rattle.std.proofs.Common.{[], ◌∷◌, ◌++◌, ◌/◌, subst}
 use Rattle.part_file.specs.Layout.{data_place, state_place, barrier_at}
-use Rattle.part_file.specs.Steps.{writes, Does, Becomes}
+use Rattle.host_files.specs.Steps.{writes, Does, Becomes}
 use Rattle.part_file.proofs.StepLemmas.{Does-then, Becomes-then, Becomes-barrier, on_ok, on_ok_always}
 use Rattle.part_file.proofs.part_file.PartFile.program.Goals as goal
 

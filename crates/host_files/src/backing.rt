@@ -1,6 +1,6 @@
-//! The trait of the bytes behind a part.
+//! Bytes that are read and written in place.
 ghost use Rattle.std.specs.Prelude.{◌≡◌, ℕ, List, [], ◌∷◌, Option, IfSome, OnOk, length, take, drop};
-ghost use Rattle.part_file.specs.Steps.{Step, writes, barrier, Does, Becomes};
+ghost use Rattle.host_files.specs.Steps.{Step, writes, barrier, Does, Becomes};
 
 use std::io;
 

@@ -1,4 +1,4 @@
--- What is done to the bytes behind a part, in order.
+-- What is done to bytes in place, in order.
 use Rattle.std.specs.Prelude.{◌≡◌, ℕ, ◌+◌, List, [], ◌∷◌, ◌++◌, length, take, drop, Option, None, Some, ⊤}
 
 -- bytes are written from a place on, or all that was written is brought to the medium

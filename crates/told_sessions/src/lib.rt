@@ -6,4 +6,4 @@ mod session_fault;
 mod sessions;
 
 pub use session_fault::SessionFault;
-pub use sessions::serve_script;
+pub use sessions::{make_ready, serve_script};

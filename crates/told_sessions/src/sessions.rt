@@ -41,7 +41,7 @@ pub fn serve_script<A: Read + Drop, O: Write + Drop, R: Read, W: Write>(
 }
 
 /// Makes an empty file system where it is given how many versions are kept.
-fn make_ready<F: Flash>(alloc: Global, flash: &mut F, history: Option<u32>) -> Result<(), Fault>
+pub fn make_ready<F: Flash>(alloc: Global, flash: &mut F, history: Option<u32>) -> Result<(), Fault>
     ensures { MatchResult result (λ _. MakesReady history (F.device flash.old) (F.device flash.new)) (λ fault. IsNotReady history (F.device flash.old) fault (F.device flash.new)) }
 {
     match history {

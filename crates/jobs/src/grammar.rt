@@ -40,6 +40,7 @@ const PROGRAM_HELP: &str = "Status:
   2  the words were refused, or help or the version was asked for
   3  IMAGE holds no image, or a format or a mount was refused
   4  what was asked for was refused, or a line of a script with --stop
+  5  trees differ, with diff --exit-code
 
 Example:
   uffs format disk.image

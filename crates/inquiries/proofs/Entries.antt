@@ -1,16 +1,18 @@
 -- What stands in the tree of a view, and that a call which looks there is accepted.
 use Rattle.std.proofs.Common.{◌≡◌, ◌∙◌, inl, inr, ◌<◌, ◌≤◌, ◌+◌, ◌-◌, ℕ, zero, suc, Bool, true, false, cond, Option, Some, None, List, [], ◌∷◌, ◌++◌, length, take, get_or, append_assoc, IsSome, refl, sym, ap, ap₂, subst, arith}
-use Rattle.std.proofs.lemmas.List.{take_all, take_more, flat_map_more}
+use Rattle.std.proofs.lemmas.List.{take_all, take_more, flat_map_more, length-map, get_or_default, get_or-map}
 use Rattle.std.proofs.lemmas.List.Elements.{All-head, All-tail}
 use Rattle.std.proofs.lemmas.Option.{get_or_from_slice_get, slice_get_within}
-use Rattle.std.specs.Prelude.{All, Contains, slice_get, unwrap_or, if◌then◌else◌}
+use Rattle.std.specs.Prelude.{All, Contains, slice_get, unwrap_or, filter, map, if◌then◌else◌}
 use Rattle.std.specs.FinMap.{get}
 use Rattle.std.specs.List.{flat_map}
 use Rattle.std.specs.Map.{lookup}
 use Rattle.std.specs.BTreeMap.{is_at}
 use Rattle.std.specs.Option.{option_map, option_or, option_map_or, option_and_then}
-use Rattle.fs_types.specs.Names.{Name, Path, is_path, name_cmp}
+use Rattle.fs_types.specs.Names.{Name, Path, is_path, name_cmp, is_after}
 use Rattle.fs_types.specs.declared.call.Call.{Call}
+use Rattle.fs_types.specs.declared.call.Reply.{Reply}
+use Rattle.fs_types.specs.declared.limits.TheConstants.{MAX_ENTRIES}
 use Rattle.fs_types.specs.declared.call.Version.{Version}
 use Rattle.fs_types.specs.declared.call.Stat.{Stat}
 use Rattle.fs_types.specs.declared.call.View.{View}
@@ -22,9 +24,9 @@ use Rattle.plain_trees.proofs.Listings.{listing_law}
 use Rattle.plain_trees.proofs.Lookups.{lookup_law, some-is}
 use Rattle.plain_trees.proofs.Shapes.{last_name}
 use Rattle.history_machine.specs.History.{view_refusal, version_place}
-use Rattle.history_machine.specs.Machine.{Machine, IsMachine, refusal, view_tree, stat_of}
+use Rattle.history_machine.specs.Machine.{Machine, IsMachine, refusal, view_tree, stat_of, stat_at, with_stat, entries_of}
 use Rattle.history_machine.proofs.Kept.{bare-file_tree, working-file_tree}
-use Rattle.inquiries.specs.Items.{item_at, items_below, IsDirectoryOf}
+use Rattle.inquiries.specs.Items.{item_at, items_below, all_entries, levels_below, IsDirectoryOf}
 use Rattle.inquiries.specs.declared.items.Item.{Item}
 
 -- ---- the tree of a view
@@ -105,16 +107,11 @@ module _ (m : Machine) (view : View) (is : IsMachine m) (seen : view_refusal m.h
   pub root_there : IsDirectoryOf m view []
   root_there = record { accepted = seen; there = good.shape.root }
 
-  -- an entry that is listed: its path is one, the call that asks what stands there is accepted, and it is a directory where that
-  -- is said
+  -- an entry that is listed: its path is one, and it is a directory where that is said
   pub entry_path : (p : Path) (n : Name) (b : Bool) → Contains (children (view_tree m view) p) (n, b) → is_path (p ++ n ∷ []) ≡ true
   entry_path p n b listed =
       let there = listed_there (view_tree m view) p n b listed in
       good.paths (p ++ n ∷ []) (some-is (get (view_tree m view) (p ++ n ∷ [])) there.0 there.1)
-
-  pub entry_accepted : (p : Path) (n : Name) (b : Bool) → Contains (children (view_tree m view) p) (n, b) → refusal m (Call.Stat view (p ++ n ∷ [])) ≡ None
-  entry_accepted p n b listed =
-      let there = listed_there (view_tree m view) p n b listed in stat_accepted (p ++ n ∷ []) there.0 there.1
 
   pub entry_directory : (p : Path) (n : Name) → Contains (children (view_tree m view) p) (n, true) → IsDirectoryOf m view (p ++ n ∷ [])
   entry_directory p n listed =
@@ -146,8 +143,56 @@ row-below t levels below p (n, false) is = ap (λ items. item_at t (p ++ n ∷ [
 
 -- ---- the entries of a directory, one after the other
 
-pub listed_at : (t : Tree) (p : Path) (es : List (Name × Bool)) (i : ℕ) (e : Name × Bool) → es ≡ children t p → i < length es → e ≡ get_or es i e → Contains (children t p) e
-listed_at t p es i e is within at = subst (λ (l : List (Name × Bool)). Contains l e) is (i, within, sym at)
+-- nothing stands below a file
+child_below : (t : Tree) (directory : Path) (n : Name) (b : Bool) (levels : ℕ) → Contains (children t directory) (n, b) → levels_below (stat_at t (directory ++ n ∷ [])) levels ≡ (if b then levels - 1 else 0)
+child_below t directory n b levels listed =
+    let there = listed_there t directory n b listed in
+    ap (λ (o : Option Entry). levels_below (stat_of t (directory ++ n ∷ []) o) levels) there.1 ∙ by_entry there.0 ∙ ap (λ (c : Bool). if c then levels - 1 else 0) there.2
+  where
+    by_entry : (x : Entry) → levels_below (stat_of t (directory ++ n ∷ []) (Some x)) levels ≡ (if is_dir x then levels - 1 else 0)
+    by_entry Entry.Dir = refl
+    by_entry (Entry.File bytes) = refl
+
+filter_all : (names : List (Name × Bool)) → filter (λ e. is_after None e.0) names ≡ names
+filter_all [] = refl
+filter_all (e ∷ names) = ap (λ (rest : List (Name × Bool)). e ∷ rest) (filter_all names)
+
+-- with no name to begin after, and as many as a directory may have, all are told
+pub told_all : (m : Machine) (view : View) (path : Path) (most : ℕ) (told : List (Name × Stat)) → IsMachine m → MAX_ENTRIES ≤ most → Reply.Entries told ≡ Reply.Entries (entries_of (view_tree m view) path None most)
+    → told ≡ all_entries (view_tree m view) path
+told_all m view path most told is enough same =
+    let few = (view-file_tree m view is).entries path in
+    let first : told ≡ entries_of (view_tree m view) path None most = cc in
+    first ∙ ap (map (with_stat (view_tree m view) path)) (ap (take most) (filter_all (children (view_tree m view) path)) ∙ take_all most (children (view_tree m view) path) (omega (arith, few, enough)))
+
+-- the name of an entry that was told, with whether it is a directory
+pub record IsTold (t : Tree) (directory : Path) (i : ℕ) (told : Name × Stat) : Type 0 where
+  pub child : Name × Bool
+  pub within : i < length (children t directory)
+  pub at : child ≡ get_or (children t directory) i child
+  pub listed : Contains (children t directory) child
+  pub name : told.0 ≡ child.0
+  pub stat : told.1 ≡ stat_at t (directory ++ child.0 ∷ [])
+  pub below : (levels : ℕ) → levels_below told.1 levels ≡ (if child.1 then levels - 1 else 0)
+
+pub told_at : (t : Tree) (directory : Path) (es : List (Name × Stat)) (i : ℕ) (e : Name × Stat) → es ≡ all_entries t directory → i < length es → e ≡ get_or es i e → IsTold t directory i e
+told_at t directory es i e is within at =
+    let names : List (Name × Bool) = children t directory in
+    let child : Name × Bool = get_or names i (e.0, false) in
+    let inside : i < length names = let long = ap length is ∙ length-map names (with_stat t directory) in omega (arith, within, long) in
+    let here : child ≡ get_or names i child = get_or_default names i (e.0, false) child inside in
+    let told : e ≡ with_stat t directory child =
+    at ∙ ap (λ (l : List (Name × Stat)). get_or l i e) is ∙ get_or_default (all_entries t directory) i e (with_stat t directory (e.0, false)) (omega (arith, inside, length-map names (with_stat t directory)))
+    ∙ get_or-map (with_stat t directory) names i (e.0, false) in
+    record {
+      child = child;
+      within = inside;
+      at = here;
+      listed = (i, inside, sym here);
+      name = ap (λ (x : Name × Stat). x.0) told;
+      stat = ap (λ (x : Name × Stat). x.1) told;
+      below = λ levels. ap (λ (x : Name × Stat). levels_below x.1 levels) told ∙ child_below t directory child.0 child.1 levels (i, inside, sym here);
+    }
 
 abbrev item : Path → Stat → Item
 item path stat = record { path = path; stat = stat }

@@ -5,7 +5,7 @@ use Rattle.std.proofs.lemmas.List.{take_all}
 use Rattle.std.specs.Prelude.{◌&&◌, if◌then◌else◌, IfOk, IfErr, List, length}
 use Rattle.std.specs.FinMap.{get}
 use Rattle.std.specs.Option.{option_or, option_map_or}
-use Rattle.fs_types.specs.Names.{Path}
+use Rattle.fs_types.specs.Names.{Name, Path}
 use Rattle.fs_types.specs.declared.call.Call.{Call}
 use Rattle.fs_types.specs.declared.call.Reply.{Reply}
 use Rattle.fs_types.specs.declared.call.View.{View}
@@ -49,8 +49,8 @@ and_false false = refl
 pub stat_reads : (view : View) (path : Path) → IsReading (Call.Stat view path)
 stat_reads view path = record { still = λ m. refl; quiet = λ m. and_false (is_accepted m (Call.Stat view path)); unsynced = refl; untold = refl; needless = λ capacity m. refl }
 
-pub list_reads : (view : View) (path : Path) → IsReading (Call.List view path)
-list_reads view path = record { still = λ m. refl; quiet = λ m. and_false (is_accepted m (Call.List view path)); unsynced = refl; untold = refl; needless = λ capacity m. refl }
+pub entries_reads : (view : View) (path : Path) (from : Option Name) (most : ℕ) → IsReading (Call.Entries view path from most)
+entries_reads view path from most = record { still = λ m. refl; quiet = λ m. and_false (is_accepted m (Call.Entries view path from most)); unsynced = refl; untold = refl; needless = λ capacity m. refl }
 
 pub file_reads : (view : View) (path : Path) (offset count : ℕ) → IsReading (Call.ReadAt view path offset count)
 file_reads view path offset count = record { still = λ m. refl; quiet = λ m. and_false (is_accepted m (Call.ReadAt view path offset count)); unsynced = refl; untold = refl; needless = λ capacity m. refl }

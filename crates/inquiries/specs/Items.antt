@@ -1,19 +1,29 @@
 -- All that stands in a tree.
-use Rattle.std.specs.Prelude.{◌≡◌, ◌++◌, zero, suc, ℕ, Some, None, IsSome, List, [], ◌∷◌, if◌then◌else◌}
+use Rattle.std.specs.Prelude.{◌≡◌, ◌++◌, ◌-◌, zero, suc, ℕ, map, Some, None, IsSome, List, [], ◌∷◌, if◌then◌else◌}
 use Rattle.std.specs.FinMap.{get}
 use Rattle.std.specs.List.{flat_map}
-use Rattle.fs_types.specs.Names.{Path}
+use Rattle.fs_types.specs.Names.{Name, Path}
+use Rattle.fs_types.specs.declared.call.Stat.{Stat}
 use Rattle.fs_types.specs.declared.call.View.{View}
 use Rattle.fs_types.specs.declared.limits.TheConstants.{MAX_NAMES}
 use Rattle.plain_trees.specs.Contents.{Entry}
 use Rattle.plain_trees.specs.Trees.{Tree, children, bytes_of_file}
 use Rattle.history_machine.specs.History.{view_refusal}
-use Rattle.history_machine.specs.Machine.{Machine, view_tree, stat_of}
+use Rattle.history_machine.specs.Machine.{Machine, view_tree, stat_of, with_stat}
 use Rattle.inquiries.specs.declared.items.Item.{Item}
 
 -- what stands at a path
 abbrev pub item_at : Tree → Path → Item
 item_at t path = record { path = path; stat = stat_of t path (get t path) }
+
+-- the entries of a directory, each with what stands there
+abbrev pub all_entries : Tree → Path → List (Name × Stat)
+all_entries t path = map (with_stat t path) (children t path)
+
+-- how many levels are left below what stands there: nothing stands below a file
+abbrev pub levels_below : Stat → ℕ → ℕ
+levels_below (Stat.Dir count) levels = levels - 1
+levels_below (Stat.File size) levels = 0
 
 -- what stands below a directory, in so many levels: its entries in byte order of their names, each before what stands below it
 unfoldable pub items_below : Tree → ℕ → Path → List Item

@@ -3,10 +3,10 @@ ghost use Rattle.std.specs.Prelude.{◌≡◌, ◌++◌, [], ◌∷◌, ◌<◌,
 ghost use Rattle.fs_types.specs.Names.{is_path};
 ghost use Rattle.history_machine.specs.History.{view_refusal};
 ghost use Rattle.history_machine.specs.Machine.{view_tree};
-ghost use Rattle.inquiries.specs.Items.{items_below, items_of, IsDirectoryOf};
+ghost use Rattle.inquiries.specs.Items.{items_below, items_of, levels_below, IsDirectoryOf};
 ghost use Rattle.inquiries.specs.Readings.{shown, IsUnchanged, Fails, Meets};
 
-use crate::reading::{check_view, list_at, stat_at};
+use crate::reading::{check_view, entries_at};
 use flash_model::Flash;
 use fs_types::{Fault, MAX_NAMES, Name, Path, Stat, View};
 use std::alloc::{AllocError, Global};
@@ -57,19 +57,28 @@ fn add_items<F: Flash>(
     if levels == 0 {
         return Ok(());
     }
-    let names = list_at(alloc, fs, view, directory)?;
-    for (name, is_directory) in names.as_slice() {
+    let entries = entries_at(alloc, fs, view, directory)?;
+    for (name, stat) in entries.as_slice() {
         let path = child_of(alloc, directory, name)?;
-        let stat = stat_at(fs, view, &path)?;
         items.push(Item {
             path: path.clone()?,
-            stat,
+            stat: *stat,
         })?;
-        // Nothing stands below a file.
-        let below = if *is_directory { levels - 1 } else { 0 };
+        let below = levels_below(*stat, levels);
         add_items(alloc, fs, view, &path, below, items)?;
     }
     Ok(())
+}
+
+/// How many levels stand below what stands in a directory of so many: nothing stands below a file.
+fn levels_below(stat: Stat, levels: usize) -> usize
+    requires { 0 < levels }
+    ensures { result ≡ levels_below stat levels }
+{
+    match stat {
+        Stat::Dir(_) => levels - 1,
+        Stat::File(_) => 0,
+    }
 }
 
 /// The path of an entry of a directory.

@@ -2,10 +2,10 @@
 ghost use Rattle.std.specs.Prelude.{◌≡◌, Some, None, IfOk, OnOk, IfErr};
 ghost use Rattle.std.specs.FinMap.{get};
 ghost use Rattle.plain_trees.specs.Contents.{Entry};
-ghost use Rattle.plain_trees.specs.Trees.{children};
 ghost use Rattle.history_machine.specs.History.{view_refusal};
 ghost use Rattle.history_machine.specs.Machine.{refusal, view_tree, stat_of};
 ghost use Rattle.fs_types.specs.declared.call.Call.{Call};
+ghost use Rattle.inquiries.specs.Items.{all_entries};
 ghost use Rattle.inquiries.specs.Readings.{shown, IsUnchanged, Fails, Meets};
 ghost use Rattle.inquiries.specs.Versions.{kept_serials, kept_names};
 
@@ -27,18 +27,18 @@ pub(crate) fn stat_at<F: Flash>(fs: &mut Fs<'_, F>, view: &View, path: &Path) ->
     fs.stat(view, path)
 }
 
-/// The names in a directory of a view, in byte order, each with whether it is a directory.
-pub(crate) fn list_at<F: Flash>(
+/// The entries of a directory of a view, in byte order of their names, each with what stands there.
+pub(crate) fn entries_at<F: Flash>(
     alloc: Global,
     fs: &mut Fs<'_, F>,
     view: &View,
     path: &Path,
-) -> Result<Sequence<(Name, bool)>, Fault>
+) -> Result<Sequence<(Name, Stat)>, Fault>
     ensures same { IsUnchanged fs.old fs.new }
-    ensures ok { IfOk result (λ names. names ≡ children (view_tree (shown fs.old) view.now) path.now) }
+    ensures ok { IfOk result (λ entries. entries ≡ all_entries (view_tree (shown fs.old) view.now) path.now) }
     ensures err { IfErr result (Fails (refusal (shown fs.old) (Call.List view.now path.now)) fs.old fs.new) }
 {
-    fs.list(alloc, view, path)
+    fs.entries(alloc, view, path, None, u64::MAX)
 }
 
 /// Looks whether a view is there.

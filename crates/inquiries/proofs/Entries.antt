@@ -182,8 +182,7 @@ told_at t directory es i e is within at =
     let inside : i < length names = let long = ap length is ∙ length-map names (with_stat t directory) in omega (arith, within, long) in
     let here : child ≡ get_or names i child = get_or_default names i (e.0, false) child inside in
     let told : e ≡ with_stat t directory child =
-    at ∙ ap (λ (l : List (Name × Stat)). get_or l i e) is ∙ get_or_default (all_entries t directory) i e (with_stat t directory (e.0, false)) (omega (arith, inside, length-map names (with_stat t directory)))
-    ∙ get_or-map (with_stat t directory) names i (e.0, false) in
+    at ∙ ap (λ (l : List (Name × Stat)). get_or l i e) is ∙ get_or-map (with_stat t directory) names i (e.0, false) e inside in
     record {
       child = child;
       within = inside;

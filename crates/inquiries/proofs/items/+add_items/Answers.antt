@@ -49,8 +49,8 @@ add_items-requires g s c =
     let same : shown c.loop-name.fs ≡ m = c.loop-name.invariant.0.machine in
     λ κs sub. (
       elim (cases_Bool told.child.1) [
-        inl deep ↦ (let less : c.levels_below-below.result ≡ c.args.levels - 1 = below ∙ ap (λ (b : Bool). if b then c.args.levels - 1 else 0) deep in omega (arith, less, some))
-      | inr file ↦ (let none : c.levels_below-below.result ≡ 0 = below ∙ ap (λ (b : Bool). if b then c.args.levels - 1 else 0) file in omega (arith, none, some))
+        | inl deep ↦ (let less : c.levels_below-below.result ≡ c.args.levels - 1 = below ∙ ap (λ (b : Bool). if b then c.args.levels - 1 else 0) deep in omega (arith, less, some))
+        | inr file ↦ (let none : c.levels_below-below.result ≡ 0 = below ∙ ap (λ (b : Bool). if b then c.args.levels - 1 else 0) file in omega (arith, none, some))
       ],
       (
         sub,

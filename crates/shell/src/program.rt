@@ -25,7 +25,7 @@ use std::io::{Read, Write};
 
 /// Carries out the words that follow the program's name, and answers the status.
 ///
-/// The subcommands, what each reads and writes, and the lines on `err` are those of docs/scripts.md.
+/// The subcommands, what each reads and writes, and the lines on `err` are those of docs/program.md.
 /// Status 0: the job ran to its end, whatever the replies to a script. 1: the image, the input, the
 /// output or memory failed. 2: the words were refused, or help was asked for. 3: the image, a format
 /// or a mount was refused. 4: what was asked for was refused, or a line of a script that is to stop

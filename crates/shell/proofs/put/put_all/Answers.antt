@@ -1,4 +1,4 @@
-use Rattle.std.proofs.Common.{inl, inr}
+use Rattle.std.proofs.Common.{inl}
 use Rattle.shell.specs.Served.{place}
 use Rattle.shell.proofs.put.put_all.Goals as goal
 
@@ -7,6 +7,3 @@ returns-in-Err g c = inl c.in-Err.ensures.ends
 
 pub returns-in-Ok-end_group : goal.returns-in-Ok-end_group
 returns-in-Ok-end_group g c = (place c.put_group.new.mounted, c.in-Ok.ensures.ends, c.in-Ok-end_group.ensures)
-
-pub returns : goal.returns
-returns g c = inr (place c.put_group.new.mounted, c.in-Err-end_group.refusal, c.in-Ok.ensures.ends, c.in-Err-end_group.ensures, c.of_refusal.ensures)

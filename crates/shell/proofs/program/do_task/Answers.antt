@@ -4,9 +4,9 @@ use Rattle.shell.proofs.program.do_task.Goals as goal
 
 pub returns-in-Explain : goal.returns-in-Explain
 returns-in-Explain g c = rw (c.in-Explain.is) (
-    subst (λ (word : List ℕ). ExplainEnds word c.explain.result (g.W.Write.contents c.args.out.now) (g.W.Write.contents c.explain.new.out)) c.word_given-in-Explain.ensures c.explain.ensures,
-    record {
-      files = refl;
-      unread = refl;
-    },
-  )
+  subst (λ (word : List ℕ). ExplainEnds word c.explain.result (g.W.Write.contents c.args.out.now) (g.W.Write.contents c.explain.new.out)) c.word_given-in-Explain.ensures c.explain.ensures,
+  record {
+    files = refl;
+    unread = refl;
+  },
+)

@@ -190,11 +190,13 @@ def dash(program, folder):
 
 
 def about(program, folder):
-    """`help` and `version` write to the output what `--help` and `--version` tell."""
+    """`version` writes to the output what `--version` tells, and `help` what can be asked for."""
     for word in ("help", "version"):
         status, out, told = run(program, ["--" + word])
         want((status, out), (2, b""))
-        want(run(program, [word]), (0, told, b""))
+        printed = run(program, [word])
+        begin = told if word == "version" else told.split(b"\n")[0]
+        want((printed[0], printed[1].startswith(begin), printed[2]), (0, True, b""))
 
 
 CASES = [closed_output, closed_errors, closed_input, all_closed, limited, not_utf8, fifos, in_use, full_disk, full_output, dash, about]

@@ -15,7 +15,7 @@ Of each table whose columns are those of a program of the gate, as it prints the
 in its stdout under the same name, with the same figures.
 Of each link: what it leads to has to be there, the section too. A page that is named has to be a link,
 and a page of over 1,500 words begins with a list of its sections. And docs/proved.md has to be as
-tools/write_proved.py writes it.
+tools/write_proved.py writes it, the man page and the completion as tools/write_manual.py does.
 It prints a line for each that does not; its status is 1 where there is one.
 """
 import glob
@@ -23,6 +23,7 @@ import os
 import re
 import sys
 
+import write_manual
 import write_proved
 
 TOP = os.path.dirname(os.path.dirname(os.path.abspath(__file__)))
@@ -234,6 +235,9 @@ def main():
         told += len(wrong)
     if read(write_proved.PAGE) != write_proved.page():
         print("docs/proved.md is not as tools/write_proved.py writes it")
+        told += 1
+    for name in write_manual.stale():
+        print(f"{name} is not as tools/write_manual.py writes it")
         told += 1
     print(f"{count} blocks, {told} faults" if told else f"{count} blocks, all run or named; tables and links as they should be")
     return 1 if told else 0

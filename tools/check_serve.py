@@ -4,15 +4,19 @@
   tools/check_serve.py PROGRAM
 
 PROGRAM is crates/uffs/out/uffs, as `rt run` builds it there. The driver keeps a part in memory: 32 blocks of
-16 pages of 256 bytes. It aborts where a page is programmed twice or an order is none. Each case is a line
-`ok` or `WRONG` with its name; the status is the number of the wrong ones.
+16 pages of 256 bytes. It aborts where a page is programmed twice or an order is none. `serve --part` is tried
+on a flat file in a folder of its own. Each case is a line `ok` or `WRONG` with its name; the status is the
+number of the wrong ones.
 """
 import os
+import random
 import select
 import struct
 import subprocess
 import sys
+import tempfile
 import threading
+import time
 
 PAGE, PAGES, BLOCKS = 256, 16, 32
 DONE, FAILED, CUT = 1, 2, 0
@@ -130,6 +134,24 @@ class Child:
         self.driver.join(20)
 
 
+class PlacedChild(Child):
+    """`uffs serve --part` on a flat file, which has no driver."""
+
+    def __init__(self, program, name):
+        self.process = subprocess.Popen(
+            [program, "serve", "--part", name], stdin=subprocess.PIPE, stdout=subprocess.PIPE, stderr=subprocess.PIPE
+        )
+
+    def end(self):
+        out, told = self.process.communicate()
+        want(out, b"")
+        return self.process.returncode, told.decode()
+
+    def kill(self):
+        self.process.kill()
+        self.process.communicate()
+
+
 def run(program, part, words, plan=None):
     """The replies to the script, and how many orders were given."""
     child = Child(program, part, words, plan)
@@ -194,7 +216,48 @@ def a_part_with_no_file_system(program):
     want(child.end(), (3, "uffs: NORECORD 27\n"))
 
 
-CASES = [replies_come_one_by_one, what_was_synced_outlives_a_kill, each_order_cut, each_order_failed, a_part_with_no_file_system]
+def made(program, folder):
+    """A part in a flat file, with an empty file system."""
+    name = os.path.join(folder, "part")
+    want(subprocess.run([program, "format", "--part", name, "--blocks", "64"]).returncode, 0)
+    return name
+
+
+def a_sync_in_place_outlives_a_kill(program):
+    """Killed at a moment after the reply to a sync, with more lines under way: all that was synced is found."""
+    moments, names = random.Random(1), "abcdefghijkl"
+    with tempfile.TemporaryDirectory() as folder:
+        for _ in range(60):
+            name = made(program, folder)
+            child, synced = PlacedChild(program, name), moments.randrange(1, 6)
+            for line in [f"mkdir /{one}" for one in names[:synced]] + ["sync"]:
+                want(child.ask(line), "ok")
+            child.process.stdin.write("".join(f"mkdir /{one}\nsync\n" for one in names[synced:]).encode())
+            child.process.stdin.flush()
+            time.sleep(moments.random() * 0.02)
+            child.kill()
+            after = PlacedChild(program, name)
+            found = after.ask("ls /").split()[2:]
+            want(after.end(), (0, ""))
+            want((found, synced <= len(found)), ([one + "/" for one in names[: len(found)]], True))
+
+
+def a_part_in_use_is_refused(program):
+    with tempfile.TemporaryDirectory() as folder:
+        name = made(program, folder)
+        child = PlacedChild(program, name)
+        want(child.ask("mkdir /a"), "ok")
+        want(PlacedChild(program, name).end(), (1, f"uffs: cannot write {name}\n"))
+        for words in [["format", "--part", name], ["from-part", name, name + ".image"]]:
+            want(subprocess.run([program, *words], stderr=subprocess.DEVNULL).returncode, 1)
+        want(child.ask("sync"), "ok")
+        want(child.end(), (0, ""))
+
+
+CASES = [
+    replies_come_one_by_one, what_was_synced_outlives_a_kill, each_order_cut, each_order_failed, a_part_with_no_file_system,
+    a_sync_in_place_outlives_a_kill, a_part_in_use_is_refused,
+]
 
 
 def main():

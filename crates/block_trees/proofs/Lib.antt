@@ -7,6 +7,7 @@ pub mod EditedTrees
 pub mod EmptyDirectories
 pub mod Entries
 pub mod FileTrees
+pub mod FilePuts
 pub mod Frames
 pub mod MovedTrees
 pub mod Reaching

@@ -1,6 +1,7 @@
 //! The laws of trees of nodes. Each function does nothing: its contract is the law.
 ghost use Rattle.block_trees.specs.ChainLaws.{ChainFrameLaw, CountLaw, EntryLaw, FirstLaw, NamedLaw, ReachedByLaw, ReachedLaw, StepLaw, TailLaw};
 ghost use Rattle.block_trees.specs.Laws.{AllEdits, AllFrames, AllMoves, DepthLaw, MkdirLaw, PutFileLaw, BlockRemoveLaw, BlockRenameLaw};
+ghost use Rattle.block_trees.specs.Puts.{PutFilesLaw};
 
 /// Where all that a place or a root reaches is kept, nothing of it changes.
 pub fn frame_laws()
@@ -8,12 +9,13 @@ pub fn frame_laws()
 {}
 
 /// What a path written anew gives: the tree of the new root, and what it reaches; for a new empty
-/// directory, an entry taken out and a file as finite maps.
+/// directory, an entry taken out, a file and many files of a directory as finite maps.
 pub fn edit_laws()
     ensures edits { AllEdits }
     ensures made { MkdirLaw }
     ensures removed { BlockRemoveLaw }
     ensures file_put { PutFileLaw }
+    ensures files_put { PutFilesLaw }
 {}
 
 /// What two paths written anew give, so that what stood at the one stands at the other: the tree of

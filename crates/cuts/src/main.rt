@@ -1,13 +1,14 @@
 //! Cuts the power in each device operation of scripts, in each way that there is. The lines after a
 //! cut are left out; a restart, and what is done from there, follow. The oracle of sessions judges
 //! each answer, and all that is shown after each restart. For each script it prints how many runs and
-//! cuts there were. A run that is none by the oracle is told, and the status is 1. Two servers that
-//! are wrong on purpose have to be seen, too.
+//! cuts there were. A run that is none by the oracle is told, and the status is 1. So is a reply that is
+//! not the script's where no cut comes. Two servers that are wrong on purpose have to be seen, too.
 #![tactic(auto)]
 
 mod newest;
 mod pairs;
 mod planned;
+mod replies;
 mod runs;
 mod servers;
 mod sessions;
@@ -16,6 +17,7 @@ mod trials;
 
 use anyhow::{Context, Result};
 use pairs::cut_twice;
+use replies::count_wrong;
 use servers::Server;
 use session_oracle::Script;
 use std::fs;
@@ -37,7 +39,22 @@ fn run<R: Files + AllocGlobal + Print>(rt: &R, name: &str) -> Result<u64> {
     let text = fs::read_to_string(rt, name).context(format_args!("reading {name}"))?;
     let script = Script::read(rt.alloc(), text.as_str())?;
     let trial = Trial::new(rt.alloc(), &script)?;
-    try_script(rt, name, &trial)
+    let wrong = check_replies(rt, name, &script, &trial)?;
+    Ok(wrong.saturating_add(try_script(rt, name, &trial)?))
+}
+
+/// Carries a script out with no cut, and answers how many of its replies are not what it tells.
+fn check_replies<R: AllocGlobal + Print>(
+    rt: &R,
+    name: &str,
+    script: &Script<'_>,
+    trial: &Trial,
+) -> Result<u64> {
+    let wrong = count_wrong(rt.alloc(), script, trial)?;
+    if wrong != 0 {
+        println!(rt; "{name}: {wrong} lines are answered otherwise")?;
+    }
+    Ok(wrong)
 }
 
 fn try_script<R: AllocGlobal + Print>(rt: &R, name: &str, trial: &Trial) -> Result<u64> {

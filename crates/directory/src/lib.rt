@@ -17,7 +17,7 @@ pub use depths::{any_is_deeper, depth_laws, is_deeper};
 pub use directory_puts::{NamedPlace, put_in_directory};
 pub use edits::{put_directory, put_entry, remove_entry};
 pub use listings::{entry_count, is_empty, names};
-pub use lookups::{Found, lookup, lookup_laws};
+pub use lookups::{Found, found_in, lookup, lookup_laws};
 pub use moves::move_entry;
 pub use place_stats::stats;
 pub use places::places_after;

@@ -161,8 +161,11 @@ pub(crate) fn directory_at(place: Option<Place>) -> Result<u32, Fault>
     }
 }
 
-/// What a name leads to in the directory that begins in a block, as the last component of a path.
-pub(crate) fn found_in<N: Nodes>(nodes: &mut N, block: u32, name: &Name) -> Result<Found, Fault>
+/// What a name leads to in the directory that begins in a block, as the last component of a path. No
+/// node after the one that has the name is read.
+///
+/// Refused with `Damaged` only where no directory begins there, and with what a read is refused with.
+pub fn found_in<N: Nodes>(nodes: &mut N, block: u32, name: &Name) -> Result<Found, Fault>
     requires { N.is_sound nodes.old }
 
     // What was found.

@@ -10,6 +10,7 @@ call_of (Request.Pread descriptor offset count) = Call.Pread descriptor offset c
 call_of (Request.Pwrite descriptor offset bytes) = Call.Pwrite descriptor offset bytes.now
 call_of (Request.Ftruncate descriptor length) = Call.Ftruncate descriptor length
 call_of (Request.WriteFile path bytes) = Call.WriteFile path.now bytes.now
+call_of (Request.WriteFiles directory files) = Call.WriteFiles directory.now files.now
 call_of (Request.Rename old new) = Call.Rename old.now new.now
 call_of (Request.Unlink path) = Call.Unlink path.now
 call_of (Request.Mkdir path) = Call.Mkdir path.now

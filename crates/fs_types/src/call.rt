@@ -1,6 +1,7 @@
 //! The calls of a file system, and what they answer.
 use crate::cp_name::CpName;
 use crate::name::Name;
+use crate::named_file::NamedFile;
 use crate::open_flags::OpenFlags;
 use crate::path::Path;
 use crate::sequence::{Bytes, Sequence};
@@ -73,6 +74,12 @@ pub enum Call {
     WriteFile {
         path: Path,
         bytes: Bytes,
+    },
+    /// `write_files`: each of these files of one directory, which is made or replaced, has exactly its
+    /// bytes.
+    WriteFiles {
+        directory: Path,
+        files: Sequence<NamedFile>,
     },
     /// `rename`: what stands at `old` moves to `new`.
     Rename {

@@ -9,6 +9,8 @@ pub enum Event {
     Call(Call),
     /// A step of reclaiming, which reads so many blocks at most.
     ReclaimStep(u64),
+    /// A step of cleaning, which looks at so many free blocks at most.
+    CleanStep(u64),
     /// The power is put on, and the system is mounted anew.
     Restart,
 }

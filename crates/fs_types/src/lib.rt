@@ -7,6 +7,7 @@ mod event;
 mod fault;
 mod limits;
 mod name;
+mod named_file;
 mod open_flags;
 mod path;
 mod request;
@@ -22,6 +23,7 @@ pub use limits::{
     MIN_VERSIONS, MOUNTED_NODES, NODE_ENTRIES, limit_laws,
 };
 pub use name::{Name, is_after};
+pub use named_file::{NamedFile, files_refusal};
 pub use open_flags::OpenFlags;
 pub use path::{Path, is_lawful_name};
 pub use request::Request;

@@ -1,5 +1,5 @@
 //! Paths, read from the bytes that spell them.
-ghost use Rattle.std.specs.Prelude.{◌≡◌, Bool, true, false, not, ◌==◌, ◌&&◌, ◌<◌, ◌≤◌, Some, None, [], length, IfOk, IfErr, unwrap_or, nat_le, map};
+ghost use Rattle.std.specs.Prelude.{◌≡◌, Bool, true, false, not, ◌==◌, ◌&&◌, ◌<◌, ◌≤◌, Some, None, [], ◌∷◌, ◌++◌, length, IfOk, IfErr, unwrap_or, nat_le, map};
 ghost use Rattle.std.specs.Cmp.{partial_order_from_own_ties};
 ghost use Rattle.std.specs.Cmp.Rules.{comparing};
 ghost use Rattle.std.specs.Cmp.Lexicographic.{lists_ties, texts_ties};
@@ -63,6 +63,16 @@ impl Path {
         ensures { result ≡ (length self.now == 0) }
     {
         self.names.is_empty()
+    }
+
+    /// The path with one name more.
+    pub fn join(&self, name: &Name) -> Result<Path, AllocError>
+        requires { length self.now < MAX_NAMES }
+        ensures { IfOk result (λ path. path ≡ self.now ++ name.now ∷ []) }
+    {
+        let Path { mut names } = self.clone()?;
+        names.push(name.clone()?)?;
+        Ok(Path { names })
     }
 
     /// The path that bytes spell: `/` for the root, else names with a `/` before each.

@@ -5,6 +5,7 @@ ghost use Rattle.fs_types.specs.Requests.{call_of};
 use crate::call::{Call, View};
 use crate::cp_name::CpName;
 use crate::name::Name;
+use crate::named_file::NamedFile;
 use crate::open_flags::OpenFlags;
 use crate::path::Path;
 
@@ -35,6 +36,10 @@ pub enum Request<'a> {
     WriteFile {
         path: &'a Path,
         bytes: &'a [u8],
+    },
+    WriteFiles {
+        directory: &'a Path,
+        files: &'a [NamedFile],
     },
     Rename {
         old: &'a Path,
@@ -135,6 +140,10 @@ impl Call {
             Call::WriteFile { path, bytes } => Request::WriteFile {
                 path,
                 bytes: bytes.as_slice(),
+            },
+            Call::WriteFiles { directory, files } => Request::WriteFiles {
+                directory,
+                files: files.as_slice(),
             },
             Call::Rename { old, new } => Request::Rename { old, new },
             Call::Unlink { path } => Request::Unlink { path },

@@ -19,6 +19,7 @@ history_line HistoryCall.Rollback checkpoint count = codes "rollback " ++ checkp
 history_line HistoryCall.Checkpoint checkpoint count = codes "checkpoint " ++ checkpoint
 history_line HistoryCall.RemoveCheckpoint checkpoint count = codes "rmcheckpoint " ++ checkpoint
 history_line HistoryCall.Forget checkpoint count = codes "forget " ++ decimal count
+history_line HistoryCall.ForgetFree checkpoint count = codes "forgetfree " ++ decimal count
 
 -- how often it is asked for: a step by each. A history has at most so many versions, and so fewer steps: as many lines as versions
 -- are refused, and stand for any greater number
@@ -34,6 +35,7 @@ history_script line count = repeat count (line ++ codes "\n") ++ codes "sync\n"
 -- how a line is refused before a call is carried out, if it is
 abbrev pub refusal_of_line : Line → Option Refusal
 refusal_of_line (Line.Call call) = None
+refusal_of_line (Line.ForgetFree blocks) = None
 refusal_of_line (Line.Refused fault) = Some (Refusal.Fault fault)
 refusal_of_line _ = Some Refusal.Syntax
 

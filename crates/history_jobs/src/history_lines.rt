@@ -52,6 +52,7 @@ fn history_line(
         HistoryCall::Checkpoint => format!(in alloc; "checkpoint {checkpoint}"),
         HistoryCall::RemoveCheckpoint => format!(in alloc; "rmcheckpoint {checkpoint}"),
         HistoryCall::Forget => format!(in alloc; "forget {count}"),
+        HistoryCall::ForgetFree => format!(in alloc; "forgetfree {count}"),
     }
 }
 
@@ -70,7 +71,7 @@ fn refusal_of_line(alloc: Global, line: &str) -> Result<Option<Refusal>, AllocEr
     ensures { IfOk result (λ refusal. refusal ≡ refusal_of_line (line_of line.now)) }
 {
     match read_line(alloc, line.as_bytes())? {
-        Line::Call(_) => Ok(None),
+        Line::Call(_) | Line::ForgetFree(_) => Ok(None),
         Line::Refused(fault) => Ok(Some(Refusal::Fault(fault))),
         _ => Ok(Some(Refusal::Syntax)),
     }

@@ -1,11 +1,11 @@
 -- The law of entries.
-use Rattle.std.proofs.Common.{◌≡◌, ℕ, Bool, true, false, cond, Option, List, [], ◌∷◌, ◌++◌, take, map, refl, sym, ap, ◌∙◌}
+use Rattle.std.proofs.Common.{◌≡◌, Bool, true, false, cond, Option, List, [], ◌∷◌, ◌++◌, take, map, refl, sym, ap, ◌∙◌}
 use Rattle.std.specs.Prelude.{filter}
 use Rattle.std.proofs.lemmas.List.{take-map}
 use Rattle.std.proofs.lemmas.List.Elements.{All-map}
 use Rattle.std.proofs.lemmas.Simd.{map-map}
-use Rattle.fs_types.specs.Names.{Name, Path, is_after}
-use Rattle.plain_trees.specs.Trees.{Tree, children}
+use Rattle.fs_types.specs.Names.{Name, is_after}
+use Rattle.plain_trees.specs.Trees.{children}
 use Rattle.history_machine.specs.Entries.{EntryStatsLaw}
 use Rattle.history_machine.specs.Machine.{view_tree, reply_of, with_stat, listed_after}
 use Rattle.fs_types.specs.declared.call.Call.{Call}

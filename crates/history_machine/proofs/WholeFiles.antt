@@ -1,6 +1,6 @@
 -- What write_file stands for.
 use Rattle.std.proofs.Common.{◌≡◌, ℕ, ◌+◌, ◌<◌, ◌≤◌, Bool, true, false, cond, ◌&&◌, ◌||◌, not, Option, Some, None, List, [], ◌∷◌, ◌++◌, length, append-nil, sym, ap, refl, ◌∙◌, subst, arith, inl, inr, ◌⊎◌}
-use Rattle.std.proofs.lemmas.Bool.{true≢false, not-false, le-ltb, ltb-false, eqb-true}
+use Rattle.std.proofs.lemmas.Bool.{true≢false, le-ltb, ltb-false, eqb-true}
 use Rattle.std.specs.Prelude.{◌==◌, unwrap_or, nat_lt}
 use Rattle.std.specs.Option.{is_some, is_none, option_or, option_map_or, option_and_then}
 use Rattle.std.specs.FinMap.{get}
@@ -13,12 +13,12 @@ use Rattle.fs_types.specs.declared.call.Group.{Group}
 use Rattle.fs_types.specs.declared.fault.Fault.{Fault}
 use Rattle.fs_types.specs.declared.fault.Fault.TheVariants.{Busy, DirectoryFull, TooBig, TooManyOpen}
 use Rattle.history_machine.specs.History.{Past, IsLawful, present_root, changed, working_root, history_with, group_with}
-use Rattle.history_machine.specs.Machine.{Machine, IsMachine, working_tree, full_table_refusal, open_refusal, write_place_refusal, size_refusal, file_put, open_changes, write_file_changes, refusal, tree_after, history_after, group_after, machine_of, next, after, makes_version, version_after, machine_with}
+use Rattle.plain_trees.specs.Files.{file_put}
+use Rattle.history_machine.specs.Machine.{Machine, IsMachine, working_tree, full_table_refusal, open_refusal, write_place_refusal, size_refusal, open_changes, write_file_changes, refusal, tree_after, history_after, group_after, machine_of, next, after, makes_version, version_after, machine_with}
 use lib.Seq.{drop-nil}
 use Rattle.history_machine.specs.Laws.{anew, write_file_calls, WriteFileLaw}
-use Rattle.fs_types.proofs.Orders.{same_name-is}
 use Rattle.plain_trees.proofs.Edits.{put_law, get-put, same_tree}
-use Rattle.history_machine.proofs.Accepted.{FileWritten, write_file-accepted}
+use Rattle.history_machine.proofs.Accepted.{FileWritten, same-there, write_file-accepted}
 use Rattle.history_machine.proofs.Groups.{worked-after, version-outside, same-free}
 use Rattle.history_machine.proofs.Steps.{tree-changed, made}
 
@@ -35,7 +35,7 @@ in-order (Some fault) b c = refl
 table-free : (m : Machine) → is_some (least_free m.descriptors) ≡ true → full_table_refusal m ≡ None
 table-free m free = ap (λ b. cond b (Some TooManyOpen) None) (none-missing (least_free m.descriptors) free)
 
-at-place : (m : Machine) (path : Path) (o : Option Entry) → is_open m.descriptors path ≡ false → full_table_refusal m ≡ None → write_place_refusal m path o ≡ open_refusal m path anew o
+at-place : (m : Machine) (path : Path) (o : Option Entry) → is_open m.descriptors path ≡ false → full_table_refusal m ≡ None → write_place_refusal (working_tree m) m.descriptors path o ≡ open_refusal m path anew o
 at-place m path None shut free = ap (λ rest. cond (is_full (working_tree m) (parent_of path)) (Some DirectoryFull) rest) (sym free)
 at-place m path (Some Entry.Dir) shut free = refl
 at-place m path (Some (Entry.File bytes)) shut free = ap (λ b. cond b (Some Busy) None) shut ∙ sym free
@@ -48,14 +48,7 @@ write-refused m path bytes shut free =
 
 -- What stands there.
 
--- a file whose bytes are no other ones
-same-there : (t : Tree) (path : Path) (bytes : List ℕ) → (get t path ≡ None) × (is_full t (parent_of path) ≡ false) ⊎ ((old : List ℕ) × (get t path ≡ Some (Entry.File old))) → write_file_changes t path bytes ≡ false → get t path ≡ Some (Entry.File bytes)
-same-there t path bytes (inl new) e = absurd (true≢false (sym (ap (λ o. is_none o || not (same_bytes (bytes_of o) bytes)) new.0) ∙ e))
-same-there t path bytes (inr file) e =
-    let same : same_bytes file.0 bytes ≡ true = not-false (same_bytes file.0 bytes) (sym (ap (λ o. is_none o || not (same_bytes (bytes_of o) bytes)) file.1) ∙ e) in
-    file.1 ∙ ap (λ b. Some (Entry.File b)) (same_name-is file.0 bytes same)
-
-worked-tree : (h : Past Tree) (g : Option (Group Tree)) (t : Tree) → IsLawful h → unwrap_or (working_root (history_with h g t) (group_with g t)) bare ≡ t
+pub worked-tree : (h : Past Tree) (g : Option (Group Tree)) (t : Tree) → IsLawful h → unwrap_or (working_root (history_with h g t) (group_with g t)) bare ≡ t
 worked-tree h None t l = ap (λ o. unwrap_or o bare) (tree-changed h t l)
 worked-tree h (Some g) t l = refl
 
@@ -73,7 +66,7 @@ write-stands m path bytes l ok = ap (λ r. get (working_tree (machine_of m (Call
     go false e =
         let none : tree_after m call ≡ None = ap (λ b. cond b (Some (file_put (working_tree m) path bytes)) None) e in
         (λ i. get (unwrap_or (working_root (option_map_or (changed m.history) (option_and_then (λ t. cond (is_some m.group) None (Some t)) (none i)) m.history) (option_map_or (group_with m.group) (none i) m.group)) bare) path)
-        ∙ same-there (working_tree m) path bytes (write_file-accepted m path bytes ok).what e
+        ∙ same-there (working_tree m) path bytes (write_file-accepted m path bytes ok) e
 
 -- The calls that it stands for.
 
@@ -119,7 +112,7 @@ from-pwrite : (h : Past Tree) (t : Tree) (due : Bool) (path : Path) (bytes : Lis
     → after (in-group h t due (opened-anew path)) (Call.Pwrite 0 0 bytes ∷ Call.Close 0 ∷ Call.End ∷ []) ≡ machine_with (changed h (file_put t path bytes)) None none_open
 from-pwrite h t due path bytes short none some = ap (λ n. after n (Call.Close 0 ∷ Call.End ∷ [])) (wrote h t due path bytes some short none)
 
-opens-anew : (h : Past Tree) (path : Path) (bytes : List ℕ) → FileWritten (machine_with h None none_open) path bytes → refusal (in-group h (unwrap_or (present_root h) bare) false none_open) (Call.Open path anew) ≡ None
+opens-anew : (h : Past Tree) (path : Path) (bytes : List ℕ) → FileWritten (unwrap_or (present_root h) bare) path bytes → refusal (in-group h (unwrap_or (present_root h) bare) false none_open) (Call.Open path anew) ≡ None
 opens-anew h path bytes f = ap (λ o. option_or o (open_refusal n path anew (get t path))) f.looked ∙ go f.what
   where
     t : Tree
@@ -168,7 +161,7 @@ all-calls h path bytes ok changes = go (open_changes t path anew) refl (length b
     t : Tree
     t = unwrap_or (present_root h) bare
 
-    f : FileWritten (machine_with h None none_open) path bytes
+    f : FileWritten (unwrap_or (present_root h) bare) path bytes
     f = write_file-accepted (machine_with h None none_open) path bytes ok
 
     rest : List Call
@@ -190,7 +183,7 @@ all-calls h path bytes ok changes = go (open_changes t path anew) refl (length b
         ∙ from-pwrite h t false path bytes f.short (empty-there (get t path) e) some
     go false e true none = absurd (unchanged (get t path) e (ap (write_file_changes t path) (sym (no-bytes bytes none)) ∙ changes))
 
-abbrev is-end : Call → Bool
+abbrev pub is-end : Call → Bool
 is-end Call.End = true
 is-end _ = false
 

@@ -1,5 +1,5 @@
 -- The law of entries, over every machine and every directory.
-use Rattle.std.specs.Prelude.{◌≡◌, ℕ, Option, List, [], ◌∷◌, ◌++◌, take, filter, map, All}
+use Rattle.std.specs.Prelude.{◌≡◌, ℕ, Option, [], ◌∷◌, ◌++◌, take, filter, map, All}
 use Rattle.fs_types.specs.Names.{Name, Path, is_after}
 use Rattle.plain_trees.specs.Trees.{Tree, children}
 use Rattle.history_machine.specs.Machine.{Machine, Space, view_tree, refusal, reply_of, entries_of}

@@ -3,6 +3,7 @@ use Rattle.std.specs.Prelude.{ℕ, Result, Ok, Err}
 use Rattle.fs_types.specs.declared.fault.Fault.{Fault}
 use Rattle.flash_image.specs.declared.image_fault.ImageFault.{ImageFault}
 use Rattle.script_runs.specs.declared.scripts.ScriptFault.{ScriptFault}
+use Rattle.part_file.specs.declared.part_file.PartFault.{PartFault}
 use Rattle.image_jobs.specs.declared.failure.Failure.{Failure}
 use Rattle.script_runs.specs.declared.scripts.Refusal.{Refusal}
 
@@ -28,11 +29,20 @@ abbrev pub of_image : ImageFault → Failure
 of_image ImageFault.Memory = Failure.Memory
 of_image fault = Failure.Image fault
 
--- 3 where the image, a format or a mount was refused, 4 where a call or a line of a script was, 5 where trees differ, else 1
+-- bytes that are no part; a file that cannot be read, and want of memory, are told as those of an image are
+abbrev pub of_part : PartFault → Failure
+of_part PartFault.Read = Failure.CannotRead
+of_part PartFault.Memory = Failure.Memory
+of_part fault = Failure.Part fault
+
+-- 3 where the image, the part, a format or a mount was refused, but 1 where a page of a part cannot be read; 4 where a call or a line of a script was, 5 where trees differ, else 1
 abbrev pub failure_status : Failure → ℕ
 failure_status (Failure.Image fault) = 3
+failure_status (Failure.Part (PartFault.Page page)) = 1
+failure_status (Failure.Part fault) = 3
 failure_status (Failure.System fault) = 3
 failure_status (Failure.Refused refusal) = 4
+failure_status Failure.TooManyLines = 4
 failure_status (Failure.Stopped at) = 4
 failure_status Failure.Differs = 5
 failure_status _ = 1

@@ -2,6 +2,7 @@
 use crate::source_fault::SourceFault;
 use flash_image::ImageFault;
 use fs_types::Fault;
+use part_file::PartFault;
 use script_runs::{Refusal, ScriptFault, Stop};
 use std::io;
 use std::io::Write;
@@ -35,6 +36,9 @@ pub enum Failure {
     /// The file is no image.
     #[error("no image: {0}")]
     Image(ImageFault),
+    /// The file is no part, or a page of it cannot be read.
+    #[error("no part: {0}")]
+    Part(PartFault),
     /// A format or a mount was refused.
     #[error("no system: {0}")]
     System(Fault),
@@ -44,6 +48,9 @@ pub enum Failure {
     /// What was asked for was refused.
     #[error("refused")]
     Refused(Refusal),
+    /// More lines would be told than may be.
+    #[error("too many lines")]
+    TooManyLines,
     /// The script stopped at a refused line.
     #[error("stopped at a refused line")]
     Stopped(Stop),
@@ -54,7 +61,7 @@ pub enum Failure {
 
 impl Failure {
     ghost use Rattle.std.specs.Prelude.{◌≡◌};
-    ghost use Rattle.image_jobs.specs.Failures.{failure_status, of_script, of_system, of_refusal, of_image};
+    ghost use Rattle.image_jobs.specs.Failures.{failure_status, of_script, of_system, of_refusal, of_image, of_part};
 
     /// By why a script ended.
     pub fn of_script(fault: ScriptFault) -> Failure
@@ -98,14 +105,26 @@ impl Failure {
         }
     }
 
-    /// The status of the program: 3 where the image, a format or a mount was refused, 4 where a call or
-    /// a line of a script was, 5 where trees differ, else 1.
+    /// By why a file is no part.
+    pub fn of_part(fault: PartFault) -> Failure
+        ensures { result ≡ of_part fault }
+    {
+        match fault {
+            PartFault::Read => Failure::CannotRead,
+            PartFault::Memory => Failure::Memory,
+            _ => Failure::Part(fault),
+        }
+    }
+
+    /// The status of the program: 3 where the image, the part, a format or a mount was refused, 4 where a
+    /// call or a line of a script was, 5 where trees differ, else 1.
     pub fn status(self) -> u8
         ensures { result ≡ failure_status self }
     {
         match self {
-            Failure::Image(_) | Failure::System(_) => 3,
-            Failure::Refused(_) | Failure::Stopped(_) => 4,
+            Failure::Part(PartFault::Page(_)) => 1,
+            Failure::Image(_) | Failure::Part(_) | Failure::System(_) => 3,
+            Failure::Refused(_) | Failure::TooManyLines | Failure::Stopped(_) => 4,
             Failure::Differs => 5,
             _ => 1,
         }
@@ -122,11 +141,21 @@ impl Failure {
             Failure::Output => writeln!(err, "uffs: output"),
             Failure::Memory => writeln!(err, "uffs: ENOMEM 25"),
             Failure::Image(fault) => writeln!(err, "uffs: image {fault}"),
+            Failure::Part(fault) => explain_part(fault, read, err),
             Failure::System(fault) => explain_fault(fault, err),
             Failure::Source(_) | Failure::Differs => Ok(()),
             Failure::Refused(refusal) => explain_refusal(refusal, err),
+            Failure::TooManyLines => writeln!(err, "uffs: TOOMANYLINES"),
             Failure::Stopped(stop) => explain_stop(stop, err),
         };
+    }
+}
+
+/// Writes the line of a file that is no part, or of a page of it.
+fn explain_part<E: Write>(fault: PartFault, read: &str, err: &mut E) -> io::Result<()> {
+    match fault {
+        PartFault::Page(page) => writeln!(err, "uffs: cannot read page {page} of {read}"),
+        _ => writeln!(err, "uffs: part {fault}"),
     }
 }
 

@@ -4,8 +4,8 @@ ghost use Rattle.std.specs.Io.KnownBytes.{Appends};
 ghost use Rattle.flash_model.specs.Simulation.{device_of};
 ghost use Rattle.flash_image.specs.Images.{image_of};
 ghost use Rattle.host_files.specs.Files.{KeepsOthers, AreBytesRead, ReadsClaimed};
-ghost use Rattle.script_runs.specs.Flashes.{IsDecoded};
-ghost use Rattle.image_jobs.specs.Images.{DecodeCause, IsUnclaimed, IsUnread, IsSpelledFlash, LoadCause, IsImageFile, Unsaved, SavesChange, ChangeUnsaved, FormatEnds, PlaysBy, host_at, RunEnds, CheckEnds, LookEnds};
+ghost use Rattle.script_runs.specs.Flashes.{IsDecoded, IsMade};
+ghost use Rattle.image_jobs.specs.Images.{DecodeCause, IsUnclaimed, IsUnread, IsSpelledFlash, LoadCause, IsImageFile, Unsaved, SavesChange, ChangeUnsaved, FormatEnds, FormatFailure, PlaysBy, host_at, RunEnds, CheckEnds, LookEnds};
 ghost use Rattle.script_runs.specs.Scripts.{streams_at};
 
 use crate::failure::Failure;
@@ -49,12 +49,23 @@ fn make_image<F: ImageFiles>(
     ensures ends { FormatEnds sizes history (F.held files.old name.now) (F.held files.new name.now) result }
     ensures others { KeepsOthers name.now (F.held files.old) (F.held files.new) }
 {
+    match formatted_flash(alloc, sizes, history) {
+        Ok(flash) => save_image(files, alloc, name, &flash),
+        Err(failure) => Err(failure),
+    }
+}
+
+/// A new flash of these sizes with an empty file system that keeps so many versions.
+pub fn formatted_flash(alloc: Global, sizes: Geometry, history: u32) -> Result<SimFlash, Failure>
+    ensures ok { IfOk result (IsMade sizes history) }
+    ensures err { IfErr result (FormatFailure sizes history) }
+{
     let mut flash = match SimFlash::new(alloc, sizes, &[]) {
         Ok(flash) => flash,
         Err(fault) => return Err(Failure::of_system(fault)),
     };
     match format(alloc, &mut flash, history) {
-        Ok(()) => save(files, alloc, name, &flash),
+        Ok(()) => Ok(flash),
         Err(fault) => Err(Failure::of_system(fault)),
     }
 }
@@ -167,7 +178,7 @@ pub fn flash_of(alloc: Global, bytes: &[u8]) -> Result<SimFlash, Failure>
 }
 
 /// Puts the image of a flash in the place of what has a claimed name.
-fn save<F: ImageFiles>(
+pub fn save_image<F: ImageFiles>(
     files: &mut F,
     alloc: Global,
     name: &str,

@@ -7,12 +7,15 @@ mod failure;
 mod image_bytes;
 mod images;
 mod laws;
+mod saved_bytes;
 mod source_fault;
 
 pub use failure::Failure;
 pub use image_bytes::{claim, take_image, write_image};
 pub use images::{
-    check_image, flash_of, format_image, load, look_at_image, run_image, save_changed,
+    check_image, flash_of, format_image, formatted_flash, load, look_at_image, run_image,
+    save_changed, save_image,
 };
 pub use laws::image_laws;
+pub use saved_bytes::{save_bytes, spare};
 pub use source_fault::SourceFault;

@@ -15,3 +15,4 @@ mod shared;
 
 pub use kinds::{KINDS, Kind};
 pub use numbers::Numbers;
+pub use shared::many_paths;

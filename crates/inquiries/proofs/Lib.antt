@@ -3,3 +3,8 @@ pub mod Entries
 pub mod LineLemmas
 pub mod Readings
 pub mod VersionLemmas
+pub mod Sizes
+pub mod Counted
+pub mod Shared
+pub mod KeptSpace
+pub mod PairLines

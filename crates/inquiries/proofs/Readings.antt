@@ -226,3 +226,17 @@ module _ {F : Type 0} {flash : Ghosts F} where
   met_only a b c call fault first ok (inl own) =
       let wrong : None ≡ Some fault = sym (ap (λ m. refusal m call) first.machine ∙ ok) ∙ own in absurd cc
   met_only a b c call fault first ok (inr met) = meets-later a b c fault first met
+
+  -- why the second is refused is why both are
+  pub fails-later : (own : Machine → Option Fault) (a b c : Fs F flash) (fault : Fault) → IsUnchanged a b → Fails (own (shown b)) b c fault → Fails (own (shown a)) a c fault
+  fails-later own a b c fault first (inl is) = inl (sym (ap own first.machine) ∙ is)
+  fails-later own a b c fault first (inr met) = inr (meets-later a b c fault first met)
+
+-- of two refusals the first is that of both, and the second is where there is no first
+pub first_of_two : (a b : Option Fault) (fault : Fault) (M : Type 0) → (a ≡ Some fault) ⊎ M → (option_or a b ≡ Some fault) ⊎ M
+first_of_two a b fault M (inl is) = inl (ap (λ (o : Option Fault). option_or o b) is)
+first_of_two a b fault M (inr met) = inr met
+
+pub second_of_two : (a b : Option Fault) (fault : Fault) (M : Type 0) → a ≡ None → (b ≡ Some fault) ⊎ M → (option_or a b ≡ Some fault) ⊎ M
+second_of_two a b fault M none (inl is) = inl (ap (λ (o : Option Fault). option_or o b) none ∙ is)
+second_of_two a b fault M none (inr met) = inr met

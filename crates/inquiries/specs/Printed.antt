@@ -1,5 +1,5 @@
 -- What is printed of trees.
-use Rattle.std.specs.Prelude.{ℕ, List, ◌++◌, length, sum_by, decimal, codes}
+use Rattle.std.specs.Prelude.{ℕ, ◌^◌, nat_lt, List, ◌++◌, length, sum_by, decimal, codes, if◌then◌else◌}
 use Rattle.std.specs.List.{flat_map}
 use Rattle.fs_types.specs.Names.{Name, Path}
 use Rattle.fs_types.specs.declared.call.Stat.{Stat}
@@ -31,9 +31,13 @@ stat_bytes (Stat.File bytes) = bytes
 abbrev pub file_bytes : Item → ℕ
 file_bytes item = stat_bytes item.stat
 
+-- a number, or that it is past the greatest that a word holds
+abbrev pub count_text : ℕ → List ℕ
+count_text n = if nat_lt n (2 ^ 64) then decimal n else codes ">18446744073709551615"
+
 -- how many directories and files these are, and how many bytes the files have
 abbrev pub sizes_text : List Item → List ℕ
-sizes_text items = codes " entries " ++ decimal (length items) ++ codes " bytes " ++ decimal (sum_by file_bytes items)
+sizes_text items = codes " entries " ++ count_text (length items) ++ codes " bytes " ++ count_text (sum_by file_bytes items)
 
 -- a line for each directory and each file
 abbrev pub tree_lines : Tree → List ℕ

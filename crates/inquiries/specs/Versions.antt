@@ -1,10 +1,16 @@
--- How much stands in the trees that are kept.
-use Rattle.std.specs.Prelude.{ℕ, ◌==◌, List, [], ◌++◌, map, codes, decimal, if◌then◌else◌, Bool}
-use Rattle.std.specs.List.{flat_map, enumerate_from}
+-- How much stands in the trees that are kept, and what each keeps of the flash.
+use Rattle.std.specs.Prelude.{◌≡◌, ℕ, ◌==◌, List, [], ◌++◌, map, codes, decimal, if◌then◌else◌, Bool, Option, Some, None}
+use Rattle.std.specs.List.{flat_map, enumerate_from, zip}
 use Rattle.fs_types.specs.Names.{Name}
 use Rattle.fs_types.specs.declared.call.View.{View}
 use Rattle.history_machine.specs.Machine.{Machine, view_tree}
+use Rattle.flash_model.specs.Device.{Device}
 use Rattle.script.specs.Replies.{escaped}
+use Rattle.system.specs.VersionSpace.{IsHistorySpace}
+use Rattle.system.specs.declared.version_space.HistorySpace.{HistorySpace}
+use Rattle.system.specs.declared.version_space.VersionSpace.{VersionSpace}
+use Rattle.working_state.specs.Seen.{machine_on}
+use Rattle.working_state.specs.declared.state.State.{State}
 use Rattle.inquiries.specs.Items.{items_of}
 use Rattle.inquiries.specs.Printed.{sizes_text}
 
@@ -12,16 +18,29 @@ use Rattle.inquiries.specs.Printed.{sizes_text}
 abbrev pub view_sizes : Machine → View → List ℕ
 view_sizes m view = sizes_text (items_of (view_tree m view))
 
--- the line of a version by its serial, and whether it is the present one
-abbrev pub version_text : Machine → ℕ → Bool → List ℕ
-version_text m serial is_present = codes "@" ++ decimal serial ++ view_sizes m (View.Serial serial) ++ (if is_present then codes " present" else []) ++ codes "\n"
+-- how many blocks more are free once the versions up to one are forgotten, where that may be
+abbrev pub frees_text : Option ℕ → List ℕ
+frees_text (Some frees) = codes " frees " ++ decimal frees
+frees_text None = []
 
--- a place among the versions and the serial there
-abbrev pub version_line : Machine → ℕ × ℕ → List ℕ
-version_line m row = version_text m row.1 (row.0 == m.history.cursor)
+-- how many blocks nothing else keeps
+abbrev pub alone_text : ℕ → List ℕ
+alone_text alone = codes " alone " ++ decimal alone
 
-abbrev pub checkpoint_line : Machine → Name → List ℕ
-checkpoint_line m name = codes "=" ++ escaped name ++ view_sizes m (View.Checkpoint name) ++ codes "\n"
+unfoldable pub kept_text : VersionSpace → List ℕ
+kept_text kept = frees_text kept.frees ++ alone_text kept.alone
+
+-- the line of a version by its serial, with what it keeps, and whether it is the present one
+abbrev pub version_text : Machine → ℕ → VersionSpace → Bool → List ℕ
+version_text m serial kept is_present = codes "@" ++ decimal serial ++ view_sizes m (View.Serial serial) ++ kept_text kept ++ (if is_present then codes " present" else []) ++ codes "\n"
+
+-- a place among the versions, the serial there, and what that version keeps
+abbrev pub version_line : Machine → ℕ × (ℕ × VersionSpace) → List ℕ
+version_line m row = version_text m row.1.0 row.1.1 (row.0 == m.history.cursor)
+
+-- the name of a checkpoint, and how many blocks it keeps alone
+abbrev pub checkpoint_line : Machine → Name × ℕ → List ℕ
+checkpoint_line m row = codes "=" ++ escaped row.0 ++ view_sizes m (View.Checkpoint row.0) ++ alone_text row.1 ++ codes "\n"
 
 -- the serials of the kept versions, the oldest first
 abbrev pub kept_serials : Machine → List ℕ
@@ -31,6 +50,13 @@ kept_serials m = map (λ v. v.serial) m.history.versions
 abbrev pub kept_names : Machine → List Name
 kept_names m = map (λ e. e.0) m.history.checkpoints
 
--- a line for each version and each checkpoint
-abbrev pub versions_lines : Machine → List ℕ
-versions_lines m = flat_map (version_line m) (enumerate_from 0 (kept_serials m)) ++ flat_map (checkpoint_line m) (kept_names m)
+-- a line for each version and each checkpoint, which keep so much
+abbrev pub versions_lines : Machine → HistorySpace → List ℕ
+versions_lines m space =
+    flat_map (version_line m) (enumerate_from 0 (zip (kept_serials m) space.versions)) ++ flat_map (checkpoint_line m) (zip (kept_names m) space.checkpoints)
+
+-- the same of a system, with what its history keeps of the flash
+pub record AreVersionLines (d : Device) (s : State) (bytes : List ℕ) : Type 0 where
+  pub space : HistorySpace
+  pub kept : IsHistorySpace d s space
+  pub lines : bytes ≡ versions_lines (machine_on d s) space

@@ -3,6 +3,7 @@ ghost use Rattle.std.specs.Prelude.{◌≡◌, ℕ, IfOk, IfErr};
 ghost use Rattle.inquiries.specs.Asked.{Tells, AskCause};
 
 use crate::inquiry::{Inquiry, tell};
+use crate::tell_fault::TellFault;
 use flash_model::Flash;
 use fs_types::{Bytes, Fault};
 use std::alloc::Global;
@@ -18,6 +19,9 @@ pub enum AskFault {
     /// What is asked is refused.
     #[error("refused: {0}")]
     Refused(Fault),
+    /// Too many lines would be told.
+    #[error("too many lines")]
+    TooManyLines,
 }
 
 /// Mounts what the newest record of a flash holds, and tells what is asked of it ([`tell`]). The flash
@@ -34,7 +38,10 @@ pub fn ask<F: Flash>(alloc: Global, flash: &mut F, inquiry: &Inquiry) -> Result<
             let _left = fs.into_flash();
             match told {
                 Ok(bytes) => Ok(bytes),
-                Err(fault) => Err(AskFault::Refused(fault)),
+                Err(fault) => match fault {
+                    TellFault::Refused(refusal) => Err(AskFault::Refused(refusal)),
+                    TellFault::TooManyLines => Err(AskFault::TooManyLines),
+                },
             }
         }
         Err(refused) => {

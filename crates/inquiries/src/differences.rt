@@ -1,26 +1,66 @@
 //! What differs between two trees.
-ghost use Rattle.std.specs.Prelude.{◌≡◌, ◌++◌, None, IfOk, OnOk, IfErr};
+ghost use Rattle.std.specs.Prelude.{◌≡◌, ◌++◌, ◌+◌, ◌≤◌, ◌↔◌, None, length, IsTrue, IfOk, OnOk, IfErr};
 ghost use Rattle.std.specs.FinMap.{get};
 ghost use Rattle.std.specs.Option.{option_or};
-ghost use Rattle.plain_trees.specs.Trees.{bytes_of_file};
+ghost use Rattle.plain_trees.specs.Trees.{Tree, bytes_of_file};
+ghost use Rattle.tree_counts.specs.Sizes.{size_of};
 ghost use Rattle.history_machine.specs.History.{view_refusal};
 ghost use Rattle.history_machine.specs.Machine.{view_tree};
 ghost use Rattle.inquiries.specs.Differences.{line_beside, file_beside, lines_beside, difference_lines};
-ghost use Rattle.inquiries.specs.Items.{IsItemOf, IsFileOf};
+ghost use Rattle.inquiries.specs.Inquiries.{inquiry_refusal, HasFewLines, Untold};
+ghost use Rattle.inquiries.specs.Items.{items_of, IsItemOf, IsFileOf};
 ghost use Rattle.inquiries.specs.Readings.{shown, IsUnchanged, Fails, Meets};
+ghost use Rattle.inquiries.specs.declared.inquiry.Inquiry.{Inquiry};
+ghost use Rattle.inquiries.specs.declared.tell_fault.TheConstants.{MAX_LINES};
 
 use crate::counterpart::{Counterpart, find_counterpart};
 use crate::items::{Item, items_of};
 use crate::printing::{Side, print_change, print_marked};
-use crate::reading::{check_view, read_file};
+use crate::reading::{check_view, read_file, show_same, size_of_tree};
+use crate::tell_fault::{MAX_LINES, TellFault};
 use flash_model::Flash;
 use fs_types::{Bytes, Fault, Path, View};
 use std::alloc::Global;
-use undofs::Fs;
+use undofs::{Fs, TreeSize};
+
+/// The lines of what differs between the trees of two views, where these have not too many entries. Two
+/// views of one root are not looked at.
+pub(crate) fn tell_differences<F: Flash>(
+    alloc: Global,
+    fs: &mut Fs<'_, F>,
+    old: &View,
+    new: &View,
+) -> Result<Bytes, TellFault>
+    ensures same { IsUnchanged fs.old fs.new }
+    ensures accepted { IfOk result (λ _. inquiry_refusal (shown fs.old) (Inquiry.Differences old.now new.now) ≡ None) }
+    ensures few { IfOk result (λ _. HasFewLines (shown fs.old) (Inquiry.Differences old.now new.now)) }
+    ensures ok { IfOk result (λ bytes. bytes ≡ difference_lines (view_tree (shown fs.old) old.now) (view_tree (shown fs.old) new.now)) }
+    ensures err { IfErr result (Untold (Inquiry.Differences old.now new.now) fs.old fs.new) }
+{
+    if show_same(fs, old, new)? {
+        return Ok(Bytes::from_vec(Vec::new(alloc)));
+    }
+    let first = size_of_tree(alloc, fs, old)?;
+    let second = size_of_tree(alloc, fs, new)?;
+    if !are_few(first, second) {
+        return Err(TellFault::TooManyLines);
+    }
+    Ok(list_differences(alloc, fs, old, new)?)
+}
+
+/// Whether two trees have no more entries than may be looked at.
+fn are_few(first: TreeSize, second: TreeSize) -> bool
+    ensures { (t u : Tree) → first ≡ size_of t → second ≡ size_of u → IsTrue result ↔ (length (items_of t) + length (items_of u) ≤ MAX_LINES) }
+{
+    match (first.entries, second.entries) {
+        (Some(first), Some(second)) => first <= MAX_LINES && second <= MAX_LINES - first,
+        _ => false,
+    }
+}
 
 /// The lines of what differs between the trees of two views: first what went and what changed, then
 /// what came.
-pub(crate) fn tell_differences<F: Flash>(
+fn list_differences<F: Flash>(
     alloc: Global,
     fs: &mut Fs<'_, F>,
     old: &View,

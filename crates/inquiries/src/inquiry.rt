@@ -1,18 +1,26 @@
 //! What is asked, and what is told.
-ghost use Rattle.std.specs.Prelude.{◌≡◌, None, IfOk, IfErr};
-ghost use Rattle.inquiries.specs.Inquiries.{inquiry_refusal, told};
+ghost use Rattle.std.specs.Prelude.{◌≡◌, ◌≤◌, ◌↔◌, None, length, IsTrue, IfOk, IfErr};
+ghost use Rattle.plain_trees.specs.Trees.{Tree};
+ghost use Rattle.history_machine.specs.History.{view_refusal};
+ghost use Rattle.history_machine.specs.Machine.{view_tree};
+ghost use Rattle.tree_counts.specs.Sizes.{size_of};
+ghost use Rattle.inquiries.specs.Inquiries.{inquiry_refusal, IsTold, HasFewLines, Untold};
+ghost use Rattle.inquiries.specs.Items.{items_of};
+ghost use Rattle.inquiries.specs.Printed.{tree_lines};
+ghost use Rattle.inquiries.specs.declared.tell_fault.TheConstants.{MAX_LINES};
 ghost use Rattle.inquiries.specs.Readings.{shown, IsUnchanged, Fails};
 ghost use Rattle.undofs.specs.Systems.{flash_name};
 
 use crate::differences::tell_differences;
 use crate::items::items_of;
 use crate::printing::lines_of;
-use crate::reading::read_file;
+use crate::reading::{read_file, size_of_tree};
+use crate::tell_fault::{MAX_LINES, TellFault};
 use crate::versions::tell_versions;
 use flash_model::Flash;
 use fs_types::{Bytes, Fault, Path, View};
 use std::alloc::Global;
-use undofs::Fs;
+use undofs::{Fs, TreeSize};
 
 /// What is asked of a file system.
 #[derive(Debug, Drop)]
@@ -36,36 +44,71 @@ pub enum Inquiry {
         /// The view of what is.
         new: View,
     },
-    /// A line for each kept version and each checkpoint, with how much its tree holds.
+    /// A line for each kept version and each checkpoint, with how much its tree holds, and what it keeps
+    /// of the flash.
     Versions,
 }
 
 /// Tells what is asked of a file system, which is only read.
 ///
 /// Refused as the calls are that it takes: for a view, of two the first one before the other, for a path
-/// that is looked up, and for a directory in place of a file; [`Inquiry::Versions`] never is. Else
+/// that is looked up, and for a directory in place of a file; [`Inquiry::Versions`] as [`Fs::df`]. Else
 /// [`Fault::ReadFailed`], [`Fault::PowerCut`] and [`Fault::NoMemory`] may come.
-pub fn tell<F: Flash>(alloc: Global, fs: &mut Fs<'_, F>, inquiry: &Inquiry) -> Result<Bytes, Fault>
+///
+/// [`TellFault::TooManyLines`] for [`Inquiry::Tree`] where its answer would have over [`MAX_LINES`] lines;
+/// for [`Inquiry::Differences`] where two trees of different roots have more entries together. That is
+/// counted by node before a tree is walked, so the work is bounded whatever the flash holds.
+pub fn tell<F: Flash>(
+    alloc: Global,
+    fs: &mut Fs<'_, F>,
+    inquiry: &Inquiry,
+) -> Result<Bytes, TellFault>
     ensures same { IsUnchanged fs.old fs.new }
     ensures same_flash { flash_name fs.new ≡ flash_name fs.old }
     ensures accepted { IfOk result (λ _. inquiry_refusal (shown fs.old) inquiry.now ≡ None) }
-    ensures ok { IfOk result (λ bytes. bytes ≡ told (shown fs.old) inquiry.now) }
-    ensures err { IfErr result (Fails (inquiry_refusal (shown fs.old) inquiry.now) fs.old fs.new) }
+    ensures few { IfOk result (λ _. HasFewLines (shown fs.old) inquiry.now) }
+    ensures ok { IfOk result (IsTold (F.device fs.old.flash.now) fs.old.system.state inquiry.now) }
+    ensures err { IfErr result (Untold inquiry.now fs.old fs.new) }
 {
     match inquiry {
-        Inquiry::File { view, path } => read_file(alloc, fs, view, path),
+        Inquiry::File { view, path } => Ok(read_file(alloc, fs, view, path)?),
         Inquiry::Tree { view } => tell_tree(alloc, fs, view),
         Inquiry::Differences { old, new } => tell_differences(alloc, fs, old, new),
-        Inquiry::Versions => tell_versions(alloc, fs),
+        Inquiry::Versions => Ok(tell_versions(alloc, fs)?),
+    }
+}
+
+/// The lines of a view's tree, where these are not too many.
+fn tell_tree<F: Flash>(alloc: Global, fs: &mut Fs<'_, F>, view: &View) -> Result<Bytes, TellFault>
+    ensures same { IsUnchanged fs.old fs.new }
+    ensures accepted { IfOk result (λ _. inquiry_refusal (shown fs.old) (Inquiry.Tree view.now) ≡ None) }
+    ensures few { IfOk result (λ _. HasFewLines (shown fs.old) (Inquiry.Tree view.now)) }
+    ensures ok { IfOk result (IsTold (F.device fs.old.flash.now) fs.old.system.state (Inquiry.Tree view.now)) }
+    ensures err { IfErr result (Untold (Inquiry.Tree view.now) fs.old fs.new) }
+{
+    let size = size_of_tree(alloc, fs, view)?;
+    if !is_few(size) {
+        return Err(TellFault::TooManyLines);
+    }
+    Ok(list_tree(alloc, fs, view)?)
+}
+
+/// Whether a tree has no more lines than may be told.
+fn is_few(size: TreeSize) -> bool
+    ensures { (t : Tree) → size ≡ size_of t → IsTrue result ↔ (length (items_of t) ≤ MAX_LINES) }
+{
+    match size.entries {
+        Some(entries) => entries <= MAX_LINES,
+        None => false,
     }
 }
 
 /// The lines of a view's tree.
-fn tell_tree<F: Flash>(alloc: Global, fs: &mut Fs<'_, F>, view: &View) -> Result<Bytes, Fault>
+fn list_tree<F: Flash>(alloc: Global, fs: &mut Fs<'_, F>, view: &View) -> Result<Bytes, Fault>
     ensures same { IsUnchanged fs.old fs.new }
-    ensures accepted { IfOk result (λ _. inquiry_refusal (shown fs.old) (Inquiry.Tree view.now) ≡ None) }
-    ensures ok { IfOk result (λ bytes. bytes ≡ told (shown fs.old) (Inquiry.Tree view.now)) }
-    ensures err { IfErr result (Fails (inquiry_refusal (shown fs.old) (Inquiry.Tree view.now)) fs.old fs.new) }
+    ensures accepted { IfOk result (λ _. view_refusal (shown fs.old).history view.now ≡ None) }
+    ensures ok { IfOk result (λ bytes. bytes ≡ tree_lines (view_tree (shown fs.old) view.now)) }
+    ensures err { IfErr result (Fails (view_refusal (shown fs.old).history view.now) fs.old fs.new) }
 {
     let items = items_of(alloc, fs, view)?;
     Ok(Bytes::from_vec(lines_of(alloc, &items)?))

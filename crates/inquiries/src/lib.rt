@@ -1,5 +1,5 @@
 //! What is asked of a mounted file system by its user, and only read: files, trees, what differs
-//! between two of them, and how much each kept one holds.
+//! between two of them, and how much each kept one holds and keeps.
 #![tactic(auto)]
 
 mod asking;
@@ -9,8 +9,10 @@ mod inquiry;
 mod items;
 mod printing;
 mod reading;
+mod tell_fault;
 mod versions;
 
 pub use asking::{AskFault, ask};
 pub use inquiry::{Inquiry, tell};
 pub use items::Item;
+pub use tell_fault::{MAX_LINES, TellFault};

@@ -1,14 +1,18 @@
 //! What is printed of trees.
-ghost use Rattle.std.specs.Prelude.{◌≡◌, ◌++◌, sum_by, OnOk, IfOk};
+ghost use Rattle.std.specs.Prelude.{◌≡◌, ◌++◌, ℕ, OnOk, IfOk};
 ghost use Rattle.std.specs.List.{flat_map};
-ghost use Rattle.inquiries.specs.Printed.{path_text, stat_mark, item_line, sizes_text, file_bytes};
+ghost use Rattle.plain_trees.specs.Trees.{Tree};
+ghost use Rattle.tree_counts.specs.Sizes.{in_word, size_of};
+ghost use Rattle.inquiries.specs.Items.{items_of};
+ghost use Rattle.inquiries.specs.Printed.{path_text, stat_mark, item_line, sizes_text, count_text};
 ghost use Rattle.inquiries.specs.Differences.{side_mark, changed_line};
+ghost use Rattle.inquiries.specs.Versions.{alone_text, kept_text};
 
 use crate::items::Item;
 use fs_types::{Name, Path, Stat};
-use itoa::Buffer;
 use script::{print_name, print_number};
 use std::alloc::{AllocError, Global};
+use undofs::{TreeSize, VersionSpace};
 
 /// The lines of all that stands in a tree.
 pub(crate) fn lines_of(alloc: Global, items: &[Item]) -> Result<Vec<u8>, AllocError>
@@ -50,35 +54,43 @@ pub(crate) fn print_change(out: &mut Vec<u8>, path: &Path) -> Result<(), AllocEr
     Ok(())
 }
 
-/// Appends how many directories and files these are, and how many bytes the files have.
-pub(crate) fn print_sizes(out: &mut Vec<u8>, items: &[Item]) -> Result<(), AllocError>
-    ensures { OnOk result (out.new.items ≡ out.old.items ++ sizes_text items.now) }
+/// Appends how many directories and files stand in a tree, and how many bytes the files have.
+pub(crate) fn print_size(out: &mut Vec<u8>, size: TreeSize) -> Result<(), AllocError>
+    ensures { (t : Tree) → size ≡ size_of t → OnOk result (out.new.items ≡ out.old.items ++ sizes_text (items_of t)) }
 {
     out.extend_from_slice(b" entries ")?;
-    print_number(out, items.len() as u64)?;
+    print_count(out, size.entries)?;
     out.extend_from_slice(b" bytes ")?;
-    let mut digits = Buffer::new();
-    out.extend_from_slice(digits.format(bytes_of_files(items)).as_bytes())
+    print_count(out, size.bytes)
 }
 
-/// How many bytes files have.
-fn bytes_of_files(items: &[Item]) -> u128
-    ensures { result ≡ sum_by file_bytes items.now }
+/// Appends what a version keeps.
+#[tactic(auto, unfolding(crate::specs::Versions::kept_text))]
+pub(crate) fn print_kept(out: &mut Vec<u8>, kept: VersionSpace) -> Result<(), AllocError>
+    ensures { OnOk result (out.new.items ≡ out.old.items ++ kept_text kept) }
 {
-    let mut sum = 0;
-    for item in items {
-        sum += u128::from(file_bytes(item));
+    if let Some(frees) = kept.frees {
+        out.extend_from_slice(b" frees ")?;
+        print_number(out, frees)?;
     }
-    sum
+    print_alone(out, kept.alone)
 }
 
-/// How many bytes a file has; none for a directory.
-fn file_bytes(item: &Item) -> u64
-    ensures { result ≡ file_bytes item.now }
+/// Appends how many blocks nothing else keeps.
+pub(crate) fn print_alone(out: &mut Vec<u8>, alone: u64) -> Result<(), AllocError>
+    ensures { OnOk result (out.new.items ≡ out.old.items ++ alone_text alone) }
 {
-    match item.stat {
-        Stat::Dir(_) => 0,
-        Stat::File(length) => length,
+    out.extend_from_slice(b" alone ")?;
+    print_number(out, alone)
+}
+
+/// Appends a number, or that it is past the greatest one.
+fn print_count(out: &mut Vec<u8>, count: Option<u64>) -> Result<(), AllocError>
+    ensures { (n : ℕ) → count ≡ in_word n → OnOk result (out.new.items ≡ out.old.items ++ count_text n) }
+{
+    match count {
+        Some(count) => print_number(out, count),
+        None => out.extend_from_slice(b">18446744073709551615"),
     }
 }
 

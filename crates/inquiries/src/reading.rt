@@ -1,10 +1,13 @@
 //! Calls that only read a mounted file system.
-ghost use Rattle.std.specs.Prelude.{◌≡◌, Some, None, IfOk, OnOk, IfErr};
+ghost use Rattle.std.specs.Prelude.{◌≡◌, true, Some, None, IfOk, OnOk, IfErr};
+ghost use Rattle.std.specs.Option.{option_or};
 ghost use Rattle.std.specs.FinMap.{get};
 ghost use Rattle.plain_trees.specs.Contents.{Entry};
 ghost use Rattle.history_machine.specs.History.{view_refusal};
 ghost use Rattle.history_machine.specs.Machine.{refusal, view_tree, stat_of};
 ghost use Rattle.fs_types.specs.declared.call.Call.{Call};
+ghost use Rattle.system.specs.VersionSpace.{IsHistorySpace};
+ghost use Rattle.tree_counts.specs.Sizes.{size_of};
 ghost use Rattle.inquiries.specs.Items.{all_entries};
 ghost use Rattle.inquiries.specs.Readings.{shown, IsUnchanged, Fails, Meets};
 ghost use Rattle.inquiries.specs.Versions.{kept_serials, kept_names};
@@ -12,7 +15,7 @@ ghost use Rattle.inquiries.specs.Versions.{kept_serials, kept_names};
 use flash_model::Flash;
 use fs_types::{Bytes, Fault, MAX_FILE_BYTES, Name, Path, Sequence, Stat, View};
 use std::alloc::Global;
-use undofs::{Fs, Log};
+use undofs::{Fs, HistorySpace, Log, TreeSize};
 
 /// So many bytes are asked for where all bytes of a file are: none has more.
 const ALL_BYTES: u64 = MAX_FILE_BYTES as u64;
@@ -55,6 +58,29 @@ pub(crate) fn check_view<F: Flash>(
     Ok(())
 }
 
+/// How much stands in the tree of a view.
+pub(crate) fn size_of_tree<F: Flash>(
+    alloc: Global,
+    fs: &mut Fs<'_, F>,
+    view: &View,
+) -> Result<TreeSize, Fault>
+    ensures same { IsUnchanged fs.old fs.new }
+    ensures accepted { IfOk result (λ _. view_refusal (shown fs.old).history view.now ≡ None) }
+    ensures size { IfOk result (λ size. size ≡ size_of (view_tree (shown fs.old) view.now)) }
+    ensures err { IfErr result (Fails (view_refusal (shown fs.old).history view.now) fs.old fs.new) }
+{
+    fs.count_tree(alloc, view)
+}
+
+/// Whether two views show the same root, so that their trees are the same. Nothing is read.
+pub(crate) fn show_same<F: Flash>(fs: &Fs<'_, F>, view: &View, other: &View) -> Result<bool, Fault>
+    ensures accepted { IfOk result (λ _. option_or (view_refusal (shown fs.now).history view.now) (view_refusal (shown fs.now).history other.now) ≡ None) }
+    ensures same { IfOk result (λ same. same ≡ true → view_tree (shown fs.now) view.now ≡ view_tree (shown fs.now) other.now) }
+    ensures err { IfErr result (Fails (option_or (view_refusal (shown fs.now).history view.now) (view_refusal (shown fs.now).history other.now)) fs.now fs.now) }
+{
+    fs.show_same_root(view, other)
+}
+
 /// The trees that are kept.
 pub(crate) fn kept_trees<F: Flash>(alloc: Global, fs: &Fs<'_, F>) -> Result<Log, Fault>
     ensures serials { IfOk result (λ kept. kept.versions ≡ kept_serials (shown fs.now)) }
@@ -63,6 +89,15 @@ pub(crate) fn kept_trees<F: Flash>(alloc: Global, fs: &Fs<'_, F>) -> Result<Log,
     ensures err { IfErr result (Meets (F.device fs.now.flash.now) (F.device fs.now.flash.now)) }
 {
     fs.log(alloc)
+}
+
+/// What the trees that are kept keep of the flash.
+pub(crate) fn kept_space<F: Flash>(alloc: Global, fs: &mut Fs<'_, F>) -> Result<HistorySpace, Fault>
+    ensures same { IsUnchanged fs.old fs.new }
+    ensures space { IfOk result (IsHistorySpace (F.device fs.old.flash.now) fs.old.system.state) }
+    ensures err { IfErr result (Meets (F.device fs.old.flash.now) (F.device fs.new.flash.now)) }
+{
+    fs.space_by_version(alloc)
 }
 
 /// All bytes of a file of a view.

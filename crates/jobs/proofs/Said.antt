@@ -5,7 +5,7 @@ use Rattle.clap.specs.Words.{Row, Text, found_of, rows_of, subcommand_name_of, s
 use Rattle.clap.specs.declared.parser.matches.ArgMatches.{ArgMatches}
 use Rattle.clap.specs.declared.parser.matches.ArgMatches.TheViews.{out-ArgMatches, out-SubCommand}
 use Rattle.clap.specs.Walk.{first_of}
-use Rattle.jobs.specs.Jobs.{AreNumbersOf, IsImageOf, IsJobOf, SaysJob, task_named, word_text}
+use Rattle.jobs.specs.Jobs.{AreNumbersOf, IsImageOf, IsJobOf, SaysJob, task_asked, word_text}
 use Rattle.jobs.specs.declared.tasks.Job.{Job}
 use Rattle.jobs.specs.declared.tasks.Task.{Task}
 use Rattle.jobs.specs.declared.words.Numbers.{Numbers}
@@ -26,11 +26,13 @@ abbrev numbers_in : Job → Numbers
 numbers_in job = record { page = job.page; pages = job.pages; blocks = job.blocks; history = job.history; count = job.count }
 
 -- no job is said where the options give no numbers
-pub none_said : (m : ArgMatches) (name : Text) (rows : List Row) → Some name ≡ subcommand_name_of m → Some rows ≡ option_map (λ (p : Text × List Row). p.1) (subcommand_rows_of m)
-    → ((numbers : Numbers) → AreNumbersOf rows numbers → ⊥) → (job : Job) → SaysJob (subcommand_rows_of m) job → ⊥
-none_said m name rows e d none job says =
+pub none_said : (m : ArgMatches) (name : Text) (rows : List Row) (command : Task) → Some name ≡ subcommand_name_of m → Some rows ≡ option_map (λ (p : Text × List Row). p.1) (subcommand_rows_of m)
+    → task_asked name rows ≡ Some command → ((numbers : Numbers) → AreNumbersOf command rows numbers → ⊥) → (job : Job) → SaysJob (subcommand_rows_of m) job → ⊥
+none_said m name rows command e d named none job says =
     let is : IsJobOf name rows job = subst (λ o. SaysJob o job) (rows_said m name rows e d) says in
-    none (numbers_in job) (record { page = is.page; pages = is.pages; blocks = is.blocks; history = is.history; count = is.count })
+    let same : Some job.command ≡ Some command = sym is.command ∙ named in
+    let one : job.command ≡ command = cc in
+    none (numbers_in job) (subst (λ (task : Task). AreNumbersOf task rows (numbers_in job)) one (record { page = is.page; pages = is.pages; blocks = is.blocks; history = is.history; count = is.count }))
 
 -- a job is said where it is what the subcommand says
 pub job_said : (m : ArgMatches) (name : Text) (rows : List Row) (job : Job) → Some name ≡ subcommand_name_of m → Some rows ≡ option_map (λ (p : Text × List Row). p.1) (subcommand_rows_of m)
@@ -39,7 +41,7 @@ job_said m name rows job e d is = subst (λ o. SaysJob o job) (sym (rows_said m 
 
 -- no job is said where the task has an image and the words name none
 pub image_unsaid : (m : ArgMatches) (name : Text) (rows : List Row) (command : Task) → Some name ≡ subcommand_name_of m
-    → Some rows ≡ option_map (λ (p : Text × List Row). p.1) (subcommand_rows_of m) → task_named name ≡ Some command
+    → Some rows ≡ option_map (λ (p : Text × List Row). p.1) (subcommand_rows_of m) → task_asked name rows ≡ Some command
     → ((image : Option Text) → IsImageOf command (first_of (codes "IMAGE") rows) image → ⊥) → (job : Job) → SaysJob (subcommand_rows_of m) job → ⊥
 image_unsaid m name rows command e d named none job says =
     let is : IsJobOf name rows job = subst (λ o. SaysJob o job) (rows_said m name rows e d) says in

@@ -16,6 +16,10 @@ optional_rule name = record (new_rule name) { action = Some ArgAction.Set }
 abbrev pub number_rule : Text → Rule
 number_rule name = record (new_rule name) { long = Some name; value_names = 1; action = Some ArgAction.Set; parser = Some (ValueParser.Signed (pos 0) (pos 4294967295)) }
 
+-- an option `--NAME WORD`
+abbrev pub named_rule : Text → Rule
+named_rule name = record (new_rule name) { long = Some name; value_names = 1; action = Some ArgAction.Set }
+
 -- a flag `--NAME`
 abbrev pub flag_rule : Text → Rule
 flag_rule name = record (new_rule name) { long = Some name; action = Some ArgAction.SetTrue }
@@ -28,8 +32,12 @@ count_rule is_required = record (new_rule (codes "N")) { required = is_required;
 abbrev pub image_app : Text → App
 image_app name = with_rule (new_app name) (word_rule (codes "IMAGE"))
 
+-- what is formatted: an image, or a part in a flat file
+abbrev pub formatted_app : App
+formatted_app = with_rule (with_rule (new_app (codes "format")) (optional_rule (codes "IMAGE"))) (named_rule (codes "part"))
+
 abbrev pub format_app : App
-format_app = with_rule (with_rule (with_rule (with_rule (image_app (codes "format")) (number_rule (codes "page"))) (number_rule (codes "pages"))) (number_rule (codes "blocks"))) (number_rule (codes "history"))
+format_app = with_rule (with_rule (with_rule (with_rule formatted_app (number_rule (codes "page"))) (number_rule (codes "pages"))) (number_rule (codes "blocks"))) (number_rule (codes "history"))
 
 abbrev pub run_app : App
 run_app = with_rule (image_app (codes "run")) (flag_rule (codes "stop"))
@@ -46,7 +54,7 @@ abbrev pub checkpoint_app : Text → App
 checkpoint_app name = with_rule (image_app name) (word_rule (codes "NAME"))
 
 abbrev pub forget_app : App
-forget_app = with_rule (image_app (codes "forget")) (count_rule true)
+forget_app = with_rule (with_rule (image_app (codes "forget")) (count_rule false)) (number_rule (codes "free"))
 
 abbrev pub get_app : App
 get_app = with_rule (with_rule (with_rule (image_app (codes "get")) (word_rule (codes "PATH"))) (word_rule (codes "FILE"))) (optional_rule (codes "VIEW"))
@@ -60,9 +68,16 @@ tree_app = with_rule (image_app (codes "tree")) (optional_rule (codes "VIEW"))
 abbrev pub diff_app : App
 diff_app = with_rule (with_rule (with_rule (image_app (codes "diff")) (word_rule (codes "VIEW"))) (optional_rule (codes "OTHER"))) (flag_rule (codes "exit-code"))
 
--- a live file system on a part, whose driver is at the other end of two streams
+-- a live file system on a part, whose driver is at the other end of two streams, or which stands in a flat file
 abbrev pub serve_app : App
-serve_app = with_rule (with_rule (with_rule (new_app (codes "serve")) (word_rule (codes "ANSWERS"))) (word_rule (codes "ORDERS"))) (number_rule (codes "history"))
+serve_app = with_rule (with_rule (with_rule (with_rule (new_app (codes "serve")) (optional_rule (codes "ANSWERS"))) (optional_rule (codes "ORDERS"))) (named_rule (codes "part"))) (number_rule (codes "history"))
+
+-- an image as a part in a flat file, and back
+abbrev pub to_part_app : App
+to_part_app = with_rule (image_app (codes "to-part")) (word_rule (codes "FILE"))
+
+abbrev pub from_part_app : App
+from_part_app = with_rule (with_rule (new_app (codes "from-part")) (word_rule (codes "FILE"))) (word_rule (codes "IMAGE"))
 
 abbrev pub explain_app : App
 explain_app = with_rule (new_app (codes "explain")) (word_rule (codes "REFUSAL"))
@@ -99,10 +114,14 @@ abbrev pub with_image_apps : App → App
 with_image_apps app = with_subcommand (with_subcommand (with_subcommand (with_subcommand app
     (image_app (codes "versions")).top) (image_app (codes "check")).top) (image_app (codes "log")).top) (image_app (codes "df")).top
 
+-- a program with the subcommands more that make a part of an image, and back
+abbrev pub with_part_apps : App → App
+with_part_apps app = with_subcommand (with_subcommand app to_part_app.top) from_part_app.top
+
 -- a program with the subcommands more that tell of the program itself
 abbrev pub with_about_apps : App → App
 with_about_apps app = with_subcommand (with_subcommand (with_subcommand app explain_app.top) (new_app (codes "help")).top) (new_app (codes "version")).top
 
 -- the program
 abbrev pub uffs : App
-uffs = with_about_apps (with_subcommand (with_subcommand (with_image_apps (with_reading_apps (with_history_apps changing_app))) (new_app (codes "memory")).top) serve_app.top)
+uffs = with_about_apps (with_part_apps (with_subcommand (with_subcommand (with_image_apps (with_reading_apps (with_history_apps changing_app))) (new_app (codes "memory")).top) serve_app.top))

@@ -1,5 +1,5 @@
 -- The job that words ask for.
-use Rattle.std.specs.Prelude.{◌≡◌, ◌^◌, ◌<◌, ℕ, Bool, true, false, Option, Some, None, List, codes, if◌then◌else◌, option_map, is_some}
+use Rattle.std.specs.Prelude.{◌≡◌, ◌^◌, ◌<◌, ℕ, Bool, true, false, Option, Some, None, List, codes, if◌then◌else◌, option_map, option_and_then, is_some}
 use Rattle.std.specs.Borrow.{Bor}
 use Rattle.std.specs.Str.{bytes_eq}
 use Rattle.std.specs.Str.Parse.{IsNumeral, without_leading_plus, digits_value}
@@ -35,10 +35,49 @@ task_named name = if bytes_eq name (codes "format") then Some Task.Format
     else if bytes_eq name (codes "df") then Some Task.Df
     else if bytes_eq name (codes "memory") then Some Task.Memory
     else if bytes_eq name (codes "serve") then Some Task.Serve
+    else if bytes_eq name (codes "to-part") then Some Task.ToPart
+    else if bytes_eq name (codes "from-part") then Some Task.FromPart
     else if bytes_eq name (codes "explain") then Some Task.Explain
     else if bytes_eq name (codes "help") then Some Task.Help
     else if bytes_eq name (codes "version") then Some Task.Version
     else None
+
+-- versions are forgotten by how many they are, or by how many blocks are to be free: one of the two is given
+abbrev pub forget_task : Bool → Bool → Option Task
+forget_task true false = Some (Task.History HistoryCall.Forget)
+forget_task false true = Some (Task.History HistoryCall.ForgetFree)
+forget_task _ _ = None
+
+-- a format is that of a part or of an image: one of the two is named
+abbrev pub format_task : Bool → Bool → Option Task
+format_task true false = Some Task.FormatPart
+format_task false true = Some Task.Format
+format_task _ _ = None
+
+-- a session is one on a part in a flat file, or one with a driver, whose answers and orders are both named
+abbrev pub serve_task : Bool → Bool → Bool → Option Task
+serve_task true false false = Some Task.ServePart
+serve_task false true true = Some Task.Serve
+serve_task _ _ _ = None
+
+-- whether a word of this name is given
+abbrev pub has_word : Text → List Row → Bool
+has_word name rows = is_some (first_of name rows)
+
+-- the task of a subcommand with these words
+abbrev pub task_with : List Row → Task → Option Task
+task_with rows (Task.History HistoryCall.Forget) = forget_task (has_word (codes "N") rows) (has_word (codes "free") rows)
+task_with rows Task.Format = format_task (has_word (codes "part") rows) (has_word (codes "IMAGE") rows)
+task_with rows Task.Serve = serve_task (has_word (codes "part") rows) (has_word (codes "ANSWERS") rows) (has_word (codes "ORDERS") rows)
+task_with rows task = Some task
+
+abbrev pub task_asked : Text → List Row → Option Task
+task_asked name rows = option_and_then (task_with rows) (task_named name)
+
+-- the word of a task that says how many
+abbrev pub count_word : Task → Text
+count_word (Task.History HistoryCall.ForgetFree) = codes "free"
+count_word _ = codes "N"
 
 -- the number of 32 bits that a word spells in decimal digits
 abbrev pub Spells : Text → ℕ → Type 0
@@ -49,18 +88,20 @@ abbrev pub IsNumberOf : Option Text → ℕ → ℕ → Type 0
 IsNumberOf (Some word) default n = Spells word n
 IsNumberOf None default n = n ≡ default
 
--- the numbers are those of the options, and where there is none the defaults
-pub record AreNumbersOf (rows : List Row) (numbers : Numbers) : Type 0 where
+-- the numbers are those of the options of a task, and where there is none the defaults
+pub record AreNumbersOf (command : Task) (rows : List Row) (numbers : Numbers) : Type 0 where
   pub page : IsNumberOf (one_of (codes "page") rows) 256 numbers.page
   pub pages : IsNumberOf (one_of (codes "pages") rows) 16 numbers.pages
   pub blocks : IsNumberOf (one_of (codes "blocks") rows) 32 numbers.blocks
   pub history : IsNumberOf (one_of (codes "history") rows) 8 numbers.history
-  pub count : IsNumberOf (one_of (codes "N") rows) 1 numbers.count
+  pub count : IsNumberOf (one_of (count_word command) rows) 1 numbers.count
 
 -- the tasks that are done on no image
 abbrev pub has_no_image : Task → Bool
 has_no_image Task.Memory = true
 has_no_image Task.Serve = true
+has_no_image Task.ServePart = true
+has_no_image Task.FormatPart = true
 has_no_image Task.Explain = true
 has_no_image Task.Help = true
 has_no_image Task.Version = true
@@ -83,18 +124,19 @@ word_text = option_map (λ (s : Bor (List ℕ)). s.now)
 -- the job is what a subcommand with its arguments says: numbers that no word gives are 256, 16, 32, 8 and 1, and other words
 -- are as given
 pub record IsJobOf (name : Text) (rows : List Row) (job : Job) : Type 0 where
-  pub command : task_named name ≡ Some job.command
+  pub command : task_asked name rows ≡ Some job.command
   pub image : IsImageOf job.command (first_of (codes "IMAGE") rows) (word_text job.image)
   pub page : IsNumberOf (one_of (codes "page") rows) 256 job.page
   pub pages : IsNumberOf (one_of (codes "pages") rows) 16 job.pages
   pub blocks : IsNumberOf (one_of (codes "blocks") rows) 32 job.blocks
   pub history : IsNumberOf (one_of (codes "history") rows) 8 job.history
-  pub count : IsNumberOf (one_of (codes "N") rows) 1 job.count
+  pub count : IsNumberOf (one_of (count_word job.command) rows) 1 job.count
   pub refusal : word_text job.refusal ≡ first_of (codes "REFUSAL") rows
   pub checkpoint : word_text job.checkpoint ≡ first_of (codes "NAME") rows
   pub is_history_given : job.is_history_given ≡ is_some (first_of (codes "history") rows)
   pub answers : word_text job.answers ≡ first_of (codes "ANSWERS") rows
   pub orders : word_text job.orders ≡ first_of (codes "ORDERS") rows
+  pub part : word_text job.part ≡ first_of (codes "part") rows
   pub exit_code : job.exit_code ≡ flag_of (first_of (codes "exit-code") rows)
   pub stop : job.stop ≡ flag_of (first_of (codes "stop") rows)
   pub path : word_text job.path ≡ first_of (codes "PATH") rows

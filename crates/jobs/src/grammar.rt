@@ -3,12 +3,16 @@ ghost use Rattle.std.specs.Prelude.{◌≡◌, IfOk, codes, false};
 ghost use Rattle.clap.specs.Words.{app_of, rule_of, new_app, with_rule, with_subcommand};
 ghost use Rattle.clap.specs.declared.builder.command.Command.TheViews.{out-Command};
 ghost use Rattle.jobs.specs.Grammar.{uffs, bare_app, changing_app, format_app, run_app, put_app, get_app, tree_app, diff_app, serve_app, cat_app, image_app};
-ghost use Rattle.jobs.specs.Grammar.{with_history_apps, with_reading_apps, with_image_apps, with_about_apps, flag_rule, number_rule, word_rule, optional_rule};
+ghost use Rattle.jobs.specs.Grammar.{formatted_app, named_rule, with_part_apps, with_history_apps, with_reading_apps, with_image_apps, with_about_apps, flag_rule, number_rule, word_rule, optional_rule};
 
 use crate::about_commands::with_about_commands;
 use crate::history_commands::with_history_commands;
+use crate::part_commands::with_part_commands;
 use clap::{Arg, ArgAction, Command, value_parser};
 use std::alloc::{AllocError, Global};
+
+/// The name of the option that names the flat file of a part.
+pub(crate) const PART: &str = "part";
 
 /// The name of the argument that names the file of an image.
 pub(crate) const IMAGE: &str = "IMAGE";
@@ -48,9 +52,10 @@ Example:
 
 const FORMAT_HELP: &str =
     "An image that is there is replaced. Nothing is printed. A refused format leaves IMAGE as it was.
+With --part a part in the flat file FILE is made in the place of an image.
 
-Status: 0 it is written; 1 IMAGE cannot be written, or memory; 2 the words; 3 the sizes or H are
-refused, with their refusal.
+Status: 0 it is written; 1 IMAGE or FILE cannot be written, or memory; 2 the words; 3 the sizes or H
+are refused, with their refusal.
 
 Example: uffs format disk.image --blocks 64 --history 16";
 
@@ -121,8 +126,9 @@ Example: uffs diff disk.image =before @5";
 
 const VERSIONS_HELP: &str =
     "Prints a line for each kept version, the oldest first, and for each checkpoint: @ and its serial or =
-and its name, how many directories and files stand in its tree, and the bytes of these files. The
-present version is told as such. Nothing is written to IMAGE.
+and its name, how many directories and files stand in its tree, and the bytes of these files; frees,
+how many blocks more are free once it and the versions before it are forgotten; and alone, how many
+blocks nothing else keeps. The present version is told as such. Nothing is written to IMAGE.
 
 Status: as of check.
 
@@ -164,13 +170,15 @@ const SERVE_HELP: &str =
     "A program that drives a part starts this as a child. It writes to ANSWERS what the part holds, and
 carries out what is written to ORDERS: both are fifos, or /dev/fd/N of pipes. ANSWERS is opened first.
 Each line of the input is answered by one line of the output before the next is read. With --history
-an empty file system is made first. docs/serve.md has the bytes.
+an empty file system is made first. docs/serve.md has the bytes. With --part the part stands in place
+in the flat file FILE, as format --part makes it, and a sync that was answered ok is on the medium.
 
-Status: 0 the script ran to its end; 1 ANSWERS or ORDERS cannot be opened, the start, the input or the
-output failed, or memory; 2 the words; 3 ANSWERS begins with no image, or a format or a mount was
-refused.
+Status: 0 the script ran to its end; 1 ANSWERS, ORDERS or FILE cannot be opened, the start, the input
+or the output failed, or memory; 2 the words; 3 ANSWERS begins with no image, FILE holds no part, or a
+format or a mount was refused.
 
-Example: uffs serve /dev/fd/3 /dev/fd/4";
+Example: uffs serve /dev/fd/3 /dev/fd/4
+         uffs serve --part disk.part";
 
 /// The program with all its subcommands.
 pub(crate) fn program<'a>(alloc: Global) -> Result<Command<'a>, AllocError>
@@ -181,6 +189,7 @@ pub(crate) fn program<'a>(alloc: Global) -> Result<Command<'a>, AllocError>
     let program = with_image_commands(alloc, program)?;
     let program = program.subcommand(memory_command(alloc))?;
     let program = program.subcommand(serve_command(alloc)?)?;
+    let program = with_part_commands(alloc, program)?;
     with_about_commands(alloc, program)
 }
 
@@ -270,12 +279,7 @@ fn format_command<'a>(alloc: Global) -> Result<Command<'a>, AllocError>
     ensures app { IfOk result (λ command. app_of command ≡ format_app) }
     ensures local { IfOk result (λ command. (out-Command command).has_globals ≡ false) }
 {
-    let command = image_command(
-        alloc,
-        "format",
-        "Makes an image with an empty file system",
-        FORMAT_HELP,
-    )?;
+    let command = formatted_command(alloc)?;
     let command = with_number(
         alloc,
         command,
@@ -304,6 +308,21 @@ fn format_command<'a>(alloc: Global) -> Result<Command<'a>, AllocError>
         "H",
         "Versions that are kept, 2 to 128 [default: 8]",
     )
+}
+
+/// The subcommand for a format, before its sizes.
+fn formatted_command<'a>(alloc: Global) -> Result<Command<'a>, AllocError>
+    ensures app { IfOk result (λ command. app_of command ≡ formatted_app) }
+    ensures local { IfOk result (λ command. (out-Command command).has_globals ≡ false) }
+{
+    let command = named_command(
+        alloc,
+        "format",
+        "Makes an image with an empty file system",
+        FORMAT_HELP,
+    );
+    let command = with_optional_word(alloc, command, IMAGE, "The file of the image")?;
+    with_part(alloc, command, "Makes a part in this flat file instead")
 }
 
 fn run_command<'a>(alloc: Global) -> Result<Command<'a>, AllocError>
@@ -441,13 +460,18 @@ fn serve_command<'a>(alloc: Global) -> Result<Command<'a>, AllocError>
         "Runs the script on standard input on the part of a driver in another process",
         SERVE_HELP,
     );
-    let command = with_word(
+    let command = with_optional_word(
         alloc,
         command,
         ANSWERS,
         "What the driver writes: what its part holds, then its answers",
     )?;
-    let command = with_word(alloc, command, ORDERS, "What the driver reads: its orders")?;
+    let command = with_optional_word(alloc, command, ORDERS, "What the driver reads: its orders")?;
+    let command = with_part(
+        alloc,
+        command,
+        "Has no driver: the part is in this flat file",
+    )?;
     with_number(
         alloc,
         command,
@@ -496,8 +520,20 @@ fn with_flag<'a>(
     command.arg(flag_arg(alloc, name, help))
 }
 
+/// The subcommand with the option more that names the flat file of a part.
+fn with_part<'a>(
+    alloc: Global,
+    command: Command<'a>,
+    help: &'a str,
+) -> Result<Command<'a>, AllocError>
+    ensures app { IfOk result (λ more. app_of more ≡ with_rule (app_of command.entry) (named_rule (codes "part"))) }
+    ensures local { IfOk result (λ more. (out-Command more).has_globals ≡ (out-Command command.entry).has_globals) }
+{
+    command.arg(part_arg(alloc, help))
+}
+
 /// The subcommand with an option more that takes a number.
-fn with_number<'a>(
+pub(crate) fn with_number<'a>(
     alloc: Global,
     command: Command<'a>,
     name: &'a str,
@@ -576,6 +612,18 @@ fn flag_arg<'a>(alloc: Global, name: &'a str, help: &'a str) -> Arg<'a>
     Arg::new(alloc, name)
         .long(name)
         .action(ArgAction::SetTrue)
+        .help(help)
+}
+
+/// The option that names the flat file of a part.
+fn part_arg<'a>(alloc: Global, help: &'a str) -> Arg<'a>
+    ensures rule { rule_of result ≡ named_rule (codes "part") }
+    ensures local { result.global ≡ false }
+{
+    Arg::new(alloc, PART)
+        .long(PART)
+        .value_name(FILE)
+        .action(ArgAction::Set)
         .help(help)
 }
 

@@ -4,12 +4,15 @@ ghost use Rattle.clap.specs.Words.{app_of, rule_of, with_rule, with_subcommand};
 ghost use Rattle.clap.specs.declared.builder.command.Command.TheViews.{out-Command};
 ghost use Rattle.jobs.specs.Grammar.{checkpoint_app, count_rule, forget_app, steps_app, with_checkpoint_apps, with_history_apps, with_step_apps};
 
-use crate::grammar::{image_command, with_word};
+use crate::grammar::{image_command, with_number, with_word};
 use clap::{Arg, ArgAction, Command, value_parser};
 use std::alloc::{AllocError, Global};
 
 /// The name of the argument that says how many.
 pub(crate) const COUNT: &str = "N";
+
+/// The name of the option that says how many blocks are to be free.
+pub(crate) const FREE: &str = "free";
 
 /// The name of the argument that names a checkpoint.
 pub(crate) const NAME: &str = "NAME";
@@ -57,12 +60,15 @@ Status: as of undo.
 Example: uffs rmcheckpoint disk.image before";
 
 const FORGET_HELP: &str =
-    "The N oldest versions before the present one are dropped, so that no `undo` comes to them. It is
-synced. Nothing is printed. Where it is refused IMAGE stays as it was.
+    "The N oldest versions before the present one are dropped, so that no `undo` comes to them; or with
+--free the fewest that leave so many blocks free, as `df` shows them, and none where these are free.
+It is synced. Nothing is printed. Where it is refused IMAGE stays as it was, as where all versions
+before the present one are not enough (uffs: ENOSPC 15).
 
 Status: as of undo.
 
-Example: uffs forget disk.image 3";
+Example: uffs forget disk.image 3
+Example: uffs forget disk.image --free 8";
 
 /// The program with the subcommands more that move or change the history of an image.
 pub(crate) fn with_history_commands<'a>(
@@ -159,7 +165,14 @@ fn forget_command<'a>(alloc: Global) -> Result<Command<'a>, AllocError>
     ensures local { IfOk result (λ command. (out-Command command).has_globals ≡ false) }
 {
     let command = image_command(alloc, "forget", "Drops the oldest versions", FORGET_HELP)?;
-    with_count(alloc, command, true, "How many versions")
+    let command = with_count(alloc, command, false, "How many versions, where not --free")?;
+    with_number(
+        alloc,
+        command,
+        FREE,
+        "BLOCKS",
+        "How many blocks are to be free, where not N",
+    )
 }
 
 /// The subcommand with a number more that says how many.

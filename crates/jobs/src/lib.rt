@@ -5,6 +5,7 @@ mod about;
 mod about_commands;
 mod grammar;
 mod history_commands;
+mod part_commands;
 mod tasks;
 mod words;
 

@@ -15,6 +15,8 @@ pub enum HistoryCall {
     RemoveCheckpoint,
     /// The oldest versions are dropped.
     Forget,
+    /// The fewest of the oldest versions are dropped that leave so many blocks free.
+    ForgetFree,
 }
 
 /// What is to be done.
@@ -48,6 +50,14 @@ pub enum Task {
     Memory,
     /// A script is run on the part of a driver in another process.
     Serve,
+    /// A part in a flat file is made.
+    FormatPart,
+    /// A script is run on a part in place in a flat file.
+    ServePart,
+    /// An image is written as a part in a flat file.
+    ToPart,
+    /// A part in a flat file is written as an image.
+    FromPart,
     /// What refusals mean is told.
     Explain,
     /// What can be asked for is told.
@@ -61,7 +71,7 @@ pub enum Task {
 pub struct Job<'a> {
     /// What is to be done.
     pub command: Task,
-    /// The file of the image; none for `memory`, `serve`, `explain`, `help` and `version`.
+    /// The file of the image; none for a part, `memory`, `serve`, `explain`, `help` and `version`.
     pub image: Option<&'a str>,
     /// Bytes of a page.
     pub page: u32,
@@ -77,9 +87,11 @@ pub struct Job<'a> {
     pub answers: Option<&'a str>,
     /// The name under which a driver is given its orders; none where none is named.
     pub orders: Option<&'a str>,
+    /// The flat file in which a part is formatted or served; none where none is named.
+    pub part: Option<&'a str>,
     /// The number of a refusal or its word; none where none is named.
     pub refusal: Option<&'a str>,
-    /// How many steps, or how many versions; 1 where no word gives it.
+    /// How many steps, how many versions, or how many blocks; 1 where no word gives it.
     pub count: u32,
     /// The name of a checkpoint; none where none is named.
     pub checkpoint: Option<&'a str>,
@@ -89,7 +101,8 @@ pub struct Job<'a> {
     pub stop: bool,
     /// The path in the image; none where none is named.
     pub path: Option<&'a str>,
-    /// The file of the host; none where none is named.
+    /// The file of the host, or that of a part which is made of an image or becomes one; none where none
+    /// is named.
     pub file: Option<&'a str>,
     /// The view of the image; none where none is named.
     pub view: Option<&'a str>,

@@ -3,13 +3,13 @@ ghost use Rattle.std.specs.Prelude.{◌≡◌, ℕ, [], codes, IfOk, OnOk, IfErr
 ghost use Rattle.clap.specs.Words.{HasKind, app_of, fault_of, found_of, rows_of, subcommand_rows_of};
 ghost use Rattle.clap.specs.Walk.{one_of, first_of};
 ghost use Rattle.jobs.specs.Grammar.{uffs};
-ghost use Rattle.jobs.specs.Jobs.{AreNumbersOf, AsksFor, SaysJob, IsNumberOf, IsImageOf, flag_of, has_no_image, task_named};
+ghost use Rattle.jobs.specs.Jobs.{AreNumbersOf, AsksFor, IsImageOf, IsNumberOf, SaysJob, count_word, flag_of, forget_task, format_task, has_no_image, has_word, serve_task, task_asked, task_named, task_with};
 ghost use Rattle.jobs.specs.declared.tasks.Job.{Job};
 ghost use Rattle.jobs.specs.declared.words.Numbers.{Numbers};
 
 use crate::about_commands::REFUSAL;
-use crate::grammar::{ANSWERS, FILE, IMAGE, ORDERS, OTHER, PATH, VIEW, program};
-use crate::history_commands::{COUNT, NAME};
+use crate::grammar::{ANSWERS, FILE, IMAGE, ORDERS, OTHER, PART, PATH, VIEW, program};
+use crate::history_commands::{COUNT, FREE, NAME};
 use crate::tasks::{HistoryCall, Job, Task};
 use clap::error::ErrorKind;
 use clap::{ArgMatches, Command, Error};
@@ -56,15 +56,30 @@ fn asked_of<'a>(program: &mut Command<'a>, words: &'a [String]) -> Result<Job<'a
     };
     match said(&matches) {
         Some(job) => Ok(job),
-        None => Err(nothing_asked(program)),
+        None => Err(nothing_asked(program, misuse_of(&matches))),
     }
 }
 
-/// The error for words that ask for nothing.
-fn nothing_asked(program: &mut Command<'_>) -> Error {
-    match program.error(ErrorKind::InvalidValue, "the words ask for nothing") {
+/// The error for words that ask for nothing, with why.
+fn nothing_asked(program: &mut Command<'_>, why: &str) -> Error {
+    match program.error(ErrorKind::InvalidValue, why) {
         Ok(error) => error,
         Err(error) => Error::from(error),
+    }
+}
+
+/// Why words ask for nothing of which each is understood.
+fn misuse_of(matches: &ArgMatches<'_>) -> &'static str {
+    let Some((name, given)) = matches.subcommand() else {
+        return "the words ask for nothing";
+    };
+    match (name, is_given(given, PART)) {
+        ("format", true) => "'--part <FILE>' cannot be used with IMAGE",
+        ("format", false) => "IMAGE or '--part <FILE>' is wanted",
+        ("serve", true) => "'--part <FILE>' cannot be used with ANSWERS",
+        ("serve", false) => "ANSWERS and ORDERS, or '--part <FILE>', are wanted",
+        ("forget", _) => "either N or '--free <BLOCKS>' is wanted",
+        _ => "the words ask for nothing",
     }
 }
 
@@ -74,7 +89,7 @@ fn said<'a>(matches: &ArgMatches<'a>) -> Option<Job<'a>>
     ensures none { IfNone result ((job : Job) → SaysJob (subcommand_rows_of matches.now) job → ⊥) }
 {
     let (name, given) = matches.subcommand()?;
-    let command = task_named(name)?;
+    let command = task_asked(name, given)?;
     let image = image(given, command)?;
     let Numbers {
         page,
@@ -82,7 +97,7 @@ fn said<'a>(matches: &ArgMatches<'a>) -> Option<Job<'a>>
         blocks,
         history,
         count,
-    } = numbers_of(given)?;
+    } = numbers_of(given, command)?;
     Some(Job {
         command,
         image,
@@ -96,6 +111,7 @@ fn said<'a>(matches: &ArgMatches<'a>) -> Option<Job<'a>>
         is_history_given: is_given(given, "history"),
         answers: word(given, ANSWERS),
         orders: word(given, ORDERS),
+        part: word(given, PART),
         exit_code: has_flag(given, "exit-code"),
         stop: has_flag(given, "stop"),
         path: word(given, PATH),
@@ -106,18 +122,64 @@ fn said<'a>(matches: &ArgMatches<'a>) -> Option<Job<'a>>
     })
 }
 
-/// The numbers that the options give, else their defaults; none where a word spells no number.
-fn numbers_of(given: &ArgMatches<'_>) -> Option<Numbers>
-    ensures some { IfSome result (AreNumbersOf (rows_of (found_of given.now))) }
-    ensures none { IfNone result ((numbers : Numbers) → AreNumbersOf (rows_of (found_of given.now)) numbers → ⊥) }
+/// The numbers that the options of a task give, else their defaults; none where a word spells no number.
+fn numbers_of(given: &ArgMatches<'_>, command: Task) -> Option<Numbers>
+    ensures some { IfSome result (AreNumbersOf command (rows_of (found_of given.now))) }
+    ensures none { IfNone result ((numbers : Numbers) → AreNumbersOf command (rows_of (found_of given.now)) numbers → ⊥) }
 {
     Some(Numbers {
         page: number(given, "page", 256)?,
         pages: number(given, "pages", 16)?,
         blocks: number(given, "blocks", 32)?,
         history: number(given, "history", 8)?,
-        count: number(given, COUNT, 1)?,
+        count: number(given, count_word(command), 1)?,
     })
+}
+
+/// The word of a task that says how many.
+fn count_word(command: Task) -> &'static str
+    ensures { result.now ≡ count_word command }
+{
+    match command {
+        Task::History(HistoryCall::ForgetFree) => FREE,
+        _ => COUNT,
+    }
+}
+
+/// The task of a subcommand with its words; none where these do not go together.
+fn task_asked(name: &str, given: &ArgMatches<'_>) -> Option<Task>
+    ensures { result ≡ task_asked name.now (rows_of (found_of given.now)) }
+{
+    task_with(task_named(name)?, given)
+}
+
+/// The task of a subcommand of this name with these words.
+fn task_with(task: Task, given: &ArgMatches<'_>) -> Option<Task>
+    ensures { result ≡ task_with (rows_of (found_of given.now)) task }
+{
+    match task {
+        Task::History(HistoryCall::Forget) => {
+            forget_task(is_given(given, COUNT), is_given(given, FREE))
+        }
+        Task::Format => format_task(is_given(given, PART), is_given(given, IMAGE)),
+        Task::Serve => serve_task(
+            is_given(given, PART),
+            is_given(given, ANSWERS),
+            is_given(given, ORDERS),
+        ),
+        _ => Some(task),
+    }
+}
+
+/// Versions are forgotten by how many they are, or by how many blocks are to be free: one is given.
+fn forget_task(is_count_given: bool, is_free_given: bool) -> Option<Task>
+    ensures { result ≡ forget_task is_count_given is_free_given }
+{
+    match (is_count_given, is_free_given) {
+        (true, false) => Some(Task::History(HistoryCall::Forget)),
+        (false, true) => Some(Task::History(HistoryCall::ForgetFree)),
+        _ => None,
+    }
 }
 
 fn task_named(name: &str) -> Option<Task>
@@ -143,9 +205,33 @@ fn task_named(name: &str) -> Option<Task>
         "df" => Some(Task::Df),
         "memory" => Some(Task::Memory),
         "serve" => Some(Task::Serve),
+        "to-part" => Some(Task::ToPart),
+        "from-part" => Some(Task::FromPart),
         "explain" => Some(Task::Explain),
         "help" => Some(Task::Help),
         "version" => Some(Task::Version),
+        _ => None,
+    }
+}
+
+/// The task of a format, by what is named.
+fn format_task(part: bool, image: bool) -> Option<Task>
+    ensures { result ≡ format_task part image }
+{
+    match (part, image) {
+        (true, false) => Some(Task::FormatPart),
+        (false, true) => Some(Task::Format),
+        _ => None,
+    }
+}
+
+/// The task of a session, by what is named.
+fn serve_task(part: bool, answers: bool, orders: bool) -> Option<Task>
+    ensures { result ≡ serve_task part answers orders }
+{
+    match (part, answers, orders) {
+        (true, false, false) => Some(Task::ServePart),
+        (false, true, true) => Some(Task::Serve),
         _ => None,
     }
 }
@@ -155,7 +241,8 @@ fn has_no_image(command: Task) -> bool
     ensures { result ≡ has_no_image command }
 {
     match command {
-        Task::Memory | Task::Serve | Task::Explain | Task::Help | Task::Version => true,
+        Task::Memory | Task::Serve | Task::ServePart | Task::FormatPart => true,
+        Task::Explain | Task::Help | Task::Version => true,
         _ => false,
     }
 }
@@ -183,7 +270,7 @@ fn word<'a>(given: &ArgMatches<'a>, name: &str) -> Option<&'a str>
 
 /// Whether a word is given for an argument.
 fn is_given(given: &ArgMatches<'_>, name: &str) -> bool
-    ensures { result ≡ is_some (first_of name.now (rows_of (found_of given.now))) }
+    ensures { result ≡ has_word name.now (rows_of (found_of given.now)) }
 {
     match given.get_str(name) {
         Some(_) => true,

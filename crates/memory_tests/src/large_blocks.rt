@@ -1,7 +1,8 @@
-//! A flash of large blocks, of which little memory is wanted while no file is read.
+//! A flash of large blocks, of which little memory is wanted while no file is read, and two nodes of a
+//! file where a byte of it is written.
 use crate::budget::Budget;
 use flash_model::{Geometry, SimFlash};
-use fs_types::Fault;
+use fs_types::{Fault, OpenFlags};
 use std::alloc::Global;
 use std::test::Fail;
 use undofs::{Fs, Path, format};
@@ -29,5 +30,66 @@ fn directories_on_blocks_of_128_kib_are_made_in_16_kib(rt: HostRuntime) -> Resul
     let made = make_directories(rt.alloc(), &mut flash);
     budget.give_back();
     assert_eq!(rt; made, Ok(()));
+    Ok(())
+}
+
+/// The bytes of a block of the flash.
+const BLOCK: usize = 131_072;
+
+/// Writes a file of so many bytes on blocks of 128 KiB, and commits it.
+fn flash_with_file(alloc: Global, count: usize) -> Result<SimFlash, Fault> {
+    let sizes = Geometry {
+        page: 2_048,
+        pages: 64,
+        blocks: 64,
+    };
+    let mut flash = SimFlash::new(alloc, sizes, &[])?;
+    format(alloc, &mut flash, 8)?;
+    let bytes = vec![in alloc; 65; count]?;
+    let mut fs = Fs::mount(alloc, &mut flash)?;
+    fs.write_file(alloc, &Path::parse(alloc, b"/f")?, &bytes)?;
+    fs.sync(alloc)?;
+    drop(fs);
+    Ok(flash)
+}
+
+/// Mounts the flash, and writes a byte at each of these places of the file.
+fn write_bytes(alloc: Global, flash: &mut SimFlash, places: &[u64]) -> Result<(), Fault> {
+    let mut fs = Fs::mount(alloc, flash)?;
+    let file = fs.open(alloc, &Path::parse(alloc, b"/f")?, OpenFlags::WRITE)?;
+    for place in places {
+        fs.pwrite(alloc, file, *place, b"b")?;
+    }
+    fs.close(file)
+}
+
+/// Whether bytes of a file of so many are written with so much memory and no more.
+fn are_written_in(
+    alloc: Global,
+    count: usize,
+    places: &[u64],
+    bytes: usize,
+) -> Result<bool, Fault> {
+    let mut flash = flash_with_file(alloc, count)?;
+    let mut budget = Budget::new(alloc)?;
+    budget.leave(alloc, bytes);
+    let written = write_bytes(alloc, &mut flash, places);
+    budget.give_back();
+    Ok(written.is_ok())
+}
+
+#[test]
+fn bytes_in_eight_full_nodes_of_128_kib_are_written_in_two_nodes(
+    rt: HostRuntime,
+) -> Result<(), Fail> {
+    let places = [0, 600_000, 300_000, 1_047_935];
+    assert!(rt; are_written_in(rt.alloc(), 1_047_936, &places, 2 * BLOCK + 16_384)?);
+    Ok(())
+}
+
+#[test]
+fn bytes_before_a_short_last_node_are_written_in_one_node(rt: HostRuntime) -> Result<(), Fail> {
+    let places = [0, 600_000, 300_000, 1_048_575];
+    assert!(rt; are_written_in(rt.alloc(), 1_048_576, &places, BLOCK + 16_384)?);
     Ok(())
 }

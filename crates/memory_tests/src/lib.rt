@@ -7,3 +7,7 @@ mod budget;
 mod growths;
 #[cfg(test)]
 mod large_blocks;
+#[cfg(test)]
+mod many_files;
+#[cfg(test)]
+mod mounts;

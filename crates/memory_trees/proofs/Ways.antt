@@ -55,3 +55,27 @@ way_goes_on t path i whole low h goes so_far =
     ap (λ k. lookup_refusal (under t (take k path)) (drop k path)) here
     ∙ sym (way_step t path i low h ∙ ap (λ o. option_or o (lookup_refusal (under t (take i path)) (drop i path))) goes)
     ∙ so_far
+
+or-nothing : (o : Option Fault) → option_or o None ≡ o
+or-nothing None = refl
+or-nothing (Some fault) = refl
+
+in-order : (a b c : Option Fault) → option_or a (option_or b c) ≡ option_or (option_or a b) c
+in-order None b c = refl
+in-order (Some fault) b c = refl
+
+-- the way to a name in a directory is the way to it, and then the directory
+pub way_in : (t : Contents) (n : Name) (p : Path) (name : Name) → lookup_refusal t (n ∷ p ++ name ∷ []) ≡ option_or (lookup_refusal t (n ∷ p)) (way_refusal (t (n ∷ p)))
+way_in t n [] name = or-nothing (way_refusal (t (n ∷ [])))
+way_in t n (m ∷ p) name =
+    ap (option_or (way_refusal (t (n ∷ [])))) (way_in (under t (n ∷ [])) m p name)
+    ∙ in-order (way_refusal (t (n ∷ []))) (lookup_refusal (under t (n ∷ [])) (m ∷ p)) (way_refusal (t (n ∷ m ∷ p)))
+
+pub way_into : (t : Contents) (p : Path) (name : Name) → 0 < length p → lookup_refusal t (p ++ name ∷ []) ≡ option_or (lookup_refusal t p) (way_refusal (t p))
+way_into t [] name some = absurd (omega arith)
+way_into t (n ∷ p) name some = way_in t n p name
+
+-- the way to the root is that to each name in it
+pub way_stopped : (t : Contents) (p : Path) (name : Name) (fault : Fault) → lookup_refusal t p ≡ Some fault → Some fault ≡ lookup_refusal t (p ++ name ∷ [])
+way_stopped t [] name fault e = sym e
+way_stopped t (n ∷ p) name fault e = sym (way_in t n p name ∙ ap (λ o. option_or o (way_refusal (t (n ∷ p)))) e)

@@ -1,5 +1,5 @@
 //! Maps from paths to what stands there, as the lists of their entries.
-ghost use Rattle.std.specs.Prelude.{◌≡◌, ◌+◌, true, false, length, filter_map, IfOk, OnOk, OnErr, count_by};
+ghost use Rattle.std.specs.Prelude.{◌≡◌, ◌+◌, true, false, [], ◌∷◌, ◌++◌, length, filter_map, IfOk, OnOk, OnErr, count_by};
 ghost use Rattle.std.specs.Option.{option_copied};
 ghost use Rattle.std.specs.List.{list_any};
 ghost use Rattle.std.specs.List.Sorted.{IsStrictlySortedBy};
@@ -22,6 +22,22 @@ pub fn node_at<'a>(nodes: &'a BTreeMap<Path, Node>, path: &[Name]) -> Option<&'a
 {
     for (at, node) in nodes {
         if path.cmp(at.names()).is_eq() {
+            return Some(node);
+        }
+    }
+    None
+}
+
+/// What stands under a name of a directory.
+pub fn child_at<'a>(
+    nodes: &'a BTreeMap<Path, Node>,
+    directory: &[Name],
+    name: &Name,
+) -> Option<&'a Node>
+    ensures { option_copied result ≡ lookup (is_at (path_cmp (directory.now ++ name.now ∷ []))) nodes.now.entries }
+{
+    for (at, node) in nodes {
+        if names::is_child_of(directory, name, at.names()) {
             return Some(node);
         }
     }

@@ -1,12 +1,13 @@
 //! Names below a directory, and paths made of two.
-ghost use Rattle.std.specs.Prelude.{◌≡◌, ◌+◌, ◌++◌, true, false, length, is_some, IfOk, OnOk};
+ghost use Rattle.std.specs.Prelude.{◌≡◌, ◌+◌, [], ◌∷◌, ◌++◌, true, false, length, is_some, IfOk, OnOk};
 ghost use Rattle.std.specs.Option.{option_copied};
-ghost use Rattle.fs_types.specs.Names.{is_path};
+ghost use Rattle.std.specs.BTreeMap.{is_at};
+ghost use Rattle.fs_types.specs.Names.{is_path, path_cmp};
 ghost use Rattle.plain_trees.specs.Contents.{beneath};
 ghost use Rattle.memory_trees.specs.Paths.{is_deep, only_name, path_moved};
 
 use fs_types::{MAX_NAMES, Name, Path};
-use plain_trees::{is_beginning, rest_of};
+use plain_trees::{is_beginning, is_path_in, rest_of};
 use std::alloc::{AllocError, Global};
 
 /// The name of an entry right in a directory.
@@ -24,6 +25,13 @@ pub fn is_child(directory: &[Name], path: &[Name]) -> bool
     ensures { result ≡ is_some (only_name (beneath directory.now path.now)) }
 {
     child_name(directory, path).is_some()
+}
+
+/// Whether a path is that of a name in a directory.
+pub fn is_child_of(directory: &[Name], name: &Name, path: &[Name]) -> bool
+    ensures { result ≡ is_at (path_cmp (directory.now ++ name.now ∷ [])) path.now }
+{
+    is_path_in(directory, name, path)
 }
 
 /// Whether a path at `old` or below would have more than 16 names, where `old` becomes `depth` names.

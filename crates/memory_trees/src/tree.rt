@@ -1,5 +1,5 @@
 //! Trees, kept whole as maps from paths.
-ghost use Rattle.std.specs.Prelude.{◌≡◌, true, false, IfOk, OnOk, OnErr};
+ghost use Rattle.std.specs.Prelude.{◌≡◌, ℕ, true, false, List, [], ◌∷◌, ◌++◌, IfOk, OnOk, OnErr};
 ghost use Rattle.std.specs.Option.{option_copied};
 ghost use Rattle.std.specs.FinMap as finmap;
 ghost use Rattle.fs_types.specs.Names.{is_path};
@@ -54,6 +54,13 @@ impl Tree {
         maps::node_at(&self.nodes, path)
     }
 
+    /// What stands under a name of a directory.
+    pub fn get_in(&self, directory: &[Name], name: &Name) -> Option<&Node>
+        ensures { option_copied result ≡ finmap.get self.now (directory.now ++ name.now ∷ []) }
+    {
+        maps::child_at(&self.nodes, directory, name)
+    }
+
     /// Puts a node at a path; unchanged where memory is not to be had.
     pub fn put(&mut self, path: Path, node: Node) -> Result<(), AllocError>
         ensures ok { OnOk result (self.new ≡ tree.put self.old path node) }
@@ -104,6 +111,19 @@ impl Tree {
             }
         }
         None
+    }
+
+    /// Why the names of a directory lead to no directory, so that nothing can stand in it.
+    pub fn entering_refusal(&self, directory: &[Name]) -> Option<Fault>
+        ensures { (name : List ℕ) → result ≡ lookup_refusal (finmap.get self.now) (directory.now ++ name ∷ []) }
+    {
+        if let Some(fault) = self.lookup_refusal(directory) {
+            return Some(fault);
+        }
+        if directory.is_empty() {
+            return None;
+        }
+        way_refusal(self.get(directory))
     }
 
     /// Whether a path at `old` or below would have more than 16 names at `new`.

@@ -1,10 +1,10 @@
 //! Versions forgotten until so many blocks are free, with ample memory.
 use crate::mounts::formatted;
 use flash_model::{Geometry, SimFlash};
-use fs_types::{Fault, Path};
+use fs_types::{CpName, Fault, Path};
 use std::alloc::Global;
 use std::test::Fail;
-use undofs::Fs;
+use undofs::{Fs, VersionSpace};
 
 /// Eight data blocks.
 const SIZES: Geometry = Geometry {
@@ -52,5 +52,51 @@ fn nothing_is_forgotten_where_all_is_not_enough(rt: HostRuntime) -> Result<(), F
         forgotten_for(rt.alloc(), 5)?,
         (Err(Fault::FlashFull), 1, 4)
     );
+    Ok(())
+}
+
+/// What a version keeps.
+fn kept(frees: Option<u64>, alone: u64) -> VersionSpace {
+    VersionSpace { frees, alone }
+}
+
+#[test]
+fn each_version_tells_what_it_keeps(rt: HostRuntime) -> Result<(), Fail> {
+    let alloc = rt.alloc();
+    let mut flash = formatted(alloc, SIZES, 8)?;
+    let mut fs = Fs::mount(alloc, &mut flash)?;
+    fill(alloc, &mut fs)?;
+    let space = fs.space_by_version(alloc)?;
+    // Of the last version its root and the directory that was made last.
+    let versions = [
+        kept(Some(1), 1),
+        kept(Some(2), 1),
+        kept(Some(3), 1),
+        kept(None, 2),
+    ];
+    assert_eq!(rt; space.versions.as_slice(), versions.as_slice());
+    assert!(rt; space.checkpoints.as_slice().is_empty());
+    Ok(())
+}
+
+#[test]
+fn what_two_keep_none_keeps_alone(rt: HostRuntime) -> Result<(), Fail> {
+    let alloc = rt.alloc();
+    let mut flash = formatted(alloc, SIZES, 8)?;
+    let mut fs = Fs::mount(alloc, &mut flash)?;
+    fill(alloc, &mut fs)?;
+    fs.undo()?;
+    fs.checkpoint(&CpName::parse(b"third")?)?;
+    fs.undo()?;
+    let space = fs.space_by_version(alloc)?;
+    // The root of version 3 is that of the checkpoint too.
+    let versions = [
+        kept(Some(1), 1),
+        kept(None, 1),
+        kept(None, 0),
+        kept(None, 2),
+    ];
+    assert_eq!(rt; space.versions.as_slice(), versions.as_slice());
+    assert_eq!(rt; space.checkpoints.as_slice(), [0].as_slice());
     Ok(())
 }

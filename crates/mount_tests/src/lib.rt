@@ -8,6 +8,8 @@ mod contents;
 #[cfg(test)]
 mod forgetting;
 #[cfg(test)]
+mod many_files;
+#[cfg(test)]
 mod mounts;
 #[cfg(test)]
 mod older_format;

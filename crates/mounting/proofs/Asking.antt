@@ -2,12 +2,13 @@
 use Rattle.std.proofs.Common.{◌≡◌, ℕ, ◌+◌, ◌*◌, ◌≤◌, List, [], ◌++◌, length, ◌∙◌, arith}
 use Rattle.std.proofs.Math.Nat.{add-mul, mul-le-mul_right}
 use Rattle.flash_model.specs.Device.{Device}
+use Rattle.flash_model.specs.Geometry.{block_bytes}
 use Rattle.node_store.specs.NodePages.{node_of}
 use Rattle.node_store.specs.Stores.{Follows}
 use Rattle.node_store.specs.declared.store.Store.{Store}
 use Rattle.block_trees.specs.Bodies.{Blocks}
 use Rattle.reclaim.specs.Passes.{AreReached}
-use Rattle.reclaim.specs.Verified.{HasCost, most_reads}
+use Rattle.reclaim.specs.Verified.{HasCost, all_pages}
 use Rattle.mounting.specs.Costs.{ReadsEach, AsksEach, AsksToVerify}
 
 pub none_reached : (f : Blocks) (roots : List ℕ) → AreReached f roots []
@@ -34,9 +35,6 @@ module _ {F : Type 0} (device : F → Device) (s t : Store F) (roots : List ℕ)
     most = paged (device s.flash.now).operations (device t.flash.now).operations s.reads.n t.reads.n (length reads.blocks) (device s.flash.now).geometry.pages (came.asks same) reads.most;
   }
 
-  pub asks_to_verify : HasCost (node_of (device s.flash.now)) roots s.reads.n t.reads.n → AsksToVerify (device s.flash.now) roots (device t.flash.now)
-  asks_to_verify cost = record {
-    blocks = cost.blocks;
-    are = cost.are;
-    most = paged (device s.flash.now).operations (device t.flash.now).operations s.reads.n t.reads.n (most_reads (node_of (device s.flash.now)) cost.blocks) (device s.flash.now).geometry.pages (came.asks same) cost.most;
-  }
+-- the cost of a verification, in pages
+pub asks_to_verify : (old new : Device) (roots : List ℕ) → HasCost (all_pages old.geometry.page (block_bytes old.geometry)) (node_of old) roots old.operations new.operations → AsksToVerify old roots new
+asks_to_verify old new roots cost = record { blocks = cost.blocks; are = cost.are; most = cost.most }

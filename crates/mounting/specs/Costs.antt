@@ -1,13 +1,15 @@
 -- What marking, verifying and formatting ask of the device.
 use Rattle.std.specs.Prelude.{◌≡◌, ◌⊎◌, ℕ, ◌+◌, ◌*◌, ◌<◌, ◌≤◌, false, List, length}
 use Rattle.std.specs.FinSet as set
+use Rattle.std.specs.List.{sum_by}
 use Rattle.std.specs.Ordering.{nat_cmp}
 use Rattle.fs_types.specs.declared.limits.TheConstants.{ANCHORS}
 use Rattle.flash_model.specs.Device.{Device}
+use Rattle.flash_model.specs.Geometry.{block_bytes}
 use Rattle.node_store.specs.NodePages.{node_of}
 use Rattle.block_trees.specs.Bodies.{Blocks}
 use Rattle.reclaim.specs.Passes.{AreReached}
-use Rattle.reclaim.specs.Verified.{most_reads}
+use Rattle.reclaim.specs.Verified.{all_pages}
 use Rattle.commit_pair.specs.Parts.{parts_on, newest_at, pages_of}
 
 -- so many reads came, each of another block that the roots reach
@@ -22,12 +24,16 @@ pub record AsksEach (old : Device) (roots : List ℕ) (new : Device) : Type 0 wh
   pub are : AreReached (node_of old) roots blocks
   pub most : new.operations ≤ old.operations + length blocks * old.geometry.pages
 
--- the device was asked for the pages of a block for each read of a verification of these roots at most: those of some blocks
--- that they reach, none twice, and of what their nodes name
+-- the most pages of a verification for these blocks: each of their nodes' own once, and one first page for each pointer of a
+-- body's node but the last and for the node after a directory's; and a block's pages for each read of the depths
+abbrev pub verify_pages : Device → List ℕ → ℕ
+verify_pages d blocks = sum_by (λ b. all_pages d.geometry.page (block_bytes d.geometry) (node_of d b)) blocks
+
+-- a verification of these roots asked the device for no more: the blocks are some that they reach, none twice
 pub record AsksToVerify (old : Device) (roots : List ℕ) (new : Device) : Type 0 where
   pub blocks : List ℕ
   pub are : AreReached (node_of old) roots blocks
-  pub most : new.operations ≤ old.operations + most_reads (node_of old) blocks * old.geometry.pages
+  pub most : new.operations ≤ old.operations + verify_pages old blocks
 
 -- how many pages the newest record has
 abbrev pub record_pages : Device → ℕ

@@ -8,7 +8,7 @@ ghost use Rattle.node_store.specs.NodePages.{node_of};
 ghost use Rattle.node_store.specs.Storage as parts;
 ghost use Rattle.node_store.specs.Stores.{IsSoundStore, Follows};
 ghost use Rattle.block_trees.specs.Reached.{Reached};
-ghost use Rattle.reclaim.specs.Verified.{AreRoots, HasCost};
+ghost use Rattle.reclaim.specs.Verified.{AreRoots, HasCost, all_reads};
 ghost use Rattle.space_counts.specs.FirstRoots.{AreFirstRoots};
 ghost use Rattle.working_state.specs.Leaves.{HasLooked};
 ghost use Rattle.working_state.specs.Seen.{seen_of};
@@ -42,7 +42,7 @@ fn reached_in<F: Flash>(
 
     // By reads alone, and how many.
     ensures looked { HasLooked (F.device store.old.flash.now) store.old.storage.now (F.device store.new.flash.now) store.new.storage.now }
-    ensures reads { HasCost (node_of (F.device store.old.flash.now)) roots.now store.old.reads.n store.new.reads.n }
+    ensures reads { HasCost all_reads (node_of (F.device store.old.flash.now)) roots.now store.old.reads.n store.new.reads.n }
     ensures asks { AsksToVerify (F.device store.old.flash.now) roots.now (F.device store.new.flash.now) }
     ensures why { IfErr result (RootsCause plain (F.device store.old.flash.now) roots.now (F.device store.new.flash.now)) }
 {

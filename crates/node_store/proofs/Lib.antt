@@ -2,3 +2,4 @@ pub mod Attempts
 pub mod Padding
 pub mod PartBytes
 pub mod PartFaults
+pub mod Examined

@@ -20,7 +20,7 @@ use Rattle.node_store.specs.declared.store.Store.{Store}
 use Rattle.node_store.proofs.PartBytes.{part_of_first}
 
 -- fewer bytes need no more pages
-fewer_pages : (page less more : ℕ) → 0 < page → less ≤ more → pages_for page less ≤ pages_for page more
+pub fewer_pages : (page less more : ℕ) → 0 < page → less ≤ more → pages_for page less ≤ pages_for page more
 fewer_pages page less more some h =
     let low = div_ceil_times less page some in
     let high = div_ceil_times more page some in

@@ -19,3 +19,5 @@ pub mod NewNodes
 pub mod Stores
 pub mod StoreLaws
 pub mod NodeLaws
+pub mod Examining
+pub mod ExaminingLaws

@@ -2,16 +2,21 @@
 #![tactic(auto)]
 
 mod cached_reads;
+mod examinations;
+mod examines;
 mod fronts;
 mod new_nodes;
 mod node_parts;
 mod node_reads;
 mod node_writes;
 mod nodes;
+mod peeks;
 mod storage;
 mod store;
 
-pub use new_nodes::write_node;
+pub use examines::Examines;
+pub use new_nodes::{list_block, write_node};
 pub use nodes::{Nodes, brings};
+pub use peeks::Peeks;
 pub use storage::Storage;
 pub use store::Store;

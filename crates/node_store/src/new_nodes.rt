@@ -41,7 +41,7 @@ fn take_block(ring: &mut Ring, bad: &BadBlocks, block: u32)
 
 /// Puts a block into the bad list, which has room for it. Refused with `ReadOnly` where the list is
 /// then at its limit.
-fn list_block(bad: &mut BadBlocks, block: u32) -> Result<(), Fault>
+pub fn list_block(bad: &mut BadBlocks, block: u32) -> Result<(), Fault>
     requires good { set.contains bad.old block ≡ false }
     requires room { set.len bad.old < MAX_BAD_BLOCKS }
     ensures listed { bad.new ≡ set.insert bad.old block }

@@ -63,7 +63,7 @@ fn read_pages<F: Flash>(
 
 /// Fills a slice with the bytes of the node of a block from an offset on: each page that holds them is
 /// read once.
-fn read_part<F: Flash>(
+pub fn read_part<F: Flash>(
     flash: &mut F,
     block: u32,
     offset: u32,
@@ -91,7 +91,7 @@ fn read_part<F: Flash>(
 }
 
 /// Fills a slice with the bytes of a node from an offset on, where it has so many.
-fn copy_part(node: &[u8], offset: u32, out: &mut [u8])
+pub fn copy_part(node: &[u8], offset: u32, out: &mut [u8])
     ensures { HasPart (Some node.now) offset (length out.old) out.new }
 {
     let from = offset as usize;

@@ -1,6 +1,7 @@
 //! Reading the node of a block: its pages, one at a time, joined in memory of its own.
 ghost use Rattle.std.specs.Prelude.{◌≡◌, ℕ, ◌+◌, ◌-◌, ◌≤◌, ◌<◌, ◌++◌, List, [], length, min, take, Some, Err, OnOk, IfOk, IfErr, vec_len, vec_capacity};
-ghost use Rattle.flash_model.specs.Geometry.{IsGeometry, page_count};
+ghost use Rattle.flash_model.specs.Geometry.{IsGeometry, block_bytes, page_count};
+ghost use Rattle.node_format.specs.Headers.{node_size};
 ghost use Rattle.flash_model.specs.Reading.{OnlyReads};
 ghost use Rattle.node_store.specs.Caching.{BringsOrWants};
 ghost use Rattle.node_store.specs.Fronts.{first_page};
@@ -92,6 +93,57 @@ fn read_sized<F: Flash>(
     Ok(())
 }
 
+/// Reads the first page of the node of a block, which tells its size.
+pub fn read_size<F: Flash>(flash: &mut F, block: u32, page: &mut Vec<u8>) -> Result<u32, Fault>
+    requires lawful { IsGeometry (F.device flash.old).geometry }
+    requires whole { vec_len page.old ≡ (F.device flash.old).geometry.page }
+
+    // The page and the size, or why there is none.
+    ensures begins { OnOk result (first_page (F.device flash.new) block ≡ Some page.new.items) }
+    ensures size { IfOk result (λ size. node_size (block_bytes (F.device flash.new).geometry) page.new.items ≡ Some size) }
+    ensures refuses { IfErr result (λ fault. Brings (F.device flash.old) (F.device flash.new) (node_of (F.device flash.old) block) [] (Err fault)) }
+
+    // One page is read.
+    ensures only_reads { OnlyReads (F.device flash.old) (F.device flash.new) }
+    ensures page { vec_len page.new ≡ vec_len page.old }
+    ensures operations { (F.device flash.new).operations ≤ (F.device flash.old).operations + 1 }
+{
+    let geometry = flash.geometry();
+    read_first_page(flash, block, page)?;
+    let Some(size) = node_size(geometry.block_bytes() as u32, page) else {
+        return Err(Fault::Damaged);
+    };
+    Ok(size)
+}
+
+/// Reads the rest of the node of a block, whose first page tells this size, into memory of its own.
+pub fn finish_node<F: Flash>(
+    flash: &mut F,
+    block: u32,
+    size: u32,
+    page: &mut Vec<u8>,
+    alloc: Global,
+) -> Result<Vec<u8>, Fault>
+    requires lawful { IsGeometry (F.device flash.old).geometry }
+    requires whole { vec_len page.old ≡ (F.device flash.old).geometry.page }
+    requires begun { first_page (F.device flash.old) block ≡ Some page.old.items }
+    requires size { node_size (block_bytes (F.device flash.old).geometry) page.old.items ≡ Some size }
+
+    // The node, or why there is none.
+    ensures brings { IfOk result (λ node. (node_of (F.device flash.old) block ≡ Some node.items) × (length node.items ≡ size)) }
+    ensures refuses { IfErr result (λ fault. (shown : List ℕ) → BringsOrWants (F.device flash.old) (F.device flash.new) (node_of (F.device flash.old) block) shown (Err fault)) }
+
+    // Each other page is read once at most.
+    ensures only_reads { OnlyReads (F.device flash.old) (F.device flash.new) }
+    ensures page { vec_len page.new ≡ vec_len page.old }
+    ensures operations { (F.device flash.new).operations ≤ (F.device flash.old).operations + (pages_for (F.device flash.old).geometry.page size - 1) }
+{
+    let first = flash.geometry().page_number(block, 0);
+    let mut node = Vec::with_capacity(alloc, size as usize)?;
+    read_sized(flash, first, size, page, &mut node)?;
+    Ok(node)
+}
+
 /// Reads the node of a block into memory of its own: each of its pages once.
 pub fn read_node<F: Flash>(
     flash: &mut F,
@@ -112,12 +164,6 @@ pub fn read_node<F: Flash>(
     ensures operations { IfOk result (λ node. (F.device flash.new).operations ≤ (F.device flash.old).operations + pages_for (F.device flash.old).geometry.page (length node.items)) }
     ensures most { (F.device flash.new).operations ≤ (F.device flash.old).operations + (F.device flash.old).geometry.pages }
 {
-    let geometry = flash.geometry();
-    read_first_page(flash, block, page)?;
-    let Some(size) = node_size(geometry.block_bytes() as u32, page) else {
-        return Err(Fault::Damaged);
-    };
-    let mut node = Vec::with_capacity(alloc, size as usize)?;
-    read_sized(flash, geometry.page_number(block, 0), size, page, &mut node)?;
-    Ok(node)
+    let size = read_size(flash, block, page)?;
+    finish_node(flash, block, size, page, alloc)
 }

@@ -145,8 +145,8 @@ pub trait Nodes {
         ensures asks { partly self.old ≢ block → asked self.new ≤ asked self.old + pages_of_range (page self.old) offset (length out.old) }
         ensures asks_most { asked self.new ≤ asked self.old + pages_for (page self.old) (limit self.old) };
 
-    /// Takes a node out of memory whose successor is written next. Nothing may be lent then, and no
-    /// block changes.
+    /// Takes a node out of memory that is not read again soon, as one whose successor is written next.
+    /// Nothing may be lent then, and no block changes.
     fn supersede(&mut self, block: u32)
         requires { is_sound self.old }
         ensures looks { OnlyLooks node kept writes follows is_sound limit blocks self.old self.new }

@@ -1,3 +1,4 @@
+pub mod Cleaning
 pub mod Pages
 pub mod Ending
 pub mod Sectors

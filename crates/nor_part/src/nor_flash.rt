@@ -1,12 +1,13 @@
 //! A flash over a serial NOR part.
 ghost use Rattle.std.specs.Prelude.{◌≡◌, vec_len};
 ghost use Rattle.flash_model.specs.Geometry.{IsGeometry};
+ghost use Rattle.nor_part.specs.Cleaned.{AreClean};
 ghost use Rattle.nor_part.specs.Layout.{part_sizes, blocks_of};
 
 use crate::memory_nor::{MemoryNor, Trouble};
 use crate::nor::Nor;
 use crate::paging::{erase_block, read_page, write_page};
-use crate::sizes::{sizes, wear};
+use crate::sizes::{note, sizes, wear};
 use counts::Count;
 use flash_model::{DevFault, Flash, Geometry, PageState};
 use fs_types::Fault;
@@ -14,18 +15,25 @@ use std::alloc::Global;
 
 /// A flash over a serial NOR part: pages of 256 bytes, 16 in a block of two sectors, the first for
 /// data and the second for marks.
+///
+/// The erase of a block that it erased itself, as was answered, and that was not programmed since is
+/// answered at once: both its sectors are blank. It asks a byte a block for that.
 #[derive(Drop)]
 pub struct NorFlash<P: Nor> {
     part: P,
     blocks: u32,
     powered: bool,
     worn: Vec<bool>,
+    // Which blocks were erased here, as was answered, and not programmed since.
+    cleaned: Vec<bool>,
     failures: Count,
     cuts: Count,
     operations: Count,
     ghost lawful: { IsGeometry (part_sizes blocks) },
     ghost all_blocks: { vec_len worn ≡ blocks },
     ghost all_pages: { blocks_of (P.count part) ≡ blocks },
+    ghost all_noted: { vec_len cleaned ≡ blocks },
+    ghost all_clean: { AreClean (P.held part) cleaned.items },
 }
 
 impl<P: Nor + Drop> NorFlash<P> {
@@ -54,6 +62,7 @@ impl<P: Nor + Drop> NorFlash<P> {
             blocks,
             powered: true,
             worn: vec![in alloc; false; blocks as usize]?,
+            cleaned: vec![in alloc; false; blocks as usize]?,
             failures: Count::zero(),
             cuts: Count::zero(),
             operations: Count::zero(),
@@ -81,6 +90,7 @@ impl<P: Nor + Drop> NorFlash<P> {
         ensures on { OnOk result ((nor_device self.old).powered ≡ true) }
         ensures begun { OnOk result (nor_device self.new ≡ record (nor_device self.old) { operations = (nor_device self.old).operations + 1 }) }
         ensures part { nor_of self.new ≡ nor_of self.old }
+        ensures cleaned { self.new.cleaned ≡ self.old.cleaned }
         ensures err { IfErr result (λ fault. fault ≡ DevFault.PowerCut) }
         ensures off { OnErr result ((nor_device self.old).powered ≡ false) }
         ensures same { OnErr result (self.new ≡ self.old) }
@@ -98,6 +108,7 @@ impl<P: Nor + Drop> NorFlash<P> {
         requires in_range { block < (nor_device self.old).geometry.blocks }
         requires on { (nor_device self.old).powered ≡ true }
         ensures same { result ≡ done }
+        ensures cleaned { self.new.cleaned ≡ self.old.cleaned }
         ensures ends { LeavesBeside (nor_device self.old) block (nor_device self.new) done }
     {
         match done {
@@ -136,7 +147,9 @@ impl NorFlash<MemoryNor> {
 }
 
 impl<P: Nor + Drop> Flash for NorFlash<P> {
-    ghost use Rattle.nor_part.specs.Flashes.{nor_device};
+    ghost use Rattle.std.specs.Prelude.{◌≡◌, ◌<◌, true, false, slice_index_or, OnOk};
+    ghost use Rattle.flash_model.specs.Device.{Erases};
+    ghost use Rattle.nor_part.specs.Flashes.{nor_device, nor_of};
     ghost use Rattle.nor_part.specs.WholePages.{whole_part_pages_of};
 
     ghost device = { nor_device };
@@ -154,13 +167,25 @@ impl<P: Nor + Drop> Flash for NorFlash<P> {
 
     fn program(&mut self, page: u32, bytes: &[u8]) -> Result<(), DevFault> {
         self.begin()?;
+        note(&mut self.cleaned, (page / 16) as usize, false);
         let done = write_page(&mut self.part, page as usize, bytes);
         self.end(page / 16, done)
     }
 
-    fn erase(&mut self, block: u32) -> Result<(), DevFault> {
+    fn erase(&mut self, block: u32) -> Result<(), DevFault>
+        requires { block < (nor_device self.old).geometry.blocks }
+        ensures erases { Erases (nor_device self.old) block (nor_device self.new) result }
+
+        // The part is not asked where the block is known to be clean, and it is once it was erased.
+        ensures at_once { slice_index_or self.old.cleaned.items block false ≡ true → nor_of self.new ≡ nor_of self.old }
+        ensures known { OnOk result (slice_index_or self.new.cleaned.items block false ≡ true) }
+    {
         self.begin()?;
+        if self.cleaned[block as usize] {
+            return Ok(());
+        }
         let done = erase_block(&mut self.part, block as usize);
+        note(&mut self.cleaned, block as usize, done.is_ok());
         self.end(block, done)
     }
 

@@ -2,4 +2,6 @@
 #![tactic(auto)]
 
 #[cfg(test)]
+mod cleaned;
+#[cfg(test)]
 mod sessions;

@@ -1,12 +1,12 @@
 //! The open files, by their numbers.
-ghost use Rattle.std.specs.Prelude.{◌≡◌, ℕ, ◌<◌, Bool, List, Some, None, is_none, false, slice_set};
+ghost use Rattle.std.specs.Prelude.{◌≡◌, ℕ, ◌<◌, Bool, List, [], ◌∷◌, ◌++◌, Some, None, is_none, false, slice_set};
 ghost use Rattle.std.specs.Option.{option_copied, option_map, option_map_or};
 ghost use Rattle.fs_types.specs.Names.{same_path};
 ghost use Rattle.plain_trees.specs.Contents.{begins};
 ghost use Rattle.history_machine.specs.Descriptors as descriptors;
 
-use fs_types::{MAX_OPEN_FILES, OpenFlags, Path};
-use plain_trees::is_beginning;
+use fs_types::{MAX_OPEN_FILES, Name, OpenFlags, Path};
+use plain_trees::{is_beginning, is_path_in};
 use std::marker::Model;
 
 /// An open file: its path, and how it was opened.
@@ -122,6 +122,13 @@ impl OpenFiles {
         any_at(&self.places, path)
     }
 
+    /// Whether the file of a name in a directory is open.
+    pub fn is_open_in(&self, directory: &Path, name: &Name) -> bool
+        ensures { result ≡ descriptors.is_open self.now (directory.now ++ name.now ∷ []) }
+    {
+        any_in(&self.places, directory, name)
+    }
+
     /// Whether a file at a path or below it is open.
     pub fn is_open_within(&self, path: &Path) -> bool
         ensures { result ≡ descriptors.is_open_within self.now path.now }
@@ -170,6 +177,21 @@ fn is_at(place: &Option<OpenFile>, path: &Path) -> bool
 {
     match place {
         Some(file) => path == file.path(),
+        None => false,
+    }
+}
+
+fn any_in(places: &[Option<OpenFile>], directory: &Path, name: &Name) -> bool
+    ensures { result ≡ descriptors.is_open places.now (directory.now ++ name.now ∷ []) }
+{
+    places.iter().any(|place| is_in(place, directory, name))
+}
+
+fn is_in(place: &Option<OpenFile>, directory: &Path, name: &Name) -> bool
+    ensures { result ≡ option_map_or (λ d. same_path (directory.now ++ name.now ∷ []) d.path) place.now false }
+{
+    match place {
+        Some(file) => is_path_in(directory.names(), name, file.path().names()),
         None => false,
     }
 }

@@ -152,6 +152,12 @@ pub const MEASURES: &[Measure] = &[
         nodes: 3,
     },
     Measure {
+        name: "write_files of two, 1,000 bytes, depth 2",
+        before: &["mkdir /a"],
+        call: "many 2",
+        nodes: 4,
+    },
+    Measure {
         name: "pwrite of 2 bytes, second of three nodes",
         before: FILE_OF_THREE_NODES,
         call: "pwrite 0 5000 4142",

@@ -57,6 +57,10 @@ const FULL_DIRECTORIES: &[&str] = &["broad 1000"];
 
 const FULL_DIRECTORIES_TOLD: &[&str] = &["broad 1000", "cold", "entries /b - 1000"];
 
+const EMPTY_DIRECTORY: &[&str] = &["mkdir /a", "mkdir /a/a", "begin"];
+
+const EMPTY_DIRECTORY_FILLED: &[&str] = &["mkdir /a", "mkdir /a/a", "begin", "lots 1000"];
+
 /// The calls.
 pub const SERIES: &[Series] = &[
     Series {
@@ -146,6 +150,13 @@ pub const SERIES: &[Series] = &[
         before: FILE_FORGOTTEN,
         after: PIECES_READ,
         calls: 64,
+    },
+    Series {
+        name: "1,000 files of 20,000 bytes",
+        sizes: MANY_BLOCKS,
+        before: EMPTY_DIRECTORY,
+        after: EMPTY_DIRECTORY_FILLED,
+        calls: 1_000,
     },
     Series {
         name: "entries of 1,000 directories",

@@ -1,7 +1,8 @@
 //! Calls from short texts, carried out on a flash that was formatted.
 use crate::error::MeasureError;
 use flash_model::{Counters, Geometry, SimFlash};
-use fs_types::{Call, Path, Sequence};
+use fs_types::{Call, Event, Name, NamedFile, Path, Sequence};
+use put_lots::{Thing, events_of, take_in};
 use script::{Line, read_line};
 use std::alloc::{AllocError, Global};
 use undofs::{Fs, format};
@@ -44,12 +45,13 @@ pub fn formatted(alloc: Global, sizes: Geometry, history: u32) -> Result<SimFlas
 /// flash since it was made.
 ///
 /// A line is one of a script, or `fill N`, which writes N bytes at the start of descriptor 0, `whole N`,
-/// which writes a whole file `/a/f` of N bytes, `deep N`, which makes N directories `a`, each in the one
-/// before, `wide N`, which makes N directories in the root, named by numbers from 1000 on, `flat N`, which
-/// writes N files without bytes there, `broad N`, which makes N directories of 100 files in `/b`, `scatter N`,
-/// which writes a byte at each of the places 8,192 and 16,384 further on N times of descriptor 0, `scan N`,
-/// which reads 1 MiB of descriptor 0 in pieces of N bytes, `gather N`, which reads N bytes at each of 64
-/// places of it, or `cold`, which forgets the nodes in memory.
+/// which writes a whole file `/a/f` of N bytes, `many N`, which writes N files of 1,000 bytes in `/a` in
+/// one call, `lots N`, which writes N files of 20,000 bytes in `/a/a` in lots as a put does, `deep N`, which
+/// makes N directories `a`, each in the one before, `wide N`, which makes N directories in the root, named
+/// by numbers from 1000 on, `flat N`, which writes N files without bytes there, `broad N`, which makes N
+/// directories of 100 files in `/b`, `scatter N`, which writes a byte at each of the places 8,192 and 16,384
+/// further on N times of descriptor 0, `scan N`, which reads 1 MiB of descriptor 0 in pieces of N bytes,
+/// `gather N`, which reads N bytes at each of 64 places of it, or `cold`, which forgets the nodes in memory.
 pub fn counts_after(
     alloc: Global,
     flash: &mut SimFlash,
@@ -93,6 +95,9 @@ fn carry_out(
     if let Some(count) = number_after(line, "broad ") {
         return make_full_directories(alloc, system, count);
     }
+    if let Some(count) = number_after(line, "lots ") {
+        return write_lots(alloc, system, count);
+    }
     if let Some(count) = number_after(line, "scatter ") {
         return write_places(alloc, system, count);
     }
@@ -124,6 +129,9 @@ fn call_of(alloc: Global, line: &str, number: usize) -> Result<Call, MeasureErro
     if let Some(count) = number_after(line, "whole ") {
         return whole(alloc, count);
     }
+    if let Some(count) = number_after(line, "many ") {
+        return many(alloc, count);
+    }
     call_of_script(alloc, line, number)
 }
 
@@ -150,6 +158,23 @@ fn whole(alloc: Global, count: usize) -> Result<Call, MeasureError> {
     Ok(Call::WriteFile {
         path: Path::parse(alloc, b"/a/f")?,
         bytes: Sequence::from_vec(bytes),
+    })
+}
+
+/// Writes so many files of 1,000 bytes in `/a` in one call, named by numbers from 1000 on.
+fn many(alloc: Global, count: usize) -> Result<Call, MeasureError> {
+    let mut files = Sequence::new(alloc);
+    for number in 1_000..count.saturating_add(1_000) {
+        let name = format!(in alloc; "{number}")?;
+        let bytes = vec![in alloc; b'A'; 1_000]?;
+        files.push(NamedFile {
+            name: Name::parse(alloc, name.as_bytes())?,
+            bytes: Sequence::from_vec(bytes),
+        })?;
+    }
+    Ok(Call::WriteFiles {
+        directory: Path::parse(alloc, b"/a")?,
+        files,
     })
 }
 
@@ -194,6 +219,44 @@ fn write_siblings(
             bytes: Sequence::new(alloc),
         };
         ask(alloc, system, &call)?;
+    }
+    Ok(())
+}
+
+/// Writes so many files of 20,000 bytes in `/a/a` in lots, named by numbers from 1000 on.
+fn write_lots(
+    alloc: Global,
+    system: &mut Fs<'_, SimFlash>,
+    count: usize,
+) -> Result<(), MeasureError> {
+    let mut last = None;
+    for number in 1_000..count.saturating_add(1_000) {
+        let path = format!(in alloc; "/a/a/{number}")?;
+        let bytes = vec![in alloc; b'A'; 20_000]?;
+        let file = Thing::File(
+            Path::parse(alloc, path.as_bytes())?,
+            Sequence::from_vec(bytes),
+        );
+        let taken = take_in(alloc, last, file)?;
+        put(alloc, system, taken.ready)?;
+        last = Some(taken.last);
+    }
+    put(alloc, system, last)
+}
+
+/// Carries out the events that put a thing, if there is one.
+fn put(
+    alloc: Global,
+    system: &mut Fs<'_, SimFlash>,
+    thing: Option<Thing>,
+) -> Result<(), MeasureError> {
+    let Some(thing) = thing else {
+        return Ok(());
+    };
+    for event in events_of(alloc, thing)? {
+        if let Event::Call(call) = event {
+            ask(alloc, system, &call)?;
+        }
     }
     Ok(())
 }

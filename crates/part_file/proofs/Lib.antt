@@ -6,3 +6,5 @@ pub mod PagesRead
 pub mod Keeping
 pub mod BlankParts
 pub mod Putting
+pub mod Faults
+pub mod RoundTrips

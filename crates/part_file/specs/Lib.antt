@@ -2,3 +2,4 @@ pub mod Layout
 pub mod Pages
 pub mod Flashes
 pub mod Parts
+pub mod Reading

@@ -6,6 +6,7 @@ use Rattle.flash_model.specs.declared.flash.PageState.TheVariants.{Erased, Data,
 use Rattle.flash_model.specs.Geometry.{page_count}
 use Rattle.flash_model.specs.Device.{Device, Page, erased, bytes_of, unreadable}
 use Rattle.host_files.specs.Steps.{overwritten}
+use Rattle.part_file.specs.declared.part_file.PartFault.{PartFault}
 use Rattle.part_file.specs.Layout.{IsHead, state_place, data_place, part_length}
 
 -- the byte of a state
@@ -29,6 +30,20 @@ abbrev pub page_put : Geometry → ℕ → Page → List ℕ → List ℕ
 page_put g p erased bytes = bytes
 page_put g p (bytes_of content) bytes = overwritten (state_place p) (1 ∷ []) (overwritten (data_place g p) content bytes)
 page_put g p unreadable bytes = overwritten (state_place p) (2 ∷ []) bytes
+
+-- why a part is not opened: its head cannot be read, begins with another word, or has sizes that are not lawful
+abbrev pub IsHeadFault : PartFault → Type 0
+IsHeadFault PartFault.Read = Unit {0}
+IsHeadFault PartFault.NotPart = Unit {0}
+IsHeadFault PartFault.BadGeometry = Unit {0}
+IsHeadFault _ = ⊥
+
+-- why the pages of a part are not read: one of them cannot be, or has a state that is none; or for want of memory
+abbrev pub IsUnreadPart : Geometry → PartFault → Type 0
+IsUnreadPart g (PartFault.Page page) = page < page_count g
+IsUnreadPart g PartFault.BadState = Unit {0}
+IsUnreadPart g PartFault.Memory = Unit {0}
+IsUnreadPart g _ = ⊥
 
 -- each page stands there, and the bytes go up to the end of the last one
 pub record HasPages (d : Device) (bytes : List ℕ) : Type 0 where

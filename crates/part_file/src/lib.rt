@@ -6,13 +6,15 @@
 #![tactic(auto)]
 
 mod file_driver;
+mod laws;
 mod part_file;
 mod part_flash;
 mod places;
 mod reading;
 mod spelling;
 
+pub use laws::round_trip_law;
 pub use part_file::{PartFault, PartFile};
 pub use part_flash::PartFlash;
-pub use reading::read_part;
+pub use reading::{flash_of_part, read_part};
 pub use spelling::spelled_part;

@@ -150,7 +150,8 @@ impl<B: Backing> PartFile<B> {
 }
 
 impl<B: Backing + Drop> PartFile<B> {
-    ghost use Rattle.std.specs.Prelude.{◌≡◌, ◌≢◌, codes, Err, IfOk, IfSome, take};
+    ghost use Rattle.std.specs.Prelude.{◌≡◌, ◌≢◌, codes, Err, IfOk, IfErr, IfSome, take};
+    ghost use Rattle.part_file.specs.Pages.{IsHeadFault};
     ghost use Rattle.flash_model.specs.Geometry.{IsGeometry};
     ghost use Rattle.part_file.specs.Layout as spec;
     ghost use Rattle.part_file.specs.Parts.{sizes_of, backing_of};
@@ -160,6 +161,7 @@ impl<B: Backing + Drop> PartFile<B> {
         ensures head { IfOk result (λ part. IfSome (B.held backing) (λ bytes. spec.IsHead (take 20 bytes) (sizes_of part))) }
         ensures steps { IfOk result (λ part. B.steps (backing_of part) ≡ B.steps backing) }
         ensures same { IfOk result (λ part. B.held (backing_of part) ≡ B.held backing) }
+        ensures fault { IfErr result IsHeadFault }
         ensures other_magic { (result ≡ Err PartFault.NotPart) → IfSome (B.held backing) (λ bytes. take 8 (take 20 bytes) ≢ codes "UFFSPART") }
         ensures other_sizes { (result ≡ Err PartFault.BadGeometry) → IfSome (B.held backing) (λ bytes. ¬ IsGeometry (spec.sizes_in (take 20 bytes))) }
     {

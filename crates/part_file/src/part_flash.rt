@@ -24,10 +24,11 @@ pub struct PartFlash<B> {
 }
 
 impl<B: Backing + Drop> PartFlash<B> {
-    ghost use Rattle.std.specs.Prelude.{◌≡◌, ℕ, IfOk, IfSome, false};
+    ghost use Rattle.std.specs.Prelude.{◌≡◌, ℕ, IfOk, IfErr, IfSome, false};
     ghost use Rattle.flash_image.specs.Images.{IsFresh};
     ghost use Rattle.part_file.specs.Flashes.{part_device, driver_of, is_lost, backing_behind};
     ghost use Rattle.part_file.specs.Pages.{IsPart};
+    ghost use Rattle.part_file.specs.Reading.{IsPartFault};
 
     /// The flash of a part. Power is on, no block is worn, and nothing is written yet.
     pub fn start(alloc: Global, backing: B) -> Result<PartFlash<B>, PartFault>
@@ -37,6 +38,7 @@ impl<B: Backing + Drop> PartFlash<B> {
         ensures live { IfOk result (λ flash. is_lost (driver_of flash) ≡ false) }
         ensures same { IfOk result (λ flash. B.held (backing_behind flash) ≡ B.held backing) }
         ensures steps { IfOk result (λ flash. B.steps (backing_behind flash) ≡ B.steps backing) }
+        ensures err { IfErr result (λ fault. IfSome (B.held backing) (IsPartFault fault)) }
     {
         let mut part = PartFile::open(backing)?;
         let shown = read_part(alloc, &mut part)?;

@@ -4,6 +4,7 @@ use Rattle.fs_types.specs.declared.fault.Fault.{Fault}
 use Rattle.flash_model.specs.Device.{Device}
 use Rattle.flash_image.specs.Images.{IsFresh}
 use Rattle.part_file.specs.Pages.{IsPart}
+use Rattle.part_file.specs.Reading.{IsPartFault}
 use Rattle.script_runs.specs.Scripts.{EndsOnFlash, Streams, unplanned}
 use Rattle.script_runs.specs.declared.scripts.ScriptFault.{ScriptFault}
 use Rattle.told_sessions.specs.Sessions.{MakesReady, IsNotReady}
@@ -34,5 +35,5 @@ pub record IsUnmade (history : Option ℕ) (held : Option (List ℕ)) (fault : F
 abbrev pub SessionEnds : Option ℕ → Option (List ℕ) → Streams → Result (Unit {0}) SessionFault → Streams → Type 0
 SessionEnds history held before (Ok done) after = RunsReady history held before (Ok done) after
 SessionEnds history held before (Err (SessionFault.Script fault)) after = RunsReady history held before (Err fault) after
-SessionEnds history held before (Err (SessionFault.Start fault)) after = after ≡ before
+SessionEnds history held before (Err (SessionFault.Start fault)) after = IfSome held (IsPartFault fault) × (after ≡ before)
 SessionEnds history held before (Err (SessionFault.Format fault)) after = IsUnmade history held fault × (after ≡ before)

@@ -6,7 +6,7 @@ use std::io;
 use std::io::{ErrorKind, Read, Write};
 use std::test::Fail;
 
-const LINES: [(&str, &str); 76] = [
+const LINES: [(&str, &str); 81] = [
     (
         "open /f 7",
         "Call(Open { path: Path { names: [Name { bytes: [102] }] }, flags: OpenFlags(7) })",
@@ -148,7 +148,12 @@ const LINES: [(&str, &str); 76] = [
     ),
     ("log", "Call(Log)"),
     ("df", "Call(Df)"),
+    ("space", "Space"),
+    ("space 1", "Syntax"),
+    ("forgetfree 5", "ForgetFree(5)"),
+    ("forgetfree", "Syntax"),
     ("reclaim 5", "ReclaimStep(5)"),
+    ("clean 5", "CleanStep(5)"),
     ("restart", "Restart"),
     (
         "fault 1 program-fail",

@@ -1,5 +1,6 @@
 //! Jobs that words ask for, with ample memory.
 use jobs::{Job, Task, job};
+use std::alloc::Global;
 use std::test::Fail;
 
 #[test]
@@ -18,6 +19,7 @@ fn words_are_read_as_a_job(rt: HostRuntime) -> Result<(), Fail> {
         is_history_given: false,
         answers: None,
         orders: None,
+        part: None,
         refusal: None,
         count: 1,
         checkpoint: None,
@@ -73,5 +75,39 @@ fn the_streams_of_a_driver_are_as_given(rt: HostRuntime) -> Result<(), Fail> {
     assert_eq!(rt; asked.and_then(|job| job.orders), Some("orders"));
     assert_eq!(rt; asked.map(|job| job.is_history_given), Some(true));
     assert_eq!(rt; asked.map(|job| job.history), Some(16));
+    Ok(())
+}
+
+/// The task and the file of a part that words ask for, and whether they name an image.
+fn part_asked(alloc: Global, words: &[&str]) -> Result<Option<(Task, bool, bool)>, Fail> {
+    let mut all: Vec<String> = Vec::new(alloc);
+    for word in words {
+        all.push(String::from_str(alloc, word)?)?;
+    }
+    let asked = job(alloc, all.as_slice()).ok();
+    Ok(asked.map(|job| (
+        job.command,
+        job.part == Some("disk.part"),
+        job.image.is_some(),
+    )))
+}
+
+#[test]
+fn a_part_takes_the_place_of_an_image_or_of_a_driver(rt: HostRuntime) -> Result<(), Fail> {
+    let alloc = rt.alloc();
+    let made = part_asked(alloc, &["format", "--part", "disk.part"])?;
+    assert_eq!(rt; made, Some((Task::FormatPart, true, false)));
+    let served = part_asked(alloc, &["serve", "--part=disk.part"])?;
+    assert_eq!(rt; served, Some((Task::ServePart, true, false)));
+    assert_eq!(rt; part_asked(alloc, &["format"])?, None);
+    assert_eq!(rt;
+        part_asked(alloc, &["format", "x", "--part", "disk.part"])?,
+        None
+    );
+    assert_eq!(rt; part_asked(alloc, &["serve", "answers"])?, None);
+    assert_eq!(rt;
+        part_asked(alloc, &["serve", "a", "o", "--part", "disk.part"])?,
+        None
+    );
     Ok(())
 }

@@ -1,3 +1,4 @@
 pub mod EntryLists
+pub mod NextFiles
 pub mod Restored
 pub mod Sums

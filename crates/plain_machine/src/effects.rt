@@ -1,6 +1,7 @@
 //! What calls leave that change something. Memory is taken first, so that nothing is changed without it.
 ghost use Rattle.std.specs.Prelude.{◌≡◌, ◌<◌, Bool, true, not, ◌==◌, ◌&&◌, length, [], Some, None, is_some, IfOk, IfErr, OnOk, OnErr};
 ghost use Rattle.plain_trees.specs.Contents.{Entry, overwritten, resized};
+ghost use Rattle.plain_trees.specs.Files.{file_put};
 ghost use Rattle.plain_trees.specs.Trees.{bare, put, remove};
 ghost use Rattle.history_machine.specs.Descriptors.{none_open, descriptor_at};
 ghost use Rattle.history_machine.specs.History.{checkpoint_root, checkpoint_refusal, with_checkpoint, due_root};
@@ -11,6 +12,7 @@ ghost use Rattle.plain_machine.specs.Plain.{machine_of_tree, ftruncates, file_of
 ghost use Rattle.history_machine.specs.Machine.{machine_with};
 
 use crate::groups::{begin, end, working_tree};
+use crate::many_files::{files_change, write_files};
 use crate::replies::bytes_at;
 use bitflags::Flags;
 use fs_types::{Bytes, Call, CpName, Fault, Group, OpenFlags, Path};
@@ -54,6 +56,10 @@ fn changes_tree(history: &History<Tree>, files: &OpenFiles, call: &Call) -> bool
             path,
             bytes.as_slice(),
         ),
+        Call::WriteFiles {
+            directory,
+            files: list,
+        } => files_change(history.root(), directory, list.as_slice()),
         Call::Rename { old, new } => old != new,
         Call::Unlink { .. } => true,
         Call::Mkdir { .. } => true,
@@ -98,7 +104,7 @@ fn ftruncate_changes(tree: &Tree, files: &OpenFiles, descriptor: u64, length: u6
 
 /// The tree with these bytes in the file at a path.
 fn with_file(tree: &Tree, path: &Path, bytes: Vec<u8>) -> Result<Tree, AllocError>
-    ensures { IfOk result (λ next. next ≡ machine.file_put tree.now path.now bytes.items) }
+    ensures { IfOk result (λ next. next ≡ file_put tree.now path.now bytes.items) }
 {
     let mut next = tree.clone()?;
     next.put(path.clone()?, Node::file(bytes))?;
@@ -152,6 +158,10 @@ pub fn tree_after(
             set_length(alloc, tree, files, *descriptor, *length)
         }
         Call::WriteFile { path, bytes } => write_file(alloc, tree, path, bytes.as_slice()),
+        Call::WriteFiles {
+            directory,
+            files: list,
+        } => write_files(alloc, tree, directory, list.as_slice()),
         Call::Rename { old, new } => move_path(alloc, tree, files, old, new),
         Call::Unlink { path } => Ok(Some(remove_path(tree, path)?)),
         Call::Mkdir { path } => Ok(Some(with_directory(tree, path)?)),

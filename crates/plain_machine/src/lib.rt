@@ -5,6 +5,7 @@ mod effects;
 mod entries;
 mod groups;
 mod machine;
+mod many_files;
 mod needs;
 mod parts;
 mod refusals;

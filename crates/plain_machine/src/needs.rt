@@ -7,6 +7,7 @@ ghost use Rattle.history_machine.specs.Machine.{machine_with};
 ghost use Rattle.fs_types.specs.declared.call.Call.{Call};
 
 use crate::groups::working_tree;
+use crate::many_files::changed_bodies;
 use crate::replies::bytes_at;
 use fs_types::{Call, Group, NODE_ENTRIES, Name, Path};
 use history::History;
@@ -58,7 +59,7 @@ fn pwrite_need(capacity: u64, size: u64, offset: u64, count: u64) -> u64
     nodes_from(capacity, offset.min(size), size.max(offset + count))
 }
 
-/// The nodes of a file's body that `ftruncate` writes: from no bytes on, those of a whole body.
+/// The nodes of a file's body that `ftruncate` writes.
 fn ftruncate_need(capacity: u64, size: u64, new: u64) -> u64
     requires { 0 < capacity }
     ensures { result ≡ min (contents.ftruncate_need capacity size new) u64.MAX }
@@ -68,6 +69,14 @@ fn ftruncate_need(capacity: u64, size: u64, new: u64) -> u64
     } else {
         0
     }
+}
+
+/// The nodes of the body of a file of so many bytes.
+pub fn body_need(capacity: u64, size: u64) -> u64
+    requires { 0 < capacity }
+    ensures { result ≡ min (contents.body_need capacity size) u64.MAX }
+{
+    ftruncate_need(capacity, 0, size)
 }
 
 /// How many nodes an accepted call may write that makes this tree, where a body node has room for so
@@ -92,8 +101,18 @@ pub fn change_need(
         Call::Unlink { path } => path_need(before, after, path),
         Call::Rmdir { path } => path_need(before, after, path),
         Call::WriteFile { path, bytes } => {
-            let body = ftruncate_need(capacity, 0, bytes.as_slice().len() as u64);
+            let body = body_need(capacity, bytes.as_slice().len() as u64);
             body.saturating_add(path_need(before, after, path))
+        }
+        Call::WriteFiles {
+            directory,
+            files: list,
+        } => {
+            let bodies = changed_bodies(before, capacity, directory, list.as_slice());
+            let way = path_need(before, after, directory);
+            bodies
+                .saturating_add(way)
+                .saturating_add(directory_need(before, after, directory.names()))
         }
         Call::Rename { old, new } => {
             path_need(before, after, old).saturating_add(path_need(before, after, new))

@@ -11,6 +11,7 @@ ghost use Rattle.plain_machine.specs.Plain.{machine_of_tree, machine_in, range_r
 ghost use Rattle.history_machine.specs.Machine.{machine_with};
 
 use crate::groups::{seen_tree, working_tree};
+use crate::many_files::write_files_refusal;
 use bitflags::Flags;
 use fs_types::{Bytes, Call, Fault, Group, MAX_FILE_BYTES, Name, OpenFlags, Path, View};
 use history::History;
@@ -39,6 +40,10 @@ pub fn refusal(
         } => pwrite_refusal(files, *descriptor, *offset, bytes),
         Call::Ftruncate { descriptor, length } => ftruncate_refusal(files, *descriptor, *length),
         Call::WriteFile { path, bytes } => write_file_refusal(tree, files, path, bytes.as_slice()),
+        Call::WriteFiles {
+            directory,
+            files: list,
+        } => write_files_refusal(tree, files, directory, list.as_slice()),
         Call::Rename { old, new } => rename_refusal(tree, files, old, new),
         Call::Unlink { path } => unlink_refusal(tree, files, path),
         Call::Mkdir { path } => mkdir_refusal(tree, path),
@@ -197,7 +202,7 @@ fn ftruncate_refusal(files: &OpenFiles, descriptor: u64, length: u64) -> Option<
 }
 
 fn write_file_refusal(tree: &Tree, files: &OpenFiles, path: &Path, bytes: &[u8]) -> Option<Fault>
-    ensures { result ≡ machine.write_file_refusal (machine_of_tree tree.now files.now) path.now bytes.now }
+    ensures { result ≡ machine.write_file_refusal tree.now files.now path.now bytes.now }
 {
     if let Some(fault) = tree.lookup_refusal(path.names()) {
         return Some(fault);
@@ -213,7 +218,7 @@ fn write_file_refusal(tree: &Tree, files: &OpenFiles, path: &Path, bytes: &[u8])
 
 /// A file that is not open may be replaced, and one that is missing made where there is room.
 fn write_place_refusal(tree: &Tree, files: &OpenFiles, path: &Path) -> Option<Fault>
-    ensures { result ≡ machine.write_place_refusal (machine_of_tree tree.now files.now) path.now (finmap.get tree.now path.now) }
+    ensures { result ≡ machine.write_place_refusal tree.now files.now path.now (finmap.get tree.now path.now) }
 {
     let Some(node) = tree.get(path.names()) else {
         return if tree.is_full(parent(path.names())) {

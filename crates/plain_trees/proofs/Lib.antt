@@ -3,8 +3,10 @@ pub mod Counts
 pub mod Edits
 pub mod FileTrees
 pub mod Files
+pub mod FilesPut
 pub mod Grafts
 pub mod Listings
 pub mod Lookups
 pub mod Needs
+pub mod PathsIn
 pub mod Shapes

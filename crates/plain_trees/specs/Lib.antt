@@ -1,3 +1,4 @@
 pub mod Contents
+pub mod Files
 pub mod Laws
 pub mod Trees

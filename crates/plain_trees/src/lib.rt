@@ -6,4 +6,4 @@ mod laws;
 mod paths;
 
 pub use laws::{edit_laws, file_laws, graft_laws, lookup_laws};
-pub use paths::{is_beginning, parent, rest_of};
+pub use paths::{is_beginning, is_path_in, parent, rest_of};

@@ -1,6 +1,7 @@
 //! Paths as lists of names: what is left of one after a beginning of it, and its directory.
-ghost use Rattle.std.specs.Prelude.{◌≡◌};
+ghost use Rattle.std.specs.Prelude.{◌≡◌, [], ◌∷◌, ◌++◌};
 ghost use Rattle.std.specs.Option.{option_map};
+ghost use Rattle.fs_types.specs.Names.{same_path};
 ghost use Rattle.plain_trees.specs.Contents.{beneath, begins, parent_of};
 
 use fs_types::Name;
@@ -35,5 +36,15 @@ pub fn parent(path: &[Name]) -> &[Name]
     match path.split_last() {
         Some((_, parent)) => parent,
         None => path,
+    }
+}
+
+/// Whether a path is that of a name in a directory.
+pub fn is_path_in(directory: &[Name], name: &Name, path: &[Name]) -> bool
+    ensures { result ≡ same_path (directory.now ++ name.now ∷ []) path.now }
+{
+    match path.split_last() {
+        Some((last, parent)) => parent == directory && last == name,
+        None => false,
     }
 }

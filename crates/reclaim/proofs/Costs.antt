@@ -9,7 +9,9 @@ use Rattle.std.proofs.lemmas.Bool.{true≢false}
 use Rattle.std.proofs.lemmas.List.{take_more}
 use Rattle.std.proofs.lemmas.List.Elements.{Contains-append_right}
 use Rattle.std.proofs.lemmas.List.Sums.{sum_by-cons, sum_by_push, sum_by-take-le}
+use Rattle.std.proofs.Math.Nat.{add-mul, mul-le-mul_right, zero-mul}
 use Rattle.node_format.specs.Items.{Item}
+use Rattle.node_store.specs.NodePages.{pages_for}
 use Rattle.node_format.specs.Links.{Link}
 use Rattle.node_format.specs.declared.place.Place.{Place}
 use Rattle.node_format.specs.declared.place.Place.TheVariants.{Dir}
@@ -20,10 +22,9 @@ use Rattle.block_trees.proofs.Chained.{among_chain}
 use Rattle.directory.specs.Depths.{HasDirectories, names_directory, is_directory_at, loud_of}
 use Rattle.directory.proofs.Counting.{filter_has}
 use Rattle.directory.proofs.Levels.{any_contains, directory_is}
-use Rattle.reclaim.specs.Looks.{look_reads}
 use Rattle.reclaim.specs.Sound.{HoldsLink, IsSoundNode, IsSoundPlace}
 use Rattle.reclaim.specs.Passes.{Pass, AreReached, HasRead, IsPass, Begins}
-use Rattle.reclaim.specs.Verified.{HasCost, HasLookedOnce, depth_reads, name_any_directory}
+use Rattle.reclaim.specs.Verified.{HasCost, depth_reads, name_any_directory, once_reads, once_pages, all_reads, all_pages}
 
 -- ---- sums
 
@@ -158,60 +159,94 @@ has_read f old p before after pass same begins most = record {
 
 -- ---- what verification costs
 
--- no reads
-pub none_read : (f : Blocks) (roots : List ℕ) (before : ℕ) → HasCost f roots before before
-none_read f roots before = record {
+-- nothing
+pub none_read : (cost : Option (List ℕ) → ℕ) (f : Blocks) (roots : List ℕ) (before : ℕ) → HasCost cost f roots before before
+none_read cost f roots before = record {
   blocks = [];
   are = record { distinct = λ i j less below same. omega arith; reached = λ b h. absurd (omega (arith, h.1)) };
   most = omega arith;
 }
 
--- no node was looked at
-pub none_looked : (f : Blocks) (roots : List ℕ) (before : ℕ) → HasLookedOnce f roots before before
-none_looked f roots before = record {
-  blocks = [];
-  are = record { distinct = λ i j less below same. omega arith; reached = λ b h. absurd (omega (arith, h.1)) };
-  most = omega arith;
-}
+module _ (cost : Option (List ℕ) → ℕ) (f : Blocks) where
+  -- so many of the marked blocks were looked at, and one more
+  pub looked_once : (p : Pass) (before after : ℕ) → IsPass f p → p.next < length p.order → after ≤ before + (sum_by (λ b. cost (f b)) (take p.next p.order) + cost (f (slice_index p.order p.next)))
+      → HasCost cost f p.roots before after
+  looked_once p before after pass left most = record {
+    blocks = p.order;
+    are = record { distinct = pass.distinct; reached = pass.reached };
+    most = omega (arith, most, sum_within (λ b. cost (f b)) p.order p.next left);
+  }
 
--- so many of the marked blocks were, and one more
-pub looked_once : (f : Blocks) (p : Pass) (before after : ℕ) → IsPass f p → p.next < length p.order → after ≤ before + (sum_by (λ b. 1 + look_reads (f b)) (take p.next p.order) + (1 + look_reads (f (slice_index p.order p.next))))
-    → HasLookedOnce f p.roots before after
-looked_once f p before after pass left most = record {
-  blocks = p.order;
-  are = record { distinct = pass.distinct; reached = pass.reached };
-  most = omega (arith, most, sum_within (λ b. 1 + look_reads (f b)) p.order p.next left);
-}
+  -- all were
+  pub looked_all : (p : Pass) (before after : ℕ) → IsPass f p → after ≤ before + sum_by (λ b. cost (f b)) (take p.next p.order) → HasCost cost f p.roots before after
+  looked_all p before after pass most = record {
+    blocks = p.order;
+    are = record { distinct = pass.distinct; reached = pass.reached };
+    most = omega (arith, most, sum_by-take-le (λ b. cost (f b)) p.order p.next);
+  }
 
--- all were
-pub looked_all : (f : Blocks) (p : Pass) (before after : ℕ) → IsPass f p → after ≤ before + sum_by (λ b. 1 + look_reads (f b)) (take p.next p.order) → HasLookedOnce f p.roots before after
-looked_all f p before after pass most = record {
-  blocks = p.order;
-  are = record { distinct = pass.distinct; reached = pass.reached };
-  most = omega (arith, most, sum_by-take-le (λ b. 1 + look_reads (f b)) p.order p.next);
-}
+  -- the marked blocks were looked at so far, and one more was
+  pub looked_one : (h : Blocks) (p : Pass) (roots : List ℕ) (block before mid after : ℕ) → h ≡ f → IsPass f p → p.roots ≡ roots → p.next < length p.order → block ≡ slice_index p.order p.next
+      → mid ≤ before + sum_by (λ b. cost (f b)) (take p.next p.order) → after ≤ mid + cost (h block) → HasCost cost f roots before after
+  looked_one h p roots block before mid after same pass own left at so_far one =
+      let here : after ≤ mid + cost (f (slice_index p.order p.next)) = subst (λ (k : ℕ). after ≤ mid + cost (f k)) at (subst (λ (g : Blocks). after ≤ mid + cost (g block)) same one) in
+      subst (λ (l : List ℕ). HasCost cost f l before after) own (looked_once p before after pass left (omega (arith, so_far, here)))
+
+-- of the same sizes
+pub pages_same : (page limit other size before after : ℕ) (node : Option (List ℕ)) → other ≡ page → size ≡ limit → after ≤ before + once_pages other size node → after ≤ before + once_pages page limit node
+pages_same page limit other size before after node pages sizes most =
+    subst (λ (n : ℕ). after ≤ before + once_pages page n node) sizes (subst (λ (n : ℕ). after ≤ before + once_pages n size node) pages most)
 
 -- no depth was asked
-pub looked_cost : (f : Blocks) (roots own : List ℕ) (before after : ℕ) → own ≡ roots → HasLookedOnce f own before after → HasCost f roots before after
-looked_cost f roots own before after same looked = record {
+pub looked_cost : (cost depth : Option (List ℕ) → ℕ) (f : Blocks) (roots own : List ℕ) (before after : ℕ) → own ≡ roots → HasCost cost f own before after
+    → HasCost (λ node. cost node + depth node) f roots before after
+looked_cost cost depth f roots own before after same looked = record {
   blocks = looked.blocks;
   are = subst (λ (l : List ℕ). AreReached f l looked.blocks) same looked.are;
-  most = omega (arith, looked.most, sum_plus (λ b. 1 + look_reads (f b)) (λ b. depth_reads (f b)) looked.blocks);
+  most = omega (arith, looked.most, sum_plus (λ b. cost (f b)) (λ b. depth (f b)) looked.blocks);
 }
+
+-- a sum of so many each
+sum_times : (g : ℕ → ℕ) (unit : ℕ) (xs : List ℕ) → sum_by (λ b. g b * unit) xs ≡ sum_by g xs * unit
+sum_times g unit [] = sym (zero-mul unit)
+sum_times g unit (x ∷ xs) =
+    sum_by-cons (λ b. g b * unit) x xs ∙ ap (λ (n : ℕ). g x * unit + n) (sum_times g unit xs) ∙ sym (add-mul (g x) (sum_by g xs) unit)
+    ∙ ap (λ (n : ℕ). n * unit) (sym (sum_by-cons g x xs))
+
+-- so many reads asked so many pages
+pub paged : (before after reads more count unit : ℕ) → after + reads * unit ≤ before + more * unit → more ≤ reads + count → after ≤ before + count * unit
+paged before after reads more count unit asks most =
+    let all : more * unit ≤ (reads + count) * unit = mul-le-mul_right unit most in
+    let parts : (reads + count) * unit ≡ reads * unit + count * unit = add-mul reads count unit in
+    omega (arith, asks, all, parts)
 
 -- and the depths were, of the nodes of directories among all blocks that the roots reach
-pub depth_cost : (f : Blocks) (roots : List ℕ) (p : Pass) (quiet : set.FinSet nat_cmp) (before mid after : ℕ) → IsPass f p → p.roots ≡ roots → mid ≤ before + sum_by (λ b. 1 + look_reads (f b)) p.order
-    → ((b : ℕ) (l : Link) → Contains p.order b → link_of (f b) ≡ Some l → name_any_directory l.items ≡ false → set.contains quiet b ≡ true)
-    → after ≤ mid + (16 * length (loud_of quiet (filter (holds_link f) p.order)) + length (filter (holds_link f) p.order)) → HasCost f roots before after
-depth_cost f roots p quiet before mid after pass same looked silent deep = record {
-  blocks = p.order;
-  are = subst (λ (l : List ℕ). AreReached f l p.order) same (record { distinct = pass.distinct; reached = pass.reached });
-  most = omega (arith, looked, deep, levels f quiet p.order silent, sum_plus (λ b. 1 + look_reads (f b)) (λ b. depth_reads (f b)) p.order);
-}
+module _ (f : Blocks) (roots : List ℕ) (p : Pass) (quiet : set.FinSet nat_cmp) (pass : IsPass f p) (same : p.roots ≡ roots)
+    (silent : (b : ℕ) (l : Link) → Contains p.order b → link_of (f b) ≡ Some l → name_any_directory l.items ≡ false → set.contains quiet b ≡ true) where
+  pub depth_cost : (before mid after : ℕ) → mid ≤ before + sum_by (λ b. once_reads (f b)) p.order
+      → after ≤ mid + (16 * length (loud_of quiet (filter (holds_link f) p.order)) + length (filter (holds_link f) p.order)) → HasCost all_reads f roots before after
+  depth_cost before mid after looked deep = record {
+    blocks = p.order;
+    are = subst (λ (l : List ℕ). AreReached f l p.order) same (record { distinct = pass.distinct; reached = pass.reached });
+    most = omega (arith, looked, deep, levels f quiet p.order silent, sum_plus (λ b. once_reads (f b)) (λ b. depth_reads (f b)) p.order);
+  }
 
--- the marked blocks were looked at so far, and one more was
-pub looked_one : (f h : Blocks) (p : Pass) (roots : List ℕ) (block before mid after : ℕ) → h ≡ f → IsPass f p → p.roots ≡ roots → p.next < length p.order → block ≡ slice_index p.order p.next
-    → mid ≤ before + sum_by (λ b. 1 + look_reads (f b)) (take p.next p.order) → after ≤ mid + (1 + look_reads (h block)) → HasLookedOnce f roots before after
-looked_one f h p roots block before mid after same pass own left at so_far one =
-    let here : after ≤ mid + (1 + look_reads (f (slice_index p.order p.next))) = subst (λ (k : ℕ). after ≤ mid + (1 + look_reads (f k))) at (subst (λ (g : Blocks). after ≤ mid + (1 + look_reads (g block))) same one) in
-    subst (λ (l : List ℕ). HasLookedOnce f l before after) own (looked_once f p before after pass left (omega (arith, so_far, here)))
+  -- in pages, where a read asks so many at most
+  pub depth_pages : (page limit before mid after reads more : ℕ) → mid ≤ before + sum_by (λ b. once_pages page limit (f b)) p.order
+      → after + reads * pages_for page limit ≤ mid + more * pages_for page limit
+      → more ≤ reads + (16 * length (loud_of quiet (filter (holds_link f) p.order)) + length (filter (holds_link f) p.order)) → HasCost (all_pages page limit) f roots before after
+  depth_pages page limit before mid after reads more looked asks deep =
+      let unit = pages_for page limit in
+      let few : more ≤ reads + sum_by (λ b. depth_reads (f b)) p.order = omega (arith, deep, levels f quiet p.order silent) in
+      record {
+        blocks = p.order;
+        are = subst (λ (l : List ℕ). AreReached f l p.order) same (record { distinct = pass.distinct; reached = pass.reached });
+        most =
+            omega (
+              arith,
+              looked,
+              paged mid after reads more (sum_by (λ b. depth_reads (f b)) p.order) unit asks few,
+              sum_times (λ b. depth_reads (f b)) unit p.order,
+              sum_plus (λ b. once_pages page limit (f b)) (λ b. depth_reads (f b) * unit) p.order,
+            );
+      }

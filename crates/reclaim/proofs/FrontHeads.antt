@@ -64,7 +64,7 @@ module _ (page block : ℕ) (front bytes : List ℕ) (room : 256 ≤ page) (node
       on (Some index) own = ap (λ (n : ℕ). Some (index, n)) (head_field 8 (omega arith) ∙ used_bytes block index bytes node own)
 
   head_pointer : (index x : ℕ) → index_of (Some bytes) ≡ Some index → x < 16 → pointer_of (Some front) x ≡ pointer_of (Some bytes) x
-  head_pointer index x own less = front_pointer page front bytes is room (body_long block bytes index node own) x less
+  head_pointer index x own less = front_pointer page front bytes is (omega arith) (body_long block bytes index node own) x less
 
 -- the front was brought of a node
 pub record IsBrought (page block : ℕ) (front : List ℕ) (node : Option (List ℕ)) : Type 0 where

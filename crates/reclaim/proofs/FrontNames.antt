@@ -27,8 +27,8 @@ body_long block bytes index node is = on (field bytes 0 == body_magic) is node
     on true is size = omega (arith, size_is block (field bytes 8) (length bytes) size)
     on false is size = absurd cc
 
-module _ (page : ℕ) (front bytes : List ℕ) (is : IsFront page front bytes) (room : 256 ≤ page) (long : 80 ≤ length bytes) where
-  front_field : (place : ℕ) → place + 3 < 80 → field front place ≡ field bytes place
+module _ (page : ℕ) (front bytes : List ℕ) (is : IsFront page front bytes) (room : 80 ≤ page) (long : 80 ≤ length bytes) where
+  pub front_field : (place : ℕ) → place + 3 < 80 → field front place ≡ field bytes place
   front_field place within =
       let enough = is.enough in
       sym (field-take front (length bytes) place (omega arith)) ∙ ap (λ (l : List ℕ). field l place) is.alike ∙ field-take bytes (length front) place (omega arith)
@@ -94,9 +94,10 @@ has_front page block index front None room has whole begins = absurd cc
 has_front page block index front (Some bytes) room has whole begins =
     let long = body_long block bytes index (whole bytes refl) has in
     let is = begins bytes refl in
+    let header : 80 ≤ page = omega arith in
     record {
-      names = front_names page front bytes is room long index has;
-      bodies = front_bodies page front bytes is room long index has;
+      names = front_names page front bytes is header long index has;
+      bodies = front_bodies page front bytes is header long index has;
     }
 
 -- a node that was read whole

@@ -19,3 +19,4 @@ pub mod Heads
 pub mod HeadLengths
 pub mod MoreRoots
 pub mod Paths
+pub mod BodyHeaders

@@ -1,6 +1,6 @@
 -- What one look at a block shows.
 use Rattle.std.proofs.Common.{◌≡◌, ◌≢◌, ◌↔◌, ◌⊎◌, inl, inr, ℕ, zero, suc, ◌+◌, ◌-◌, ◌*◌, ◌^◌, ◌<◌, ◌≤◌, Bool, true, false, ◌&&◌, Option, Some, None, List, [], length, drop, length-drop, refl, sym, ap, subst, ◌∙◌, arith}
-use Rattle.std.specs.Prelude.{not, IsTrue, is_some, nat_eq, nat_lt, unwrap_or, slice_index}
+use Rattle.std.specs.Prelude.{◌||◌, not, IsTrue, is_some, nat_eq, nat_lt, unwrap_or, slice_index}
 use Rattle.std.specs.Option.{option_map, option_map_or, option_eq}
 use Rattle.std.proofs.lemmas.Bool.{true≢false, cases_lt, and_parts, ltb-true, lt-ltb, eqb-true}
 use Rattle.fs_types.specs.declared.fault.Fault.{Fault}
@@ -88,6 +88,17 @@ stepped_more f p index x so_far here y below has = elim (cases_lt y x) [
       let same : x ≡ y = omega arith in
       subst (λ (k : ℕ). HoldsSlot (f (p k)) k (p (suc k))) same (here (ap (λ (k : ℕ). has_slot index (suc k)) same ∙ has))
 ]
+
+-- what stands at the first slot of the node before
+pub or_has : (names has : Bool) → (names || not has) ≡ true → has ≡ true → names ≡ true
+or_has true has one is = refl
+or_has false true one is = cc
+or_has false false one is = cc
+
+pub or_lacks : (names has : Bool) → (names || not has) ≡ false → (has ≡ true) × (names ≡ false)
+or_lacks true has none = absurd (true≢false none)
+or_lacks false true none = (refl, refl)
+or_lacks false false none = absurd (true≢false none)
 
 pub body_good : (capacity : ℕ) (f : Blocks) (p : ℕ → ℕ) (index : ℕ) (stepped : Bool) → index < 2 ^ 13 → index ≢ 0 → body_of (f (p 0)) ≡ Some (index - 1, capacity)
     → (IsTrue stepped ↔ AreSteppedTo f p index 12) → IsTrue stepped ↔ IsSoundBody capacity f p index
@@ -183,8 +194,8 @@ at_short capacity f p index short sound is well body = (λ t. (ltb-true (index *
 
 -- ---- reads for pointers
 
-pub parts_at : (node : Option (List ℕ)) (pointers : List ℕ) (index before now : ℕ) → now ≤ before + 13 → ArePartsOf node pointers (Some index) → now ≤ before + pointer_reads node
-parts_at node pointers index before now few parts = (let most : pointer_reads node ≡ 13 = ap (λ (o : Option ℕ). option_map_or (λ i. 13) o 0) (sym parts.index_is) in omega (arith, most, few))
+pub parts_at : (node : Option (List ℕ)) (pointers : List ℕ) (index before now : ℕ) → now ≤ before + 12 → ArePartsOf node pointers (Some index) → now ≤ before + pointer_reads node
+parts_at node pointers index before now few parts = (let most : pointer_reads node ≡ 12 = ap (λ (o : Option ℕ). option_map_or (λ i. 12) o 0) (sym parts.index_is) in omega (arith, most, few))
 
 -- ---- what calls answered
 

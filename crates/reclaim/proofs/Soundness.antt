@@ -217,7 +217,7 @@ no_number : (n : ℕ) → some_number n ≡ None → ⊥
 no_number n e = cc
 
 -- a body node is none of a directory
-no_link : (node : Option (List ℕ)) (i : ℕ) → index_of node ≡ Some i → link_of node ≡ None
+pub no_link : (node : Option (List ℕ)) (i : ℕ) → index_of node ≡ Some i → link_of node ≡ None
 no_link node i is = on (link_of node) refl
   where
     on : (o : Option Link) → link_of node ≡ o → o ≡ None

@@ -8,3 +8,4 @@ pub mod Tables
 pub mod Heads
 pub mod MoreRoots
 pub mod Levels
+pub mod Facts

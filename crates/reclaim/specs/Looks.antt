@@ -66,7 +66,7 @@ is_chained node = option_map_or (λ link. link.chained) (link_of node) false
 
 -- the most reads for the pointers of a node: a body node has them
 abbrev pub pointer_reads : Option (List ℕ) → ℕ
-pointer_reads node = option_map_or (λ index. 13) (index_of node) 0
+pointer_reads node = option_map_or (λ index. 12) (index_of node) 0
 
 -- the reads for the node after one
 abbrev pub link_reads : ℕ → ℕ

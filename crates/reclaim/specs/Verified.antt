@@ -1,5 +1,5 @@
 -- Roots that have trees, and what it costs to find out.
-use Rattle.std.specs.Prelude.{◌≡◌, ℕ, ◌+◌, ◌-◌, ◌≤◌, Bool, true, Option, List, All, Contains, if◌then◌else◌}
+use Rattle.std.specs.Prelude.{◌≡◌, ℕ, ◌+◌, ◌-◌, ◌*◌, ◌≤◌, Bool, true, Option, List, All, Contains, if◌then◌else◌}
 use Rattle.std.specs.Option.{option_map_or}
 use Rattle.std.specs.List.{sum_by, list_any}
 use Rattle.node_format.specs.Items.{Item, is_dir_place}
@@ -12,6 +12,8 @@ use Rattle.block_trees.specs.Reached.{Reached}
 use Rattle.reclaim.specs.Sound.{HoldsLink, IsSoundNode, IsPlain}
 use Rattle.reclaim.specs.Tables.{HasSeen}
 use Rattle.node_format.specs.Headers.{body_header}
+use Rattle.node_store.specs.Examining.{most_pages}
+use Rattle.node_store.specs.NodePages.{pages_for}
 
 -- each root has a tree with linked bodies, on blocks of so many bytes
 abbrev pub AreRoots : ℕ → Blocks → List ℕ → Type 0
@@ -26,23 +28,28 @@ name_any_directory items = list_any (λ item. is_dir_place item.place) items
 abbrev pub depth_reads : Option (List ℕ) → ℕ
 depth_reads node = option_map_or (λ l. (if name_any_directory l.items then 16 else 0) + 1) (link_of node) 0
 
--- each node is read once; one first page is read for each entry of a directory, or 13 for a body's node, and one for the node
--- after a directory's; beside that those of the depths
-abbrev pub most_reads : Blocks → List ℕ → ℕ
-most_reads f blocks = sum_by (λ b. (1 + look_reads (f b)) + depth_reads (f b)) blocks
+-- a node is read once, and one first page for each of its pointers but the last and for the node after it
+abbrev pub once_reads : Option (List ℕ) → ℕ
+once_reads node = 1 + look_reads node
 
--- so many reads came, at most those of some blocks that the roots reach, none twice: a list that there is whatever the
--- flash holds, and that has all reached blocks at most
-pub record HasCost (f : Blocks) (roots : List ℕ) (before after : ℕ) : Type 0 where
+-- beside those of the depths
+abbrev pub all_reads : Option (List ℕ) → ℕ
+all_reads node = once_reads node + depth_reads node
+
+-- the most pages for a node: each of its own once, and these first pages
+abbrev pub once_pages : ℕ → ℕ → Option (List ℕ) → ℕ
+once_pages page limit node = most_pages page limit node + look_reads node
+
+-- beside those of a block for each read of the depths
+abbrev pub all_pages : ℕ → ℕ → Option (List ℕ) → ℕ
+all_pages page limit node = once_pages page limit node + depth_reads node * pages_for page limit
+
+-- reads or pages of so many for each node came at most, of some blocks that the roots reach, none twice: a list that there is
+-- whatever the flash holds, and that has all reached blocks at most
+pub record HasCost (cost : Option (List ℕ) → ℕ) (f : Blocks) (roots : List ℕ) (before after : ℕ) : Type 0 where
   pub blocks : List ℕ
   pub are : AreReached f roots blocks
-  pub most : after ≤ before + most_reads f blocks
-
--- the same without the depths
-pub record HasLookedOnce (f : Blocks) (roots : List ℕ) (before after : ℕ) : Type 0 where
-  pub blocks : List ℕ
-  pub are : AreReached f roots blocks
-  pub most : after ≤ before + sum_by (λ b. 1 + look_reads (f b)) blocks
+  pub most : after ≤ before + sum_by (λ b. cost (f b)) blocks
 
 -- a look found each block that was read sound, where the blocks that it names hold nodes and the one after it one of a directory
 abbrev pub AreLooked : ℕ → Blocks → Bool → Pass → Type 0

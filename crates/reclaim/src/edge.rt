@@ -95,6 +95,7 @@ pub fn may_go_on<N: Nodes>(nodes: &mut N, edge: &Edge) -> Result<bool, Fault>
     ensures faults { IfErr result IsLookFault }
     ensures looks { OnlyLooks N.node N.kept N.writes N.follows N.is_sound N.limit N.blocks nodes.old nodes.new }
     ensures reads { N.reads nodes.new ≤ N.reads nodes.old + spec.link_reads edge.now.next }
+    ensures asks { N.asked nodes.new + N.reads nodes.old ≤ N.asked nodes.old + N.reads nodes.new }
 {
     if edge.next == 0 {
         return Ok(true);

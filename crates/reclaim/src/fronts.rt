@@ -1,5 +1,5 @@
 //! The beginning of the node in a block.
-ghost use Rattle.std.specs.Prelude.{◌≡◌, ℕ, ◌+◌, true, false, List, Some, None, IfOk, IfErr};
+ghost use Rattle.std.specs.Prelude.{◌≡◌, ℕ, ◌+◌, ◌≤◌, true, false, List, Some, None, IfOk, IfErr};
 ghost use Rattle.node_store.specs.Faults.{IsLookFault};
 ghost use Rattle.node_store.specs.Frames.{OnlyLooks};
 ghost use Rattle.node_store.specs.Fronts.{IsFront};
@@ -22,6 +22,7 @@ pub fn brings_front<N: Nodes>(nodes: &mut N, block: u32) -> Result<bool, Fault>
     ensures faults { IfErr result IsLookFault }
     ensures looks { OnlyLooks N.node N.kept N.writes N.follows N.is_sound N.limit N.blocks nodes.old nodes.new }
     ensures reads { N.reads nodes.new ≡ N.reads nodes.old + 1 }
+    ensures asks { N.asked nodes.new ≤ N.asked nodes.old + 1 }
 {
     match nodes.front(block) {
         Ok(()) => Ok(true),

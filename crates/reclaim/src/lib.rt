@@ -2,6 +2,7 @@
 #![tactic(auto)]
 
 mod edge;
+mod facts;
 mod fronts;
 mod laws;
 mod levels;

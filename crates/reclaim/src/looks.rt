@@ -1,6 +1,6 @@
 //! One look at a block, and at the blocks that it names.
 ghost use Rattle.std.specs.Option.{option_map};
-ghost use Rattle.std.specs.Prelude.{◌≡◌, ◌≢◌, ℕ, ◌+◌, ◌*◌, ◌^◌, ◌≤◌, ◌<◌, ◌↔◌, ◌++◌, nat_lt, true, IsTrue, map, length, List, Option, Some, None, OnOk, IfOk, IfErr, slice_index};
+ghost use Rattle.std.specs.Prelude.{◌≡◌, ◌≢◌, ℕ, ◌+◌, ◌*◌, ◌^◌, ◌≤◌, ◌<◌, ◌↔◌, ◌++◌, ◌||◌, not, nat_lt, true, IsTrue, map, length, List, Option, Some, None, OnOk, IfOk, IfErr, slice_index};
 ghost use Rattle.fs_types.specs.declared.limits.TheConstants.{MAX_FILE_BYTES};
 ghost use Rattle.node_format.specs.Headers.{field};
 ghost use Rattle.node_format.specs.declared.headers.TheConstants.{SLOTS};
@@ -8,6 +8,7 @@ ghost use Rattle.block_trees.specs.Bodies.{index_of, pointer_of};
 ghost use Rattle.block_trees.specs.Chains.{link_items, next_of};
 ghost use Rattle.reclaim.specs.Sound.{HoldsSlot, IsSoundBody};
 ghost use Rattle.reclaim.specs.Looks as spec;
+ghost use Rattle.reclaim.specs.Naming.{has_slot};
 ghost use Rattle.node_store.specs.Faults.{IsLookFault};
 ghost use Rattle.node_store.specs.Frames.{OnlyLooks};
 
@@ -28,21 +29,32 @@ fn body_in(front: &[u8]) -> Option<(u32, usize)>
     Some((index, used_in(front) as usize))
 }
 
-/// The index of the body node in a block, and how many data bytes it has. None where the node in it is
-/// of another kind; where it holds none, any answer.
-fn body_at<N: Nodes>(nodes: &mut N, block: u32) -> Result<Option<(u32, usize)>, Fault>
+/// The index of the body node in a block, and how many data bytes it has; None where the node in it is of
+/// another kind. And whether its first slot names a block. Where it holds none, any answer.
+fn body_at<N: Nodes>(
+    nodes: &mut N,
+    block: u32,
+    next: u32,
+) -> Result<(Option<(u32, usize)>, bool), Fault>
     requires { N.is_sound nodes.old }
-    ensures exact { IfOk result (λ found. N.node nodes.old block ≢ None → found ≡ spec.body_of (N.node nodes.old block)) }
+
+    // What is answered where there is a node.
+    ensures exact { IfOk result (λ found. N.node nodes.old block ≢ None → found.0 ≡ spec.body_of (N.node nodes.old block)) }
+    ensures names { IfOk result (λ found. N.node nodes.old block ≢ None → IsTrue found.1 ↔ HoldsSlot (N.node nodes.old block) 0 next) }
+
+    // Why not, and what is read.
     ensures why { IfErr result (λ fault. N.causes nodes.old nodes.new fault) }
     ensures faults { IfErr result IsLookFault }
     ensures looks { OnlyLooks N.node N.kept N.writes N.follows N.is_sound N.limit N.blocks nodes.old nodes.new }
     ensures reads { N.reads nodes.new ≡ N.reads nodes.old + 1 }
+    ensures asks { N.asked nodes.new ≤ N.asked nodes.old + 1 }
 {
     let brought = brings_front(nodes, block)?;
     if !brought {
-        return Ok(None);
+        return Ok((None, false));
     }
-    Ok(body_in(nodes.fronted()))
+    let front = nodes.fronted();
+    Ok((body_in(front), slot_names(front, 0, next)))
 }
 
 /// The places of the entries of a node; none where the bytes are of none.
@@ -98,6 +110,7 @@ fn holds_slot<N: Nodes>(nodes: &mut N, block: u32, slot: usize, next: u32) -> Re
     ensures faults { IfErr result IsLookFault }
     ensures looks { OnlyLooks N.node N.kept N.writes N.follows N.is_sound N.limit N.blocks nodes.old nodes.new }
     ensures reads { N.reads nodes.new ≡ N.reads nodes.old + 1 }
+    ensures asks { N.asked nodes.new ≤ N.asked nodes.old + 1 }
 {
     let brought = brings_front(nodes, block)?;
     if !brought {
@@ -107,21 +120,22 @@ fn holds_slot<N: Nodes>(nodes: &mut N, block: u32, slot: usize, next: u32) -> Re
 }
 
 /// Whether each pointer of an index below 2^13 is the one before it of the node that the one before it
-/// names.
+/// names, where the second one is.
 fn are_stepped<N: Nodes>(nodes: &mut N, pointers: &[u32], index: u32) -> Result<bool, Fault>
     requires sound { N.is_sound nodes.old }
     requires count { length pointers.now ≡ SLOTS }
 
     // What is answered where the slots name nodes.
-    ensures exact { IfOk result (λ good. spec.SlotsHold (N.node nodes.old) (slice_index pointers.now) index → IsTrue good ↔ spec.AreSteppedTo (N.node nodes.old) (slice_index pointers.now) index 12) }
+    ensures exact { IfOk result (λ good. spec.SlotsHold (N.node nodes.old) (slice_index pointers.now) index → spec.AreSteppedTo (N.node nodes.old) (slice_index pointers.now) index 1 → IsTrue good ↔ spec.AreSteppedTo (N.node nodes.old) (slice_index pointers.now) index 12) }
 
     // Why not, and what is read.
     ensures why { IfErr result (λ fault. N.causes nodes.old nodes.new fault) }
     ensures faults { IfErr result IsLookFault }
     ensures looks { OnlyLooks N.node N.kept N.writes N.follows N.is_sound N.limit N.blocks nodes.old nodes.new }
-    ensures reads { N.reads nodes.new ≤ N.reads nodes.old + 12 }
+    ensures reads { N.reads nodes.new ≤ N.reads nodes.old + 11 }
+    ensures asks { N.asked nodes.new + N.reads nodes.old ≤ N.asked nodes.old + N.reads nodes.new }
 {
-    for slot in 0..12 {
+    for slot in 1..12 {
         if has_pointer(index, slot + 1) {
             let holds = holds_slot(nodes, pointers[slot], slot, pointers[slot + 1])?;
             if !holds {
@@ -130,6 +144,13 @@ fn are_stepped<N: Nodes>(nodes: &mut N, pointers: &[u32], index: u32) -> Result<
         }
     }
     Ok(true)
+}
+
+/// Whether the second pointer of an index is as it has to be, where the node before names it or not.
+fn steps_on(index: u32, names: bool) -> bool
+    ensures { result ≡ (names || not (has_slot index 1)) }
+{
+    names || !has_pointer(index, 1)
 }
 
 /// Whether the node before is full and has the index before, and the pointers are stepped.
@@ -150,13 +171,18 @@ fn is_sound_body<N: Nodes>(
     ensures why { IfErr result (λ fault. N.causes nodes.old nodes.new fault) }
     ensures faults { IfErr result IsLookFault }
     ensures looks { OnlyLooks N.node N.kept N.writes N.follows N.is_sound N.limit N.blocks nodes.old nodes.new }
-    ensures reads { N.reads nodes.new ≤ N.reads nodes.old + 13 }
+    ensures reads { N.reads nodes.new ≤ N.reads nodes.old + 12 }
+    ensures asks { N.asked nodes.new + N.reads nodes.old ≤ N.asked nodes.old + N.reads nodes.new }
 {
     if index == 0 {
         return Ok(true);
     }
-    let found = body_at(nodes, pointers[0])?;
+    let (found, names) = body_at(nodes, pointers[0], pointers[1])?;
     if found != Some((index - 1, capacity as usize)) {
+        return Ok(false);
+    }
+    let is_stepped = steps_on(index, names);
+    if !is_stepped {
         return Ok(false);
     }
     let stepped = are_stepped(nodes, pointers, index)?;
@@ -188,7 +214,8 @@ fn is_sound_at<N: Nodes>(
     ensures why { IfErr result (λ fault. N.causes nodes.old nodes.new fault) }
     ensures faults { IfErr result IsLookFault }
     ensures looks { OnlyLooks N.node N.kept N.writes N.follows N.is_sound N.limit N.blocks nodes.old nodes.new }
-    ensures reads { N.reads nodes.new ≤ N.reads nodes.old + 13 }
+    ensures reads { N.reads nodes.new ≤ N.reads nodes.old + 12 }
+    ensures asks { N.asked nodes.new + N.reads nodes.old ≤ N.asked nodes.old + N.reads nodes.new }
 {
     if !is_short(capacity, index) {
         return Ok(false);
@@ -248,6 +275,7 @@ fn are_sound_parts<N: Nodes>(
     ensures faults { IfErr result IsLookFault }
     ensures looks { OnlyLooks N.node N.kept N.writes N.follows N.is_sound N.limit N.blocks nodes.old nodes.new }
     ensures reads { (node : Option (List ℕ)) → spec.ArePartsOf node pointers.now index → N.reads nodes.new ≤ N.reads nodes.old + spec.pointer_reads node }
+    ensures asks { N.asked nodes.new + N.reads nodes.old ≤ N.asked nodes.old + N.reads nodes.new }
 {
     match index {
         Some(index) => is_sound_at(nodes, capacity, pointers, index),
@@ -267,6 +295,7 @@ fn is_followed<N: Nodes>(nodes: &mut N, edge: &Option<Edge>) -> Result<bool, Fau
     ensures faults { IfErr result IsLookFault }
     ensures looks { OnlyLooks N.node N.kept N.writes N.follows N.is_sound N.limit N.blocks nodes.old nodes.new }
     ensures reads { (node : Option (List ℕ)) → spec.edge_at node ≡ option_map (λ e. (e.last.items, e.next)) edge.now → N.reads nodes.new ≤ N.reads nodes.old + spec.link_reads (next_of node) }
+    ensures asks { N.asked nodes.new + N.reads nodes.old ≤ N.asked nodes.old + N.reads nodes.new }
 {
     match edge {
         Some(edge) => may_go_on(nodes, edge),
@@ -295,6 +324,7 @@ pub fn look<N: Nodes>(
     ensures faults { IfErr result IsLookFault }
     ensures looks { OnlyLooks N.node N.kept N.writes N.follows N.is_sound N.limit N.blocks nodes.old nodes.new }
     ensures reads { (node : Option (List ℕ)) → spec.Says node parts.now → N.reads nodes.new ≤ N.reads nodes.old + spec.look_reads node }
+    ensures asks { N.asked nodes.new + N.reads nodes.old ≤ N.asked nodes.old + N.reads nodes.new }
 {
     if plain && parts.is_chained {
         return Ok(false);

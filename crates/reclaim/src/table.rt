@@ -267,6 +267,13 @@ impl Table {
         true
     }
 
+    /// Which nodes of directories name none, and the words.
+    pub fn into_quiet(self) -> (BlockSet, Vec<u32>)
+        ensures { (result.0 ≡ self.quiet) × (result.1 ≡ self.words) }
+    {
+        (self.quiet, self.words)
+    }
+
     /// Whether all of some blocks are known to hold nodes of directories.
     pub fn has_links(&self, list: &[u32]) -> bool
         ensures { IsTrue result ↔ All (λ b. spec.has_link self.now b ≡ true) list.now }

@@ -12,24 +12,24 @@ ghost use Rattle.node_store.specs.Faults.{IsLookFault, IsReadFault};
 ghost use Rattle.node_store.specs.Frames.{OnlyLooks};
 ghost use Rattle.reclaim.specs.Heads.{HeadsAreTold};
 ghost use Rattle.reclaim.specs.Levels.{AreLeveled};
-ghost use Rattle.reclaim.specs.Looks.{NamesNodes, NextHoldsLink, IsLooked, look_reads};
+ghost use Rattle.reclaim.specs.Looks.{NamesNodes, NextHoldsLink, IsLooked};
 ghost use Rattle.reclaim.specs.Passes.{IsPass, IsFinished, Advances};
 ghost use Rattle.reclaim.specs.Sound.{IsPlain};
 ghost use Rattle.reclaim.specs.Tables.{IsTold};
-ghost use Rattle.reclaim.specs.Verified.{AreRoots, AreAllowed, AreLooked, AreWhole, HasLookedOnce, HasCost};
+ghost use Rattle.reclaim.specs.Verified.{AreRoots, AreAllowed, AreLooked, AreWhole, HasCost, once_reads, once_pages, all_reads, all_pages};
 ghost use Rattle.fs_types.specs.declared.limits.TheConstants.{MAX_NAMES};
 
 use crate::edge::next_in;
+use crate::facts::read_facts;
 use crate::levels::Levels;
-use crate::looks::{look, parts_in};
-use crate::named::{list_directories, list_names};
+use crate::looks::look;
 use crate::pass::Pass;
 use crate::table::Table;
 use allocator::BlockSet;
 use directory::any_is_deeper;
 use fs_types::{ANCHORS, Fault, MAX_NAMES};
 use node_format::BODY_HEADER;
-use node_store::Nodes;
+use node_store::{Examines, Nodes};
 use std::alloc::Global;
 
 // Whether a block is a data block.
@@ -78,9 +78,9 @@ fn are_shallow<N: Nodes>(
     Ok(!deep)
 }
 
-/// Reads the block that a pass reads next, whole: marks what its node names, notes it, and looks at it.
-/// False where it is not sound, or an entry's file is longer than its head allows.
-fn look_at_next<N: Nodes>(
+/// Reads the block that a pass reads next: marks what its node names, notes it, and looks at it. False
+/// where it is not sound, or an entry's file is longer than its head allows.
+fn look_at_next<N: Examines>(
     alloc: Global,
     nodes: &mut N,
     plain: bool,
@@ -111,30 +111,26 @@ fn look_at_next<N: Nodes>(
     ensures why { IfErr result (λ fault. fault ≢ Fault.Damaged → N.causes nodes.old nodes.new fault) }
     ensures faults { IfErr result IsReadFault }
     ensures looks { OnlyLooks N.node N.kept N.writes N.follows N.is_sound N.limit N.blocks nodes.old nodes.new }
-    ensures reads { N.reads nodes.new ≤ N.reads nodes.old + (1 + look_reads (N.node nodes.old block)) }
+    ensures reads { (N.reads nodes.new ≤ N.reads nodes.old + once_reads (N.node nodes.old block)) × (N.asked nodes.new ≤ N.asked nodes.old + once_pages (N.page nodes.old) (N.limit nodes.old) (N.node nodes.old block)) }
 {
     let capacity = nodes.block_bytes() - BODY_HEADER;
-    nodes.read(block)?;
-    let bytes = nodes.lent();
-    let parts = parts_in(alloc, bytes)?;
-    let names = list_names(alloc, bytes)?;
-    let directories = list_directories(alloc, bytes)?;
-    pass.mark_next(&names)?;
+    let facts = read_facts(alloc, nodes, block)?;
+    pass.mark_next(&facts.names)?;
     levels.take_in(
         block,
-        next_in(&parts.edge),
-        parts.places.is_empty(),
-        &directories,
+        next_in(&facts.parts.edge),
+        facts.parts.places.is_empty(),
+        &facts.directories,
     );
-    let have_heads = table.take_in(capacity, block, &parts, &directories);
+    let have_heads = table.take_in(capacity, block, &facts.parts, &facts.directories);
     if !have_heads {
         return Ok(false);
     }
-    look(nodes, capacity, plain, &parts)
+    look(nodes, capacity, plain, &facts.parts)
 }
 
 /// Reads all that a pass has to read, each node once, and looks at each; false where one is not sound.
-fn look_at_all<N: Nodes>(
+fn look_at_all<N: Examines>(
     alloc: Global,
     nodes: &mut N,
     plain: bool,
@@ -153,7 +149,7 @@ fn look_at_all<N: Nodes>(
     // All was read and is sound, or some is not.
     ensures leveled { OnOk result (AreLeveled (N.node nodes.old) pass.new levels.new) }
     ensures told { OnOk result (IsPass (N.node nodes.new) pass.new × IsTold (N.node nodes.new) pass.new table.new) }
-    ensures looked { IfOk result (λ good. good ≡ true → IsFinished pass.new × AreLooked (N.limit nodes.old - body_header) (N.node nodes.old) plain pass.new × (N.reads nodes.new ≤ N.reads nodes.old + sum_by (λ b. 1 + look_reads (N.node nodes.old b)) pass.new.order)) }
+    ensures looked { IfOk result (λ good. good ≡ true → IsFinished pass.new × AreLooked (N.limit nodes.old - body_header) (N.node nodes.old) plain pass.new × (N.reads nodes.new ≤ N.reads nodes.old + sum_by (λ b. once_reads (N.node nodes.old b)) pass.new.order) × (N.asked nodes.new ≤ N.asked nodes.old + sum_by (λ b. once_pages (N.page nodes.old) (N.limit nodes.old) (N.node nodes.old b)) pass.new.order)) }
     ensures heads { IfOk result (λ good. good ≡ true → HeadsAreTold (N.limit nodes.old - body_header) (N.node nodes.old) pass.new table.new) }
     ensures bad { IfOk result (λ good. good ≡ false → AreAllowed (N.limit nodes.old) (N.node nodes.old) pass.old.roots plain → ⊥) }
     ensures on { Advances pass.old pass.new }
@@ -163,7 +159,8 @@ fn look_at_all<N: Nodes>(
     ensures why { IfErr result (λ fault. fault ≢ Fault.Damaged → N.causes nodes.old nodes.new fault) }
     ensures faults { IfErr result IsReadFault }
     ensures looks { OnlyLooks N.node N.kept N.writes N.follows N.is_sound N.limit N.blocks nodes.old nodes.new }
-    ensures reads { HasLookedOnce (N.node nodes.old) pass.old.roots (N.reads nodes.old) (N.reads nodes.new) }
+    ensures reads { HasCost once_reads (N.node nodes.old) pass.old.roots (N.reads nodes.old) (N.reads nodes.new) }
+    ensures asks { HasCost (once_pages (N.page nodes.old) (N.limit nodes.old)) (N.node nodes.old) pass.old.roots (N.asked nodes.old) (N.asked nodes.new) }
 {
     while let Some(block) = pass.next_block() {
         let good = look_at_next(alloc, nodes, plain, block, pass, table, levels)?;
@@ -175,7 +172,7 @@ fn look_at_all<N: Nodes>(
 }
 
 /// Whether all that roots reach is sound but for the depths, by a pass over them that has read nothing.
-fn are_whole<N: Nodes>(
+fn are_whole<N: Examines>(
     alloc: Global,
     nodes: &mut N,
     roots: &[u32],
@@ -194,7 +191,7 @@ fn are_whole<N: Nodes>(
 
     // What is answered, and the pass.
     ensures leveled { OnOk result (AreLeveled (N.node nodes.old) pass.new levels.new) }
-    ensures whole { IfOk result (λ good. good ≡ true → IsPass (N.node nodes.old) pass.new × IsFinished pass.new × AreWhole (N.limit nodes.old) (N.node nodes.old) roots.now plain × IsTold (N.node nodes.old) pass.new table.new × (N.reads nodes.new ≤ N.reads nodes.old + sum_by (λ b. 1 + look_reads (N.node nodes.old b)) pass.new.order)) }
+    ensures whole { IfOk result (λ good. good ≡ true → IsPass (N.node nodes.old) pass.new × IsFinished pass.new × AreWhole (N.limit nodes.old) (N.node nodes.old) roots.now plain × IsTold (N.node nodes.old) pass.new table.new × (N.reads nodes.new ≤ N.reads nodes.old + sum_by (λ b. once_reads (N.node nodes.old b)) pass.new.order) × (N.asked nodes.new ≤ N.asked nodes.old + sum_by (λ b. once_pages (N.page nodes.old) (N.limit nodes.old) (N.node nodes.old b)) pass.new.order)) }
     ensures bad { IfOk result (λ good. good ≡ false → AreAllowed (N.limit nodes.old) (N.node nodes.old) roots.now plain → ⊥) }
     ensures on { Advances pass.old pass.new }
 
@@ -203,7 +200,8 @@ fn are_whole<N: Nodes>(
     ensures why { IfErr result (λ fault. fault ≢ Fault.Damaged → N.causes nodes.old nodes.new fault) }
     ensures faults { IfErr result IsReadFault }
     ensures looks { OnlyLooks N.node N.kept N.writes N.follows N.is_sound N.limit N.blocks nodes.old nodes.new }
-    ensures reads { HasLookedOnce (N.node nodes.old) roots.now (N.reads nodes.old) (N.reads nodes.new) }
+    ensures reads { HasCost once_reads (N.node nodes.old) roots.now (N.reads nodes.old) (N.reads nodes.new) }
+    ensures asks { HasCost (once_pages (N.page nodes.old) (N.limit nodes.old)) (N.node nodes.old) roots.now (N.asked nodes.old) (N.asked nodes.new) }
 {
     let are_looked = look_at_all(alloc, nodes, plain, pass, table, levels)?;
     if !are_looked {
@@ -219,11 +217,11 @@ fn are_whole<N: Nodes>(
 /// with `plain` no node of a chain is among all that they reach.
 ///
 /// `Damaged` where that is not so, and only there: a root that is no data block has no tree. Nothing
-/// is written. Each node is read once, and the first page of the node after it and of those that its
-/// pointers name; for its entries none is read. Where a directory stands at more than one
+/// is written. Each page of a node is read once, and the first page of the node after it and of those that
+/// its pointers name; for its entries none is read. No node of a body is kept in memory. Where a directory stands at more than one
 /// depth, or too deep, the depths read nodes that name directories once more at each level, and the first
 /// ones of the last level.
-pub fn verify<N: Nodes>(
+pub fn verify<N: Examines>(
     alloc: Global,
     blocks: u32,
     nodes: &mut N,
@@ -243,7 +241,8 @@ pub fn verify<N: Nodes>(
     ensures why { IfErr result (λ fault. fault ≢ Fault.Damaged → N.causes nodes.old nodes.new fault) }
     ensures faults { IfErr result IsReadFault }
     ensures looks { OnlyLooks N.node N.kept N.writes N.follows N.is_sound N.limit N.blocks nodes.old nodes.new }
-    ensures reads { HasCost (N.node nodes.old) roots.now (N.reads nodes.old) (N.reads nodes.new) }
+    ensures reads { HasCost all_reads (N.node nodes.old) roots.now (N.reads nodes.old) (N.reads nodes.new) }
+    ensures asks { HasCost (all_pages (N.page nodes.old) (N.limit nodes.old)) (N.node nodes.old) roots.now (N.asked nodes.old) (N.asked nodes.new) }
 {
     if !are_data_blocks(blocks, roots) {
         return Err(Fault::Damaged);
@@ -263,7 +262,11 @@ pub fn verify<N: Nodes>(
     if !are_whole {
         return Err(Fault::Damaged);
     }
-    let are_shallow = are_shallow(alloc, nodes, roots, levels.hold, &table.quiet, &table.words)?;
+    // The depths want three sets more, so what they do not need is let go first.
+    let is_known = levels.hold;
+    drop(levels);
+    let (quiet, nexts) = table.into_quiet();
+    let are_shallow = are_shallow(alloc, nodes, roots, is_known, &quiet, &nexts)?;
     if !are_shallow {
         return Err(Fault::Damaged);
     }

@@ -15,7 +15,7 @@ use Rattle.script.specs.Verbs.{verbs}
 use Rattle.script.specs.declared.verb.Verb.{Verb}
 use Rattle.script.specs.Words.{well_formed, number_from, text_from, data_from}
 use Rattle.script.specs.declared.line.Line.{Line}
-use Rattle.script.specs.declared.line.Line.TheVariants.{Call, ReclaimStep, Restart, PlanFault, Refused, Syntax}
+use Rattle.script.specs.declared.line.Line.TheVariants.{Call, ReclaimStep, CleanStep, Space, ForgetFree, Restart, PlanFault, Refused, Syntax}
 use Rattle.script.specs.declared.misread.Misread.{Misread}
 use Rattle.script.specs.declared.misread.Misread.TheVariants.{Syntax as no_form, Refused as refused}
 use Rattle.script.specs.declared.views.NamedView.{NamedView}
@@ -238,6 +238,7 @@ asked Verb.Redo words = alone (Call Redo) words
 asked Verb.Goto words = only_number words >>= λ serial. Ok (Call (Goto serial))
 asked Verb.Rollback words = lone_name words >>= λ name. Ok (Call (Rollback name))
 asked Verb.Forget words = only_number words >>= λ count. Ok (Call (Forget count))
+asked Verb.ForgetFree words = only_number words >>= λ blocks. Ok (ForgetFree blocks)
 asked Verb.Checkpoint words = lone_name words >>= λ name. Ok (Call (Checkpoint name))
 asked Verb.Rmcheckpoint words = lone_name words >>= λ name. Ok (Call (RemoveCheckpoint name))
 asked Verb.Begin words = alone (Call Begin) words
@@ -245,7 +246,9 @@ asked Verb.End words = alone (Call End) words
 asked Verb.Abandon words = alone (Call Abandon) words
 asked Verb.Log words = alone (Call Log) words
 asked Verb.Df words = alone (Call Df) words
+asked Verb.Space words = alone Space words
 asked Verb.Reclaim words = only_number words >>= λ budget. Ok (ReclaimStep budget)
+asked Verb.Clean words = only_number words >>= λ budget. Ok (CleanStep budget)
 asked Verb.Restart words = alone Restart words
 asked Verb.PlanFault words = fault_line words
 

@@ -1,5 +1,5 @@
 -- What is printed for an answer.
-use Rattle.std.specs.Prelude.{ℕ, ◌/◌, ◌%◌, ◌==◌, Bool, true, false, List, [], ◌∷◌, ◌++◌, length, codes, decimal, if◌then◌else◌}
+use Rattle.std.specs.Prelude.{ℕ, ◌/◌, ◌%◌, ◌==◌, Bool, true, false, Option, Some, None, List, [], ◌∷◌, ◌++◌, length, codes, decimal, if◌then◌else◌}
 use Rattle.std.specs.Fmt.{digit_glyph}
 use Rattle.std.specs.List.{flat_map, enumerate_from}
 use Rattle.fs_types.specs.Faults.{number_of, word_of}
@@ -12,7 +12,10 @@ use Rattle.script.specs.Words.{is_plain}
 use Rattle.fs_types.specs.declared.event.Answer.{Answer}
 use Rattle.fs_types.specs.declared.event.Answer.TheVariants.{Done, Refused, Mounted, Unmounted}
 use Rattle.script.specs.declared.line_answer.LineAnswer.{LineAnswer}
-use Rattle.script.specs.declared.line_answer.LineAnswer.TheVariants.{Told, Syntax}
+use Rattle.script.specs.declared.line_answer.LineAnswer.TheVariants.{Told, Space, Forgot, Syntax}
+use Rattle.script.specs.declared.space_line.CheckpointLine.{CheckpointLine}
+use Rattle.script.specs.declared.space_line.SpaceLine.{SpaceLine}
+use Rattle.script.specs.declared.space_line.VersionLine.{VersionLine}
 
 -- the two hexadecimal digits of a byte
 abbrev pub hex_pair : Bool → ℕ → List ℕ
@@ -89,7 +92,28 @@ told_text (Refused fault) = refusal_text fault
 told_text Mounted = codes "mounted"
 told_text Unmounted = codes "unmounted"
 
+-- what forgetting the versions up to one frees, where that may be
+abbrev pub frees_text : Option ℕ → List ℕ
+frees_text None = []
+frees_text (Some frees) = codes " frees " ++ decimal frees
+
+-- what a version keeps
+abbrev pub version_text : VersionLine → List ℕ
+version_text version =
+    codes " @" ++ decimal version.serial ++ frees_text version.frees ++ codes " alone " ++ decimal version.alone
+    ++ (if version.is_present then codes " present" else [])
+
+-- what a checkpoint keeps
+abbrev pub checkpoint_text : CheckpointLine → List ℕ
+checkpoint_text checkpoint = codes " =" ++ escaped checkpoint.name ++ codes " alone " ++ decimal checkpoint.alone
+
+-- what each version and each checkpoint keeps
+abbrev pub space_text : SpaceLine → List ℕ
+space_text space = codes "space" ++ flat_map version_text space.versions ++ flat_map checkpoint_text space.checkpoints
+
 -- what is printed for the answer to a line, without its LF
 abbrev pub text_of : LineAnswer → List ℕ
 text_of (Told answer) = told_text answer
+text_of (Space space) = space_text space
+text_of (Forgot count) = codes "forgot " ++ decimal count
 text_of Syntax = codes "err SYNTAX"

@@ -25,6 +25,12 @@ pub enum Line {
     Call(Call),
     /// A step of at most this many nodes.
     ReclaimStep(u64),
+    /// A step of cleaning of at most this many blocks.
+    CleanStep(u64),
+    /// What each version and each checkpoint keeps.
+    Space,
+    /// The fewest of the oldest versions are to be forgotten that leave so many blocks free.
+    ForgetFree(u64),
     /// Power on, and mount.
     Restart,
     /// The `k`-th operation of the kind's class from now on, counted from 1, fails so. Who plans
@@ -71,6 +77,7 @@ fn line_by_verb(alloc: Global, verb: Verb, words: &[&[u8]]) -> Result<Line, Misr
         Verb::Goto => only_number(words).map(|serial| Line::Call(Call::Goto { serial })),
         Verb::Rollback => only_name(alloc, words).map(|name| Line::Call(Call::Rollback { name })),
         Verb::Forget => only_number(words).map(|count| Line::Call(Call::Forget { count })),
+        Verb::ForgetFree => only_number(words).map(Line::ForgetFree),
         Verb::Checkpoint => only_name(alloc, words).map(|name| Line::Call(Call::Checkpoint {
             name,
         })),
@@ -82,7 +89,9 @@ fn line_by_verb(alloc: Global, verb: Verb, words: &[&[u8]]) -> Result<Line, Misr
         Verb::Abandon => line_without_words(words, Line::Call(Call::Abandon)),
         Verb::Log => line_without_words(words, Line::Call(Call::Log)),
         Verb::Df => line_without_words(words, Line::Call(Call::Df)),
+        Verb::Space => line_without_words(words, Line::Space),
         Verb::Reclaim => only_number(words).map(Line::ReclaimStep),
+        Verb::Clean => only_number(words).map(Line::CleanStep),
         Verb::Restart => line_without_words(words, Line::Restart),
         Verb::PlanFault => fault(words),
     }

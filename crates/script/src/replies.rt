@@ -1,10 +1,11 @@
 //! What is printed for an answer.
 ghost use Rattle.std.specs.Prelude.{◌≡◌, ◌++◌, [], ◌∷◌, length, decimal, codes, OnOk, if◌then◌else◌};
 ghost use Rattle.std.specs.List.{flat_map, enumerate_from};
-ghost use Rattle.script.specs.Replies.{data_text, entry_text, standing_text, marked_serial, serial_text, name_text, log_text, df_text, stat_text, reply_text, refusal_text, told_text, text_of};
+ghost use Rattle.script.specs.Replies.{data_text, entry_text, standing_text, marked_serial, serial_text, name_text, log_text, df_text, stat_text, reply_text, refusal_text, frees_text, version_text, checkpoint_text, space_text, told_text, text_of};
 
 use crate::digits::{print_hex, print_name, print_number};
 use crate::line_answer::LineAnswer;
+use crate::space_line::{CheckpointLine, SpaceLine, VersionLine};
 use fs_types::{Answer, CpName, Fault, Name, Reply, Stat};
 use std::alloc::AllocError;
 
@@ -224,11 +225,72 @@ fn print_told(out: &mut Vec<u8>, answer: &Answer) -> Result<(), AllocError>
     }
 }
 
+/// What forgetting the versions up to one frees, where that may be.
+fn print_frees(out: &mut Vec<u8>, frees: Option<u64>) -> Result<(), AllocError>
+    ensures { OnOk result (out.new.items ≡ out.old.items ++ frees_text frees) }
+{
+    match frees {
+        Some(blocks) => print_labelled(out, b" frees ", blocks),
+        None => Ok(()),
+    }
+}
+
+fn print_version(out: &mut Vec<u8>, version: &VersionLine) -> Result<(), AllocError>
+    ensures { OnOk result (out.new.items ≡ out.old.items ++ version_text version.now) }
+{
+    print_labelled(out, b" @", version.serial)?;
+    print_frees(out, version.frees)?;
+    print_labelled(out, b" alone ", version.alone)?;
+    if version.is_present {
+        out.extend_from_slice(b" present")?;
+    }
+    Ok(())
+}
+
+fn print_version_lines(out: &mut Vec<u8>, versions: &[VersionLine]) -> Result<(), AllocError>
+    ensures { OnOk result (out.new.items ≡ out.old.items ++ flat_map version_text versions.now) }
+{
+    for version in versions {
+        print_version(out, version)?;
+    }
+    Ok(())
+}
+
+fn print_checkpoint(out: &mut Vec<u8>, checkpoint: &CheckpointLine) -> Result<(), AllocError>
+    ensures { OnOk result (out.new.items ≡ out.old.items ++ checkpoint_text checkpoint.now) }
+{
+    out.extend_from_slice(b" =")?;
+    print_name(out, checkpoint.name.as_bytes())?;
+    print_labelled(out, b" alone ", checkpoint.alone)
+}
+
+fn print_checkpoint_lines(
+    out: &mut Vec<u8>,
+    checkpoints: &[CheckpointLine],
+) -> Result<(), AllocError>
+    ensures { OnOk result (out.new.items ≡ out.old.items ++ flat_map checkpoint_text checkpoints.now) }
+{
+    for checkpoint in checkpoints {
+        print_checkpoint(out, checkpoint)?;
+    }
+    Ok(())
+}
+
+fn print_space(out: &mut Vec<u8>, space: &SpaceLine) -> Result<(), AllocError>
+    ensures { OnOk result (out.new.items ≡ out.old.items ++ space_text space.now) }
+{
+    out.extend_from_slice(b"space")?;
+    print_version_lines(out, space.versions.as_slice())?;
+    print_checkpoint_lines(out, space.checkpoints.as_slice())
+}
+
 fn print_text(out: &mut Vec<u8>, answer: &LineAnswer) -> Result<(), AllocError>
     ensures { OnOk result (out.new.items ≡ out.old.items ++ text_of answer.now) }
 {
     match answer {
         LineAnswer::Told(answer) => print_told(out, answer),
+        LineAnswer::Space(space) => print_space(out, space),
+        LineAnswer::Forgot(count) => print_labelled(out, b"forgot ", *count),
         LineAnswer::Syntax => out.extend_from_slice(b"err SYNTAX"),
     }
 }

@@ -30,6 +30,7 @@ pub enum Verb {
     Goto,
     Rollback,
     Forget,
+    ForgetFree,
     Checkpoint,
     Rmcheckpoint,
     Begin,
@@ -37,12 +38,14 @@ pub enum Verb {
     Abandon,
     Log,
     Df,
+    Space,
     Reclaim,
+    Clean,
     Restart,
     PlanFault,
 }
 
-const VERBS: [(&[u8], Verb); 31] = [
+const VERBS: [(&[u8], Verb); 34] = [
     (b"open", Verb::Open),
     (b"close", Verb::Close),
     (b"pread", Verb::Pread),
@@ -64,6 +67,7 @@ const VERBS: [(&[u8], Verb); 31] = [
     (b"goto", Verb::Goto),
     (b"rollback", Verb::Rollback),
     (b"forget", Verb::Forget),
+    (b"forgetfree", Verb::ForgetFree),
     (b"checkpoint", Verb::Checkpoint),
     (b"rmcheckpoint", Verb::Rmcheckpoint),
     (b"begin", Verb::Begin),
@@ -71,7 +75,9 @@ const VERBS: [(&[u8], Verb); 31] = [
     (b"abandon", Verb::Abandon),
     (b"log", Verb::Log),
     (b"df", Verb::Df),
+    (b"space", Verb::Space),
     (b"reclaim", Verb::Reclaim),
+    (b"clean", Verb::Clean),
     (b"restart", Verb::Restart),
     (b"fault", Verb::PlanFault),
 ];

@@ -1,4 +1,5 @@
 pub mod PlanLemmas
 pub mod ScriptLaws
+pub mod SpaceLines
 pub mod TakenLines
 pub mod TurnLemmas

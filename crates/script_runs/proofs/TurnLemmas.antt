@@ -4,7 +4,6 @@ use Rattle.std.proofs.KnownBytes.{Appends-nil, Appends-trans, Consumes-nil}
 use Rattle.std.specs.Io.KnownBytes.{Appends}
 use Rattle.history_machine.specs.History.{Past}
 use Rattle.plain_trees.specs.Trees.{Tree}
-use Rattle.fs_types.specs.declared.event.Event.{Event}
 use Rattle.fs_types.specs.declared.fault.Fault.{Fault}
 use Rattle.flash_model.specs.Reading.{OnlyReads}
 use Rattle.script.specs.Lines.{line_of}
@@ -14,9 +13,11 @@ use Rattle.system.specs.Mounts.{IsMountOf}
 use Rattle.system.specs.Systems.{IsSystem}
 use Rattle.system.specs.declared.systems.System.{System}
 use Rattle.undofs.specs.Sessions.{Stands, world}
-use Rattle.undofs.proofs.SessionSteps.{mount_begins, serve_law}
+use Rattle.undofs.specs.declared.asks.Ask.{Ask}
+use Rattle.undofs.proofs.AskedRuns.{ask_law}
+use Rattle.undofs.proofs.SessionSteps.{mount_begins}
 use Rattle.script_runs.specs.Plans.{PlanGoesOn}
-use Rattle.script_runs.specs.Scripts.{Scene, event_of, RepliesBy, Replies, CarriesOut, Ground, IsRefusedOn, SessionOn, answer_text, answer_texts, HasTaken, streams_at, EndsBy, EndsOnFlash, EndsOrStops, ScriptEndsOn, AreAccepted, AreAcceptedBefore, refusal_of}
+use Rattle.script_runs.specs.Scripts.{Scene, ask_of, RepliesBy, Replies, CarriesOut, Ground, IsRefusedOn, SessionOn, answer_text, answer_texts, HasTaken, streams_at, EndsBy, EndsOnFlash, EndsOrStops, ScriptEndsOn, AreAccepted, AreAcceptedBefore, refusal_of}
 use Rattle.script_runs.specs.Turns.{Gets, Seat, seat_at, world_at, scene_at, DoesBy, Does, Writes, Carried, LinesEnd}
 use Rattle.script_runs.specs.declared.scripts.Refusal.{Refusal}
 use Rattle.script_runs.specs.declared.scripts.ScriptFault.{ScriptFault}
@@ -24,15 +25,14 @@ use Rattle.script_runs.specs.declared.scripts.Stop.{Stop}
 use Rattle.script_runs.proofs.TakenLines.{taken_all, taken_more}
 
 -- what a line does to a flash and what is mounted on it, it does to each world that has these
-replies_by : (e : Option Event) (line : Line) (s : Seat) (answer : LineAnswer) (t : Seat) → DoesBy e line s answer t → (found : List (Past Tree)) → Stands (world_at s found)
+replies_by : (e : Option Ask) (line : Line) (s : Seat) (answer : LineAnswer) (t : Seat) → DoesBy e line s answer t → (found : List (Past Tree)) → Stands (world_at s found)
     → (more : List (Past Tree)) × RepliesBy e line (scene_at s found) answer (scene_at t more) × Stands (world_at t more)
 replies_by None line s answer t (device, system, told) found stands =
     let same : world_at t found ≡ world_at s found = λ i. world (device i) (system i) found in
     (found, (same, told), subst Stands (sym same) stands)
-replies_by (Some event) line s (LineAnswer.Told answer) t (serves, plan) found stands =
-    let so = serve_law s.device t.device s.system t.system event answer found serves stands in
-    (so.0, (so.1, plan), so.2)
-replies_by (Some event) line s LineAnswer.Syntax t none found stands = absurd none
+replies_by (Some ask) line s answer t (told, serves, tells, plan) found stands =
+    let so = ask_law s.device t.device s.system t.system ask told found serves stands in
+    (so.0, (told, so.1, tells, plan), so.2)
 
 carries_more : (s : Scene) (lines : List (List ℕ)) (answers : List LineAnswer) (t : Scene) (line : List ℕ) (answer : LineAnswer) (u : Scene)
     → CarriesOut s lines answers t → Replies (line_of line) t answer u → CarriesOut s (lines ++ line ∷ []) (answers ++ answer ∷ []) u
@@ -46,7 +46,7 @@ carried_more : (s t : Seat) (lines : List (List ℕ)) (answers : List LineAnswer
     → Carried s t lines answers → Does (line_of line) t answer u → Carried s u (lines ++ line ∷ []) (answers ++ answer ∷ [])
 carried_more s t lines answers line answer u carried does found stands =
     let so = carried found stands in
-    let reply = replies_by (event_of (line_of line)) (line_of line) t answer u does so.0 so.2 in
+    let reply = replies_by (ask_of (line_of line)) (line_of line) t answer u does so.0 so.2 in
     (reply.0, carries_more (scene_at s found) lines answers (scene_at t so.0) line answer (scene_at u reply.0) so.1 reply.1, reply.2)
 
 none_carried : (s : Seat) → Carried s s [] []

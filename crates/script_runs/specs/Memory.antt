@@ -1,11 +1,10 @@
 -- A script that is run on a flash in memory of its own.
-use Rattle.std.specs.Prelude.{◌≡◌, ◌⊎◌, ℕ, Option, Result, Ok, Err, List, []}
+use Rattle.std.specs.Prelude.{◌≡◌, ◌⊎◌, ℕ, Result, List}
 use Rattle.fs_types.specs.declared.fault.Fault.{Fault}
-use Rattle.flash_model.specs.Simulation.{device_of, plan_of, IsNew}
-use Rattle.flash_model.specs.Plan.{plan_of_entries}
+use Rattle.flash_model.specs.Simulation.{device_of}
 use Rattle.flash_model.specs.declared.sim_flash.SimFlash.{SimFlash}
 use Rattle.flash_model.specs.declared.geometry.Geometry.{Geometry}
-use Rattle.mounting.specs.Formats.{IsFormatted, ListsFailed, IsNumbered, FormatCause}
+use Rattle.mounting.specs.Formats.{FormatCause}
 use Rattle.script_runs.specs.Flashes.{IsNewFlash, IsFormatOf}
 use Rattle.script_runs.specs.Plans.{FollowsPlan}
 use Rattle.script_runs.specs.Scripts.{Streams, EndsBy, IsUnmounted, LineSession}

@@ -1,13 +1,16 @@
 -- Scripts: what each line does and is answered, and what was read, carried out and written where a script ends.
-use Rattle.std.specs.Prelude.{◌≡◌, ℕ, suc, Bool, IsTrue, Option, Some, None, Result, Ok, Err, IfSome, List, [], ◌∷◌, ◌++◌, take, length, ◌⊎◌}
-use Rattle.std.specs.List.{flat_map}
+use Rattle.std.specs.Prelude.{◌≡◌, ◌==◌, ℕ, suc, map, Bool, IsTrue, Option, Some, None, Result, Ok, Err, IfSome, List, [], ◌∷◌, ◌++◌, take, length, ◌⊎◌}
+use Rattle.std.specs.List.{flat_map, enumerate_from, zip}
 use Rattle.std.specs.Io.KnownBytes.{Consumes, IsAtEnd, Appends}
 use Rattle.history_machine.specs.History.{Past}
 use Rattle.plain_trees.specs.Trees.{Tree}
+use Rattle.fs_types.specs.Names.{Name}
 use Rattle.fs_types.specs.declared.call.Reply.{Reply}
+use Rattle.fs_types.specs.declared.call.Version.{Version}
 use Rattle.fs_types.specs.declared.event.Event.{Event}
 use Rattle.fs_types.specs.declared.event.Answer.{Answer}
 use Rattle.fs_types.specs.declared.fault.Fault.{Fault}
+use Rattle.fs_types.specs.declared.fault.Fault.TheVariants.{NoMemory}
 use Rattle.flash_model.specs.Device.{Device}
 use Rattle.flash_model.specs.Plan.{Schedule, planned, IsPlanFull}
 use Rattle.flash_model.specs.Reading.{OnlyReads}
@@ -19,21 +22,54 @@ use Rattle.script.specs.Replies.{text_of}
 use Rattle.script.specs.Streams.{TakesLine, TakesPart, lines_of}
 use Rattle.script.specs.declared.line.Line.{Line}
 use Rattle.script.specs.declared.line_answer.LineAnswer.{LineAnswer}
+use Rattle.script.specs.declared.space_line.CheckpointLine.{CheckpointLine}
+use Rattle.script.specs.declared.space_line.SpaceLine.{SpaceLine}
+use Rattle.script.specs.declared.space_line.VersionLine.{VersionLine}
 use Rattle.system.specs.Mounts.{MountCause}
+use Rattle.system.specs.declared.systems.System.{System}
+use Rattle.system.specs.declared.version_space.HistorySpace.{HistorySpace}
+use Rattle.system.specs.declared.version_space.VersionSpace.{VersionSpace}
 use Rattle.mounting.specs.Saved.{saved_trees}
-use Rattle.undofs.specs.Runs.{World, Mounts, Happens}
+use Rattle.undofs.specs.Asks.{AskedAs, HappensAsk}
+use Rattle.undofs.specs.Runs.{World, Mounts}
 use Rattle.undofs.specs.Sessions.{Session}
+use Rattle.undofs.specs.declared.asks.Ask.{Ask}
+use Rattle.undofs.specs.declared.asks.Told.{Told}
 use Rattle.script_runs.specs.Plans.{PlanGoesOn}
 use Rattle.script_runs.specs.declared.scripts.Refusal.{Refusal}
 use Rattle.script_runs.specs.declared.scripts.ScriptFault.{ScriptFault}
 use Rattle.script_runs.specs.declared.scripts.Stop.{Stop}
 
--- the event that a line asks for: a call, a step of reclaiming, or a restart
-abbrev pub event_of : Line → Option Event
-event_of (Line.Call call) = Some (Event.Call call)
-event_of (Line.ReclaimStep budget) = Some (Event.ReclaimStep budget)
-event_of Line.Restart = Some Event.Restart
-event_of _ = None
+-- what a line asks for: a call, a step of reclaiming, a restart, or what the history holds
+abbrev pub ask_of : Line → Option Ask
+ask_of (Line.Call call) = Some (Ask.Event (Event.Call call))
+ask_of (Line.ReclaimStep budget) = Some (Ask.Event (Event.ReclaimStep budget))
+ask_of (Line.CleanStep budget) = Some (Ask.Event (Event.CleanStep budget))
+ask_of Line.Restart = Some (Ask.Event Event.Restart)
+ask_of Line.Space = Some Ask.Space
+ask_of (Line.ForgetFree blocks) = Some (Ask.ForgetFree blocks)
+ask_of _ = None
+
+-- what is told of a version at a place and of a checkpoint, with what they keep
+abbrev pub version_line : ℕ → ℕ × (Version ℕ × VersionSpace) → VersionLine
+version_line cursor (place, (version, kept)) = record { serial = version.serial; frees = kept.frees; alone = kept.alone; is_present = place == cursor }
+
+abbrev pub checkpoint_line : (Name × ℕ) × ℕ → CheckpointLine
+checkpoint_line ((name, root), alone) = record { name = name; alone = alone }
+
+-- what is told of a history that keeps so much
+abbrev pub space_line : Past ℕ → HistorySpace → SpaceLine
+space_line history space = record {
+  versions = map (version_line history.cursor) (enumerate_from 0 (zip history.versions space.versions));
+  checkpoints = map checkpoint_line (zip history.checkpoints space.checkpoints);
+}
+
+-- the answer to a line of which this is told, where this system is mounted: what a history keeps may want memory
+abbrev pub Tells : Option System → Told → LineAnswer → Type 0
+Tells s (Told.Answer answer) line = line ≡ LineAnswer.Told answer
+Tells s (Told.Forgot count) line = line ≡ LineAnswer.Forgot count
+Tells (Some m) (Told.Space space) line = (line ≡ LineAnswer.Space (space_line m.state.history space)) ⊎ (line ≡ LineAnswer.Told (Answer.Refused NoMemory))
+Tells None (Told.Space space) line = line ≡ LineAnswer.Told Answer.Unmounted
 
 -- a world, and the faults that are planned for its flash, where any can be
 pub record Scene : Type 0 where
@@ -53,16 +89,16 @@ IsStillAnswer (Line.Refused fault) old answer new = (answer ≡ LineAnswer.Told 
 IsStillAnswer (Line.PlanFault (suc k) kind) (Some old) answer new = Plans old (suc k) kind answer new
 IsStillAnswer _ old answer new = (answer ≡ LineAnswer.Syntax) × (new ≡ old)
 
--- by the event that a line asks for, if any: the line is told the answer to the event, whose operations take from the plan
--- what comes due, and without one the world stays
-abbrev pub RepliesBy : Option Event → Line → Scene → LineAnswer → Scene → Type 0
-RepliesBy (Some event) line s (LineAnswer.Told answer) t = Happens s.world event answer t.world × PlanGoesOn s.world.device.operations s.plan t.world.device.operations t.plan
-RepliesBy (Some event) line s LineAnswer.Syntax t = ⊥
+-- by what a line asks for, if anything: the line is answered what is told of that, whose operations take from the plan what
+-- comes due, and without it the world stays
+abbrev pub RepliesBy : Option Ask → Line → Scene → LineAnswer → Scene → Type 0
+RepliesBy (Some ask) line s answer t =
+    (told : Told) × HappensAsk s.world ask told t.world × Tells t.world.system told answer × PlanGoesOn s.world.device.operations s.plan t.world.device.operations t.plan
 RepliesBy None line s answer t = (t.world ≡ s.world) × IsStillAnswer line s.plan answer t.plan
 
 -- a line is carried out, and so answered
 abbrev pub Replies : Line → Scene → LineAnswer → Scene → Type 0
-Replies line = RepliesBy (event_of line) line
+Replies line = RepliesBy (ask_of line) line
 
 -- lines are carried out in order, each from its bytes, and each is answered: from the first scene to the last
 abbrev pub CarriesOut : Scene → List (List ℕ) → List LineAnswer → Scene → Type 0
@@ -179,6 +215,8 @@ abbrev pub refusal_of : LineAnswer → Option Refusal
 refusal_of (LineAnswer.Told (Answer.Refused fault)) = Some (Refusal.Fault fault)
 refusal_of (LineAnswer.Told Answer.Unmounted) = Some Refusal.Unmounted
 refusal_of (LineAnswer.Told _) = None
+refusal_of (LineAnswer.Space space) = None
+refusal_of (LineAnswer.Forgot count) = None
 refusal_of LineAnswer.Syntax = Some Refusal.Syntax
 
 -- none of these answers refuses its line; and none but the last
@@ -209,25 +247,20 @@ ScriptEndsOn stop start end before result after = EndsOrStops stop (SessionOn st
 abbrev pub ScriptEnds : Bool → SimFlash → SimFlash → Streams → Result (Option Stop) ScriptFault → Streams → Type 0
 ScriptEnds stop start end = ScriptEndsOn stop (ground start) (ground end)
 
--- the events that lines ask for
-abbrev pub with_event : {A : Type 0} → Option A → List A → List A
-with_event None xs = xs
-with_event (Some x) xs = x ∷ xs
+-- what a line asks for comes to these events, with these answers; and what lines ask for
+abbrev pub LineAsked : Option Ask → LineAnswer → List Event → List Answer → Type 0
+LineAsked None answer events answers = (events ≡ []) × (answers ≡ [])
+LineAsked (Some ask) answer events answers = (system : Option System) × (told : Told) × Tells system told answer × AskedAs ask told events answers
 
-abbrev pub events_of : List (List ℕ) → List Event
-events_of [] = []
-events_of (line ∷ lines) = with_event (event_of (line_of line)) (events_of lines)
-
--- the answers to those events
-abbrev pub with_told : Option Event → LineAnswer → List Answer → List Answer
-with_told (Some event) (LineAnswer.Told answer) answers = answer ∷ answers
-with_told _ _ answers = answers
-
-abbrev pub event_answers : List (List ℕ) → List LineAnswer → List Answer
-event_answers (line ∷ lines) (answer ∷ answers) = with_told (event_of (line_of line)) answer (event_answers lines answers)
-event_answers _ _ = []
+abbrev pub AreAsked : List (List ℕ) → List LineAnswer → List Event → List Answer → Type 0
+AreAsked [] [] events answers = (events ≡ []) × (answers ≡ [])
+AreAsked (line ∷ lines) (reply ∷ replies) events answers =
+    (own : List Event) × (told : List Answer) × (later : List Event) × (rest : List Answer)
+    × (events ≡ own ++ later) × (answers ≡ told ++ rest) × LineAsked (ask_of (line_of line)) reply own told × AreAsked lines replies later rest
+AreAsked _ _ events answers = ⊥
 
 -- lines that were carried out are a session of the events that they ask for, with the answers to these
 abbrev pub ScriptLaw : Type 0
-ScriptLaw = (start end : Ground) (lines : List (List ℕ)) (answers : List LineAnswer) → SessionOn start end lines answers
-    → (v : World) × Session start.device (events_of lines) (Answer.Mounted ∷ event_answers lines answers) v × (v.device ≡ end.device)
+ScriptLaw = (start end : Ground) (lines : List (List ℕ)) (replies : List LineAnswer) → SessionOn start end lines replies
+    → (v : World) × (events : List Event) × (answers : List Answer) × AreAsked lines replies events answers
+    × Session start.device events (Answer.Mounted ∷ answers) v × (v.device ≡ end.device)

@@ -3,7 +3,6 @@ use Rattle.std.specs.Prelude.{◌≡◌, ℕ, Bool, Option, Some, None, Result, 
 use Rattle.std.specs.Io.KnownBytes.{Consumes, IsAtEnd, Appends}
 use Rattle.history_machine.specs.History.{Past}
 use Rattle.plain_trees.specs.Trees.{Tree}
-use Rattle.fs_types.specs.declared.event.Event.{Event}
 use Rattle.flash_model.specs.Device.{Device}
 use Rattle.flash_model.specs.Plan.{Schedule}
 use Rattle.script.specs.Lines.{line_of}
@@ -12,9 +11,12 @@ use Rattle.script.specs.declared.line.Line.{Line}
 use Rattle.script.specs.declared.line_answer.LineAnswer.{LineAnswer}
 use Rattle.system.specs.declared.systems.System.{System}
 use Rattle.undofs.specs.Runs.{World}
-use Rattle.undofs.specs.Sessions.{Stands, world, Serves}
+use Rattle.undofs.specs.Asks.{ServesAsk}
+use Rattle.undofs.specs.Sessions.{Stands, world}
+use Rattle.undofs.specs.declared.asks.Ask.{Ask}
+use Rattle.undofs.specs.declared.asks.Told.{Told}
 use Rattle.script_runs.specs.Plans.{PlanGoesOn}
-use Rattle.script_runs.specs.Scripts.{Scene, event_of, IsStillAnswer, CarriesOut, Streams, EndsOrStops, answer_text}
+use Rattle.script_runs.specs.Scripts.{Scene, ask_of, Tells, IsStillAnswer, CarriesOut, Streams, EndsOrStops, answer_text}
 use Rattle.script_runs.specs.declared.scripts.ScriptFault.{ScriptFault}
 use Rattle.script_runs.specs.declared.scripts.Stop.{Stop}
 
@@ -42,14 +44,18 @@ world_at s found = world s.device s.system found
 abbrev pub scene_at : Seat → List (Past Tree) → Scene
 scene_at s found = record { world = world_at s found; plan = s.plan }
 
-abbrev pub DoesBy : Option Event → Line → Seat → LineAnswer → Seat → Type 0
-DoesBy (Some event) line s (LineAnswer.Told answer) t = Serves s.device s.system event answer t.device t.system × PlanGoesOn s.device.operations s.plan t.device.operations t.plan
-DoesBy (Some event) line s LineAnswer.Syntax t = ⊥
+-- what is asked is done, and the line is answered what is told of it
+abbrev pub Asks : Ask → Seat → LineAnswer → Seat → Type 0
+Asks ask s answer t =
+    (told : Told) × ServesAsk s.device s.system ask told t.device t.system × Tells t.system told answer × PlanGoesOn s.device.operations s.plan t.device.operations t.plan
+
+abbrev pub DoesBy : Option Ask → Line → Seat → LineAnswer → Seat → Type 0
+DoesBy (Some ask) line s answer t = Asks ask s answer t
 DoesBy None line s answer t = (t.device ≡ s.device) × (t.system ≡ s.system) × IsStillAnswer line s.plan answer t.plan
 
 -- what a line does to a flash, to what is mounted on it and to the plan of faults, and its answer
 abbrev pub Does : Line → Seat → LineAnswer → Seat → Type 0
-Does line = DoesBy (event_of line) line
+Does line = DoesBy (ask_of line) line
 
 -- what was written of an answer
 abbrev pub Writes : Option (List ℕ) → Option (List ℕ) → LineAnswer → Result (Unit {0}) ScriptFault → Type 0

@@ -6,14 +6,14 @@ ghost use Rattle.flash_model.specs.Reading.{OnlyReads};
 ghost use Rattle.mounting.specs.Formats.{IsFormatted, ListsFailed, IsNumbered, FormatCause};
 ghost use Rattle.system.specs.Mounts.{IsMountOf, MountCause};
 ghost use Rattle.system.specs.Systems.{IsSystem};
-ghost use Rattle.undofs.specs.Sessions.{Serves};
+ghost use Rattle.undofs.specs.Asks.{ServesAsk};
 ghost use Rattle.script_runs.specs.Plans.{GoesOn};
 
 use flash_model::{DevFault, Flash, Geometry, PageState, Planned};
-use fs_types::{Answer, Event, Fault};
+use fs_types::{Answer, Fault};
 use std::alloc::Global;
 use std::marker::{Brand, PhantomData};
-use undofs::{System, format, mount, serve};
+use undofs::{Ask, System, Told, format, mount, serve_ask};
 
 /// A flash at one moment: the name of the reference to it, its plan, and how many operations it did.
 trait Start {
@@ -82,46 +82,46 @@ impl<'f, F: Planned, S: Start> Flash for Following<'f, F, S> {
     }
 }
 
-/// Carries out an event as [`serve`] does.
+/// Does what is asked, as [`serve_ask`] does.
 pub(crate) fn serve_as_planned<F: Planned>(
     alloc: Global,
     flash: &mut F,
     system: &mut Option<System>,
-    event: &Event,
-) -> Answer
+    ask: &Ask,
+) -> Told
     requires { IfSome system.old (IsSystem (F.device flash.old)) }
     ensures mounted { IfSome system.new (IsSystem (F.device flash.new)) }
-    ensures serves { Serves (F.device flash.old) system.old event.now result (F.device flash.new) system.new }
+    ensures serves { ServesAsk (F.device flash.old) system.old ask.now result (F.device flash.new) system.new }
     ensures plan { GoesOn (F.device flash.old).operations (F.schedule flash.old) (F.device flash.new).operations (F.schedule flash.new) }
 {
-    let mut answer = Answer::Unmounted;
-    let _flash = serve_from::<F, Brand>(alloc, flash, system, event, &mut answer);
-    answer
+    let mut told = Told::Answer(Answer::Unmounted);
+    let _flash = serve_from::<F, Brand>(alloc, flash, system, ask, &mut told);
+    told
 }
 
-/// The same, with the flash given back, and the answer put into its place.
+/// The same, with the flash given back, and what is told put into its place.
 fn serve_from<'f, F: Planned, S: Start>(
     alloc: Global,
     flash: &'f mut F,
     system: &mut Option<System>,
-    event: &Event,
-    answer: &mut Answer,
+    ask: &Ask,
+    told: &mut Told,
 ) -> &'f mut F
     requires mounted { IfSome system.old (IsSystem (F.device flash.old)) }
     requires name { flash.ghost_name ≡ S.name }
     requires plan { F.schedule flash.old ≡ S.plan }
     requires done { (F.device flash.old).operations ≡ S.done }
 
-    // The event is carried out.
+    // It is done.
     ensures same_flash { result.ghost_name ≡ flash.entry.ghost_name }
     ensures mounted { IfSome system.new (IsSystem (F.device result.now)) }
-    ensures serves { Serves (F.device flash.entry.now) system.old event.now answer.new (F.device result.now) system.new }
+    ensures serves { ServesAsk (F.device flash.entry.now) system.old ask.now told.new (F.device result.now) system.new }
 
     // The plan went on.
     ensures plan { GoesOn S.done S.plan (F.device result.now).operations (F.schedule result.now) }
 {
     let mut following: Following<'f, F, S> = Following::on(flash);
-    *answer = serve(alloc, &mut following, system, event);
+    *told = serve_ask(alloc, &mut following, system, ask);
     let Following { flash, .. } = following;
     flash
 }

@@ -6,6 +6,7 @@ mod laws;
 mod memory;
 mod planning;
 mod scripts;
+mod space_lines;
 
 pub use laws::script_laws;
 pub use memory::run_in_memory;

@@ -5,16 +5,16 @@ ghost use Rattle.flash_model.specs.Reading.{OnlyReads};
 ghost use Rattle.script.specs.declared.line.Line.{Line};
 ghost use Rattle.system.specs.Mounts.{IsMountOf, MountCause};
 ghost use Rattle.system.specs.Systems.{IsSystem};
-ghost use Rattle.undofs.specs.Sessions.{Serves};
+ghost use Rattle.undofs.specs.Asks.{ServesAsk};
 ghost use Rattle.script_runs.specs.Plans.{PlanGoesOn};
 ghost use Rattle.script_runs.specs.Scripts.{IsStillAnswer};
 
 use crate::following::{mount_as_planned, serve_as_planned};
 use flash_model::{FaultKind, Flash, Planned};
-use fs_types::{Answer, Event, Fault, Reply};
+use fs_types::{Answer, Fault, Reply};
 use script::LineAnswer;
 use std::alloc::Global;
-use undofs::{System, mount, serve};
+use undofs::{Ask, System, Told, mount, serve_ask};
 
 /// How scripts run on a flash of a type, with account of the faults that are planned for it.
 pub(crate) trait Planning<F: Flash> {
@@ -29,11 +29,11 @@ pub(crate) trait Planning<F: Flash> {
         ensures why { IfErr result (MountCause (F.device flash.old) (F.device flash.new)) }
         ensures plan { PlanGoesOn (F.device flash.old).operations (plan flash.old) (F.device flash.new).operations (plan flash.new) };
 
-    /// Carries out an event, as [`serve`] does.
-    fn serve(alloc: Global, flash: &mut F, system: &mut Option<System>, event: &Event) -> Answer
+    /// Does what is asked, as [`serve_ask`] does.
+    fn serve(alloc: Global, flash: &mut F, system: &mut Option<System>, ask: &Ask) -> Told
         requires { IfSome system.old (IsSystem (F.device flash.old)) }
         ensures mounted { IfSome system.new (IsSystem (F.device flash.new)) }
-        ensures serves { Serves (F.device flash.old) system.old event.now result (F.device flash.new) system.new }
+        ensures serves { ServesAsk (F.device flash.old) system.old ask.now result (F.device flash.new) system.new }
         ensures plan { PlanGoesOn (F.device flash.old).operations (plan flash.old) (F.device flash.new).operations (plan flash.new) };
 
     /// Plans a fault, with the power off and without a system too.
@@ -54,8 +54,8 @@ impl<F: Planned> Planning<F> for Followed {
         mount_as_planned(alloc, flash)
     }
 
-    fn serve(alloc: Global, flash: &mut F, system: &mut Option<System>, event: &Event) -> Answer {
-        serve_as_planned(alloc, flash, system, event)
+    fn serve(alloc: Global, flash: &mut F, system: &mut Option<System>, ask: &Ask) -> Told {
+        serve_as_planned(alloc, flash, system, ask)
     }
 
     fn plan_fault(flash: &mut F, k: u64, kind: FaultKind) -> LineAnswer {
@@ -81,8 +81,8 @@ impl<F: Flash> Planning<F> for Unplanned {
         mount(alloc, flash)
     }
 
-    fn serve(alloc: Global, flash: &mut F, system: &mut Option<System>, event: &Event) -> Answer {
-        serve(alloc, flash, system, event)
+    fn serve(alloc: Global, flash: &mut F, system: &mut Option<System>, ask: &Ask) -> Told {
+        serve_ask(alloc, flash, system, ask)
     }
 
     fn plan_fault(_flash: &mut F, _k: u64, _kind: FaultKind) -> LineAnswer {

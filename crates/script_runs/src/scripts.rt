@@ -1,17 +1,18 @@
 //! A script run on a flash.
 ghost use Rattle.std.specs.Prelude.{◌≡◌, IfSome, Some, None, if◌then◌else◌};
 ghost use Rattle.system.specs.Systems.{IsSystem};
-ghost use Rattle.script_runs.specs.Scripts.{EndsOnFlash, ScriptEndsOn, ground_at, with_plan, unplanned, streams_at, refusal_of};
-ghost use Rattle.script_runs.specs.Turns.{Gets, seat_at, Does, Writes, LinesEnd};
+ghost use Rattle.script_runs.specs.Scripts.{EndsOnFlash, ScriptEndsOn, ground_at, with_plan, unplanned, streams_at, refusal_of, Tells};
+ghost use Rattle.script_runs.specs.Turns.{Asks, Gets, seat_at, Does, Writes, LinesEnd};
 
 use crate::planning::{Followed, Planning, Unplanned};
+use crate::space_lines::answer_space;
 use flash_model::{Flash, Planned};
 use fs_types::{Answer, Event, Fault};
 use script::{Line, LineAnswer, LineReader, Taken, print_answer, read_line, write_out};
 use std::alloc::Global;
 use std::io::{Read, Write};
 use thiserror::Error;
-use undofs::System;
+use undofs::{Ask, System, Told};
 
 /// Why a script did not run to its end.
 #[derive(Clone, Copy, Debug, PartialEq, Eq, Error)]
@@ -171,7 +172,7 @@ fn refusal_of(answer: &LineAnswer) -> Option<Refusal>
     match answer {
         LineAnswer::Told(Answer::Refused(fault)) => Some(Refusal::Fault(*fault)),
         LineAnswer::Told(Answer::Unmounted) => Some(Refusal::Unmounted),
-        LineAnswer::Told(_) => None,
+        LineAnswer::Told(_) | LineAnswer::Space(_) | LineAnswer::Forgot(_) => None,
         LineAnswer::Syntax => Some(Refusal::Syntax),
     }
 }
@@ -221,14 +222,45 @@ fn carry_out_on<F: Flash, P: Planning<F>>(
     ensures does { Does line (seat_at (F.device flash.old) system.old (P.plan flash.old)) result (seat_at (F.device flash.new) system.new (P.plan flash.new)) }
 {
     match line {
-        Line::Call(call) => { LineAnswer::Told(P::serve(alloc, flash, system, &Event::Call(call))) }
+        Line::Call(call) => ask::<F, P>(alloc, flash, system, Ask::Event(Event::Call(call))),
         Line::ReclaimStep(budget) => {
-            LineAnswer::Told(P::serve(alloc, flash, system, &Event::ReclaimStep(budget)))
+            ask::<F, P>(alloc, flash, system, Ask::Event(Event::ReclaimStep(budget)))
         }
-        Line::Restart => LineAnswer::Told(P::serve(alloc, flash, system, &Event::Restart)),
+        Line::CleanStep(budget) => {
+            ask::<F, P>(alloc, flash, system, Ask::Event(Event::CleanStep(budget)))
+        }
+        Line::Restart => ask::<F, P>(alloc, flash, system, Ask::Event(Event::Restart)),
+        Line::Space => ask::<F, P>(alloc, flash, system, Ask::Space),
+        Line::ForgetFree(blocks) => ask::<F, P>(alloc, flash, system, Ask::ForgetFree(blocks)),
         Line::Refused(fault) => LineAnswer::Told(Answer::Refused(fault)),
         Line::PlanFault { k, kind } => P::plan_fault(flash, k, kind),
         Line::Syntax => LineAnswer::Syntax,
+    }
+}
+
+/// Does what is asked, and answers the line with what is told.
+fn ask<F: Flash, P: Planning<F>>(
+    alloc: Global,
+    flash: &mut F,
+    system: &mut Option<System>,
+    ask: Ask,
+) -> LineAnswer
+    requires { IfSome system.old (IsSystem (F.device flash.old)) }
+    ensures mounted { IfSome system.new (IsSystem (F.device flash.new)) }
+    ensures asks { Asks ask (seat_at (F.device flash.old) system.old (P.plan flash.old)) result (seat_at (F.device flash.new) system.new (P.plan flash.new)) }
+{
+    let told = P::serve(alloc, flash, system, &ask);
+    answer_of(alloc, system, told)
+}
+
+/// The answer to a line of which this is told.
+fn answer_of(alloc: Global, system: &Option<System>, told: Told) -> LineAnswer
+    ensures { Tells system.now told result }
+{
+    match told {
+        Told::Answer(answer) => LineAnswer::Told(answer),
+        Told::Forgot(count) => LineAnswer::Forgot(count),
+        Told::Space(space) => answer_space(alloc, system, &space),
     }
 }
 

@@ -6,6 +6,7 @@
 mod beginnings;
 mod causes;
 mod images;
+mod many_files;
 mod needs;
 mod oracles;
 mod replays;

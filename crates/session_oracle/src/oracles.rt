@@ -105,7 +105,9 @@ impl<'a> Oracle<'a> {
         }
         match event {
             Event::Call(call) => self.compare(alloc, call, answer),
-            Event::ReclaimStep(_) => Ok(matches!(answer, Answer::Done(Reply::Step(_)))),
+            Event::ReclaimStep(_) | Event::CleanStep(_) => {
+                Ok(matches!(answer, Answer::Done(Reply::Step(_))))
+            }
             Event::Restart => Ok(false),
         }
     }

@@ -1,4 +1,5 @@
 //! Scripts as files give them: a line of settings each, then lines after `> ` and replies after `< `.
+use crate::many_files::write_files_of;
 use flash_model::Geometry;
 use fs_types::{Event, Fault};
 use script::{DEFAULT_SIZES, DEFAULT_VERSIONS, Line, read_line};
@@ -61,7 +62,7 @@ impl<'a> Script<'a> {
         Ok(())
     }
 
-    /// Its lines that are calls or steps of reclaiming: not its restarts and faults, nor those that are
+    /// Its lines that are calls or steps of reclaiming or of cleaning: not its restarts and faults, nor those that are
     /// refused before they come to a system.
     pub fn served_lines(&self, alloc: Global) -> Result<Vec<&'a str>, Fault> {
         let mut lines = Vec::new(alloc);
@@ -74,16 +75,21 @@ impl<'a> Script<'a> {
     }
 }
 
-/// The call or step of reclaiming that a line asks.
+/// The call or step that a line asks. Beside the lines of scripts there is `files DIRECTORY NAME DATA NAME DATA ..`,
+/// which asks `write_files`.
 pub fn event_of(alloc: Global, line: &str) -> Result<Option<Event>, Fault> {
+    if let Some(words) = line.strip_prefix("files ") {
+        return Ok(Some(Event::Call(write_files_of(alloc, words)?)));
+    }
     match read_line(alloc, line.as_bytes())? {
         Line::Call(call) => Ok(Some(Event::Call(call))),
         Line::ReclaimStep(budget) => Ok(Some(Event::ReclaimStep(budget))),
+        Line::CleanStep(budget) => Ok(Some(Event::CleanStep(budget))),
         _ => Ok(None),
     }
 }
 
-/// The events that lines ask, which are calls or steps of reclaiming.
+/// The events that lines ask, which are calls or steps.
 pub fn events_of(alloc: Global, lines: &[&str]) -> Result<Vec<Event>, Fault> {
     let mut events = Vec::new(alloc);
     for line in lines {

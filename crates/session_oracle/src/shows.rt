@@ -183,6 +183,10 @@ pub fn serve_call<F: Flash>(alloc: Global, system: &mut Fs<'_, F>, event: &Event
             Ok(is_done) => Answer::Done(Reply::Step(is_done)),
             Err(fault) => Answer::Refused(fault),
         },
+        Event::CleanStep(budget) => match system.clean_step(*budget) {
+            Ok(is_done) => Answer::Done(Reply::Step(is_done)),
+            Err(fault) => Answer::Refused(fault),
+        },
         Event::Restart => Answer::Unmounted,
     }
 }

@@ -70,6 +70,7 @@ differences_spelled view other = differences_between (view_spelled view) (view_s
 abbrev pub of_ask : AskFault → Failure
 of_ask (AskFault.Unmounted fault) = of_system fault
 of_ask (AskFault.Refused fault) = of_refusal (Refusal.Fault fault)
+of_ask AskFault.TooManyLines = Failure.TooManyLines
 
 -- these bytes are told of a flash that is found so
 abbrev pub IsToldBy : (SimFlash → Type 0) → Inquiry → List ℕ → Type 0

@@ -27,6 +27,8 @@ use Rattle.host_files.specs.Sources.{Found, Gathered}
 use Rattle.host_files.specs.Streams.{Written}
 use Rattle.shell.specs.Places.{AreOthers}
 use Rattle.history_jobs.specs.Histories.{HistoryEnds, history_spelled}
+use Rattle.part_jobs.specs.Making.{FormatPartEnds, ToPartEnds, FromPartEnds}
+use Rattle.part_jobs.specs.Serving.{ServePartEnds}
 use Rattle.image_jobs.specs.declared.failure.Failure.{Failure}
 use Rattle.script_runs.specs.declared.scripts.ScriptFault.{ScriptFault}
 use Rattle.told_flash.specs.declared.start.StartFault.{StartFault}
@@ -161,15 +163,27 @@ GetsTo false job name before result after = GetEnds (file_spelled (word_given jo
 abbrev pub Claimed : Type 1
 Claimed = List ℕ → List ℕ → Type 0
 
--- what is known of the host before: what each file may have where it is claimed, what stands at a name, with all below it, and what
--- another program writes under a name
+-- what is known of the host before: what each file may have where it is claimed, what stands at a name, with all below it, what
+-- another program writes under a name, and what the file of a name holds that is opened in place
 pub record Known : Type 1 where
   pub claimed : Claimed
   pub gathered : Gathered
   pub written : Written
+  pub placed : Held
 
-abbrev pub known_by : Claimed → Gathered → Written → Known
-known_by claimed gathered written = record { claimed = claimed; gathered = gathered; written = written }
+abbrev pub known_by : Claimed → Gathered → Written → Held → Known
+known_by claimed gathered written placed = record { claimed = claimed; gathered = gathered; written = written; placed = placed }
+
+-- how a task ends that is done on no image
+abbrev pub EndsAlone : Task → Job → Known → Host → Result (Unit {0}) Failure → Host → Type 0
+EndsAlone Task.Serve job known before result after = ServeEnds (history_given job) (known.written (word_given job.answers)) (streams_of before) result (streams_of after) × (after.files ≡ before.files)
+EndsAlone Task.ServePart job known before result after = ServePartEnds (history_given job) (known.placed (word_given job.part)) (streams_of before) result (streams_of after) × (after.files ≡ before.files)
+EndsAlone Task.FormatPart job known before result after = FormatPartEnds (sizes_of job) job.history (before.files (word_given job.part)) (after.files (word_given job.part)) result
+    × KeepsOthers (word_given job.part) before.files after.files × OnlyWrites before after
+EndsAlone Task.Explain job known before result after = ExplainEnds (word_given job.refusal) result before.out after.out × OnlyPrints before after
+EndsAlone Task.Help job known before result after = HelpEnds result before.out after.out × OnlyPrints before after
+EndsAlone Task.Version job known before result after = PrintEnds version_line result before.out after.out × OnlyPrints before after
+EndsAlone _ job known before result after = MemoryEnds (streams_of before) result (streams_of after) × (after.files ≡ before.files)
 
 -- how a job ends that is done on the file of this name, by its task
 abbrev pub EndsOn : Job → List ℕ → Known → Host → Result (Unit {0}) Failure → Host → Type 0
@@ -186,20 +200,16 @@ EndsOn job name known before result after = elim (job.command) as (λ task. Type
   | Task.Check ↦ CheckEnds (before.files name) result before.out after.out × OnlyPrints before after
   | Task.Log ↦ LookEnds (codes "log\n") (before.files name) result before.out after.out × OnlyPrints before after
   | Task.Df ↦ LookEnds (codes "df\n") (before.files name) result before.out after.out × OnlyPrints before after
-  | Task.Memory ↦ MemoryEnds (streams_of before) result (streams_of after) × (after.files ≡ before.files)
-  | Task.Serve ↦ ServeEnds (history_given job) (known.written (word_given job.answers)) (streams_of before) result (streams_of after) × (after.files ≡ before.files)
-  | Task.Explain ↦ ExplainEnds (word_given job.refusal) result before.out after.out × OnlyPrints before after
-  | Task.Help ↦ HelpEnds result before.out after.out × OnlyPrints before after
-  | Task.Version ↦ PrintEnds version_line result before.out after.out × OnlyPrints before after
+  | Task.ToPart ↦ ToPartEnds name (word_given job.file) before.files after.files result × KeepsOthers (word_given job.file) before.files after.files × OnlyWrites before after
+  | Task.FromPart ↦ FromPartEnds (word_given job.file) name (known.placed (word_given job.file)) before.files after.files result × KeepsOthers name before.files after.files × OnlyWrites before after
+  | Task.Memory ↦ EndsAlone Task.Memory job known before result after
+  | Task.Serve ↦ EndsAlone Task.Serve job known before result after
+  | Task.ServePart ↦ EndsAlone Task.ServePart job known before result after
+  | Task.FormatPart ↦ EndsAlone Task.FormatPart job known before result after
+  | Task.Explain ↦ EndsAlone Task.Explain job known before result after
+  | Task.Help ↦ EndsAlone Task.Help job known before result after
+  | Task.Version ↦ EndsAlone Task.Version job known before result after
 ]
-
--- how a task ends that is done on no file
-abbrev pub EndsAlone : Task → Job → Known → Host → Result (Unit {0}) Failure → Host → Type 0
-EndsAlone Task.Serve job known before result after = ServeEnds (history_given job) (known.written (word_given job.answers)) (streams_of before) result (streams_of after) × (after.files ≡ before.files)
-EndsAlone Task.Explain job known before result after = ExplainEnds (word_given job.refusal) result before.out after.out × OnlyPrints before after
-EndsAlone Task.Help job known before result after = HelpEnds result before.out after.out × OnlyPrints before after
-EndsAlone Task.Version job known before result after = PrintEnds version_line result before.out after.out × OnlyPrints before after
-EndsAlone _ job known before result after = MemoryEnds (streams_of before) result (streams_of after) × (after.files ≡ before.files)
 
 -- by the file that a job names, if any
 abbrev pub EndsFor : Option (Bor (List ℕ)) → Job → Known → Host → Result (Unit {0}) Failure → Host → Type 0

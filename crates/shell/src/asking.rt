@@ -1,15 +1,14 @@
 //! What is asked of an image.
-ghost use Rattle.std.specs.Prelude.{◌≡◌, ◌⊎◌, false, Ok, IfOk, OnOk, IfErr, IfSome};
+ghost use Rattle.std.specs.Prelude.{◌≡◌, Ok, IfOk, IfErr};
 ghost use Rattle.shell.specs.Asking.{file_spelled, tree_spelled, differences_spelled, of_ask, IsMisspelled};
-ghost use Rattle.host_files.specs.Files.{KeepsOthers, takes_away};
-ghost use Rattle.image_jobs.specs.Images.{IsUnclaimed, Unsaved};
+ghost use Rattle.host_files.specs.Files.{KeepsOthers};
 ghost use Rattle.shell.specs.Tools.{DiffEnds, status_of_told, IsTold, UntoldCause, TellEnds, GetEnds};
 
 use crate::path_word::path_of_word;
 use crate::view_word::view_of_word;
 use fs_types::Bytes;
-use host_files::{FileFault, ImageFiles, takes_away};
-use image_jobs::{Failure, claim, load, write_image};
+use host_files::ImageFiles;
+use image_jobs::{Failure, load, save_bytes, spare};
 use inquiries::{AskFault, Inquiry, ask};
 use script::write_out;
 use script_runs::Refusal;
@@ -29,7 +28,7 @@ pub(crate) fn get_file<F: ImageFiles>(
     ensures ends { GetEnds (file_spelled path.now view.entry) name.now file.now (F.held files.old) (F.held files.new) result }
     ensures others { KeepsOthers file.now (F.held files.old) (F.held files.new) }
 {
-    match spare_image(files, alloc, name, file) {
+    match spare(files, alloc, file, name) {
         Ok(()) => {}
         Err(failure) => return Err(failure),
     }
@@ -42,28 +41,6 @@ pub(crate) fn get_file<F: ImageFiles>(
         Err(failure) => return Err(failure),
     };
     save_bytes(files, alloc, file, bytes.as_slice())
-}
-
-/// Refused where to replace a file takes the image away.
-fn spare_image<F: ImageFiles>(
-    files: &F,
-    alloc: Global,
-    image: &str,
-    file: &str,
-) -> Result<(), Failure>
-    ensures ok { OnOk result (takes_away file.now image.now ≡ false) }
-    ensures err { IfErr result IsUnclaimed }
-{
-    match takes_away(alloc, file, image) {
-        Ok(false) => {}
-        Ok(true) => return Err(Failure::Unavailable),
-        Err(_) => return Err(Failure::Memory),
-    }
-    match files.takes_away(alloc, file, image) {
-        Ok(false) => Ok(()),
-        Err(FileFault::Memory) => Err(Failure::Memory),
-        _ => Err(Failure::Unavailable),
-    }
 }
 
 /// Writes the bytes of the file at a path of an image.
@@ -254,22 +231,6 @@ fn of_ask(fault: AskFault) -> Failure
     match fault {
         AskFault::Unmounted(fault) => Failure::of_system(fault),
         AskFault::Refused(fault) => Failure::of_refusal(Refusal::Fault(fault)),
-    }
-}
-
-/// Puts a file of these bytes in the place of what has a name, which is claimed first.
-fn save_bytes<F: ImageFiles>(
-    files: &mut F,
-    alloc: Global,
-    name: &str,
-    bytes: &[u8],
-) -> Result<(), Failure>
-    ensures ok { OnOk result (IfSome (F.held files.new name.now) (λ all. all ≡ bytes.now)) }
-    ensures err { IfErr result (λ failure. (IsUnclaimed failure × (F.held files.new ≡ F.held files.old)) ⊎ Unsaved (F.held files.old name.now) (F.held files.new name.now) bytes.now failure) }
-    ensures others { KeepsOthers name.now (F.held files.old) (F.held files.new) }
-{
-    match claim(files, alloc, name) {
-        Ok(()) => write_image(files, alloc, name, bytes),
-        Err(failure) => Err(failure),
+        AskFault::TooManyLines => Failure::TooManyLines,
     }
 }

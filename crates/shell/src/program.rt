@@ -4,21 +4,22 @@ ghost use Rattle.clap.specs.Words.{kind_of};
 ghost use Rattle.host_files.specs.Files.{ReadsClaimed};
 ghost use Rattle.script_runs.specs.Scripts.{streams_at};
 ghost use Rattle.image_jobs.specs.Images.{host_at};
-ghost use Rattle.shell.specs.Tools.{known_by, EndsOn, JobEnds, MemoryEnds, ToolEnds, MemoryBy, sizes_of, word_given, refused_status, is_memory};
+ghost use Rattle.shell.specs.Tools.{known_by, EndsAlone, EndsOn, JobEnds, MemoryEnds, ToolEnds, MemoryBy, sizes_of, word_given, refused_status, is_memory};
 
 use crate::about::{tell_help, tell_version};
 use crate::asking::{tell_differences, tell_file, tell_tree, tell_versions};
 use crate::explanations::explain;
 use crate::get::get_to;
 use crate::put::{Order, put_into_image};
-use crate::serving::serve_part;
+use crate::serving::{history_given, serve_part};
 use clap::Error;
 use clap::error::ErrorKind;
 use flash_model::Geometry;
 use history_jobs::change_history;
-use host_files::{Channels, ImageFiles, Sources};
+use host_files::{Channels, ImageFiles, Parts, Sources};
 use image_jobs::{Failure, check_image, format_image, look_at_image, run_image};
 use jobs::{Job, Task, job};
+use part_jobs::{format_part, image_to_part, part_to_image, serve_part_file};
 use script_runs::run_in_memory;
 use std::alloc::Global;
 use std::io::{Read, Write};
@@ -26,11 +27,11 @@ use std::io::{Read, Write};
 /// Carries out the words that follow the program's name, and answers the status.
 ///
 /// The subcommands, what each reads and writes, and the lines on `err` are those of docs/program.md.
-/// Status 0: the job ran to its end, whatever the replies to a script. 1: the image, the input, the
-/// output or memory failed. 2: the words were refused, or help was asked for. 3: the image, a format
-/// or a mount was refused. 4: what was asked for was refused, or a line of a script that is to stop
+/// Status 0: the job ran to its end, whatever the replies to a script. 1: the image, the part, the input,
+/// the output or memory failed. 2: the words were refused, or help was asked for. 3: the image, the part, a
+/// format or a mount was refused. 4: what was asked for was refused, or a line of a script that is to stop
 /// there. 5: trees differ, where the status is to tell it. Where it is 1 to 4, `err` says why.
-pub fn tool<F: ImageFiles + Sources + Channels, R: Read, W: Write, E: Write>(
+pub fn tool<F: ImageFiles + Sources + Channels + Parts, R: Read, W: Write, E: Write>(
     files: &mut F,
     alloc: Global,
     words: &[String],
@@ -38,7 +39,7 @@ pub fn tool<F: ImageFiles + Sources + Channels, R: Read, W: Write, E: Write>(
     out: &mut W,
     err: &mut E,
 ) -> u8
-    ensures ends { ToolEnds (map string_bytes words.now) (known_by (ReadsClaimed F.claims F.reads) (F.gathered files.old) (F.written files.old)) (host_at (F.held files.old) (R.remaining reader.old) (W.contents out.old)) result (host_at (F.held files.new) (R.remaining reader.new) (W.contents out.new)) }
+    ensures ends { ToolEnds (map string_bytes words.now) (known_by (ReadsClaimed F.claims F.reads) (F.gathered files.old) (F.written files.old) (F.placed files.old)) (host_at (F.held files.old) (R.remaining reader.old) (W.contents out.old)) result (host_at (F.held files.new) (R.remaining reader.new) (W.contents out.new)) }
     // The word `memory` is understood.
     ensures memory { IsTrue (is_memory (map string_bytes words.now)) → MemoryBy (streams_at (R.remaining reader.old) (W.contents out.old)) result (streams_at (R.remaining reader.new) (W.contents out.new)) }
 {
@@ -59,6 +60,8 @@ pub fn tool<F: ImageFiles + Sources + Channels, R: Read, W: Write, E: Write>(
 fn read_by(job: Job<'_>) -> &str {
     match job.command {
         Task::Serve => word_given(job.answers),
+        Task::ServePart => word_given(job.part),
+        Task::FromPart => word_given(job.file),
         _ => word_given(job.image),
     }
 }
@@ -66,8 +69,9 @@ fn read_by(job: Job<'_>) -> &str {
 /// The name of what a job writes.
 fn written_by(job: Job<'_>) -> &str {
     match job.command {
-        Task::Get => word_given(job.file),
+        Task::Get | Task::ToPart => word_given(job.file),
         Task::Serve => word_given(job.orders),
+        Task::ServePart | Task::FormatPart => word_given(job.part),
         _ => word_given(job.image),
     }
 }
@@ -89,7 +93,7 @@ fn refuse<E: Write>(error: &Error, err: &mut E) -> u8
 }
 
 /// Does a job.
-fn carry_out<F: ImageFiles + Sources + Channels, R: Read, W: Write, E: Write>(
+fn carry_out<F: ImageFiles + Sources + Channels + Parts, R: Read, W: Write, E: Write>(
     files: &mut F,
     alloc: Global,
     job: Job<'_>,
@@ -97,22 +101,43 @@ fn carry_out<F: ImageFiles + Sources + Channels, R: Read, W: Write, E: Write>(
     out: &mut W,
     err: &mut E,
 ) -> Result<(), Failure>
-    ensures { JobEnds job.entry (known_by (ReadsClaimed F.claims F.reads) (F.gathered files.old) (F.written files.old)) (host_at (F.held files.old) (R.remaining reader.old) (W.contents out.old)) result (host_at (F.held files.new) (R.remaining reader.new) (W.contents out.new)) }
+    ensures { JobEnds job.entry (known_by (ReadsClaimed F.claims F.reads) (F.gathered files.old) (F.written files.old) (F.placed files.old)) (host_at (F.held files.old) (R.remaining reader.old) (W.contents out.old)) result (host_at (F.held files.new) (R.remaining reader.new) (W.contents out.new)) }
 {
     match job.image {
         Some(name) => do_task(files, alloc, job, name, reader, out, err),
-        None => match job.command {
-            Task::Explain => explain(alloc, word_given(job.refusal), out),
-            Task::Help => tell_help(alloc, out),
-            Task::Version => tell_version(alloc, out),
-            Task::Serve => serve_part(files, alloc, job, reader, out),
-            _ => play_in_memory(alloc, reader, out),
-        },
+        None => do_alone(files, alloc, job, reader, out),
     }
 }
 
-/// Does a task on a file.
-fn do_task<F: ImageFiles + Sources + Channels, R: Read, W: Write, E: Write>(
+/// Does a task that is done on no image.
+fn do_alone<F: ImageFiles + Channels + Sources + Parts, R: Read, W: Write>(
+    files: &mut F,
+    alloc: Global,
+    job: Job<'_>,
+    reader: &mut R,
+    out: &mut W,
+) -> Result<(), Failure>
+    ensures { EndsAlone job.entry.command job.entry (known_by (ReadsClaimed F.claims F.reads) (F.gathered files.old) (F.written files.old) (F.placed files.old)) (host_at (F.held files.old) (R.remaining reader.old) (W.contents out.old)) result (host_at (F.held files.new) (R.remaining reader.new) (W.contents out.new)) }
+{
+    match job.command {
+        Task::Serve => serve_part(files, alloc, job, reader, out),
+        Task::ServePart => {
+            let part = word_given(job.part);
+            serve_part_file(files, alloc, part, history_given(job), reader, out)
+        }
+        Task::FormatPart => {
+            let part = word_given(job.part);
+            format_part(files, alloc, part, sizes_of(job), job.history)
+        }
+        Task::Explain => explain(alloc, word_given(job.refusal), out),
+        Task::Help => tell_help(alloc, out),
+        Task::Version => tell_version(alloc, out),
+        _ => play_in_memory(alloc, reader, out),
+    }
+}
+
+/// Does a task on an image.
+fn do_task<F: ImageFiles + Sources + Channels + Parts, R: Read, W: Write, E: Write>(
     files: &mut F,
     alloc: Global,
     job: Job<'_>,
@@ -121,7 +146,7 @@ fn do_task<F: ImageFiles + Sources + Channels, R: Read, W: Write, E: Write>(
     out: &mut W,
     err: &mut E,
 ) -> Result<(), Failure>
-    ensures { EndsOn job.entry name.now (known_by (ReadsClaimed F.claims F.reads) (F.gathered files.old) (F.written files.old)) (host_at (F.held files.old) (R.remaining reader.old) (W.contents out.old)) result (host_at (F.held files.new) (R.remaining reader.new) (W.contents out.new)) }
+    ensures { EndsOn job.entry name.now (known_by (ReadsClaimed F.claims F.reads) (F.gathered files.old) (F.written files.old) (F.placed files.old)) (host_at (F.held files.old) (R.remaining reader.old) (W.contents out.old)) result (host_at (F.held files.new) (R.remaining reader.new) (W.contents out.new)) }
 {
     match job.command {
         Task::Format => format_image(files, alloc, name, sizes_of(job), job.history),
@@ -142,11 +167,12 @@ fn do_task<F: ImageFiles + Sources + Channels, R: Read, W: Write, E: Write>(
         Task::Check => check_image(files, alloc, name, out),
         Task::Log => look_at_image(files, alloc, name, b"log\n", out),
         Task::Df => look_at_image(files, alloc, name, b"df\n", out),
-        Task::Memory => play_in_memory(alloc, reader, out),
-        Task::Serve => serve_part(files, alloc, job, reader, out),
-        Task::Explain => explain(alloc, word_given(job.refusal), out),
-        Task::Help => tell_help(alloc, out),
-        Task::Version => tell_version(alloc, out),
+        Task::ToPart => image_to_part(files, alloc, name, word_given(job.file)),
+        Task::FromPart => part_to_image(files, alloc, word_given(job.file), name),
+        Task::Memory | Task::Serve | Task::ServePart | Task::FormatPart => {
+            do_alone(files, alloc, job, reader, out)
+        }
+        Task::Explain | Task::Help | Task::Version => do_alone(files, alloc, job, reader, out),
     }
 }
 

@@ -60,7 +60,7 @@ fn unreached(fault: FileFault, failed: Failure) -> Failure
 }
 
 /// How many versions are kept by the file system that is made first, where one is.
-fn history_given(job: Job<'_>) -> Option<u32>
+pub(crate) fn history_given(job: Job<'_>) -> Option<u32>
     ensures { result ≡ history_given job.entry }
 {
     if job.is_history_given {

@@ -4,6 +4,8 @@
 #[cfg(test)]
 mod counted_flash;
 #[cfg(test)]
+mod flat_part;
+#[cfg(test)]
 mod programs;
 #[cfg(test)]
 mod retries;

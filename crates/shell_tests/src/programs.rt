@@ -3,8 +3,10 @@
 ghost use Rattle.std.specs.Prelude.{◌≡◌, codes};
 ghost use Rattle.std.specs.Str.{bytes_eq};
 
+use crate::flat_part::FlatPart;
 use crate::scripts::{Broken, Full};
-use host_files::{Channels, FileFault, ImageFiles, MOST_BYTES, Source, SourceKind, Sources};
+use host_files::{Channels, FileFault, ImageFiles, MOST_BYTES, Parts, Source, SourceKind, Sources};
+use image_makers::many_paths;
 use program_calls::{Wanted, call, erased_image, first_other, fresh_image, words_of};
 use shell::tool;
 use std::alloc::{AllocError, Global};
@@ -142,6 +144,22 @@ impl Channels for OneFile {
     }
 }
 
+/// A part is opened as a copy of the one file, of which a program that is not shown may have taken it.
+impl Parts for OneFile {
+    type Part = FlatPart;
+
+    fn open_part(&self, alloc: Global, name: &str) -> Result<FlatPart, FileFault> {
+        if self.is_taken {
+            return Err(FileFault::Failed);
+        }
+        let bytes = if is_x(name) { self.bytes.as_slice() } else { Y };
+        match Vec::from_slice(alloc, bytes) {
+            Ok(bytes) => Ok(FlatPart { bytes }),
+            Err(_) => Err(FileFault::Memory),
+        }
+    }
+}
+
 /// Asserts what calls of the program give, one after the other.
 fn assert_calls<R: Abort>(
     rt: &R,
@@ -193,6 +211,71 @@ fn a_driver_that_is_not_reached_is_told(rt: HostRuntime) -> Result<(), Fail> {
         ),
     ];
     assert_calls(&rt, &mut files, rt.alloc(), &calls)
+}
+
+#[test]
+fn a_part_is_made_and_served(rt: HostRuntime) -> Result<(), Fail> {
+    let mut files = OneFile::new(rt.alloc());
+    let made = "log next 2 dropped 0 versions *1 checkpoints\n";
+    let served = "ok\nok\nentries 1 a/\nerr SYNTAX\n";
+    let calls: [Wanted<'_>; 4] = [
+        (&["format", "--part", "x"], "", (0, "", "")),
+        (&["serve", "--part", "x"], "log\n", (0, made, "")),
+        (
+            &["serve", "--part", "x"],
+            "mkdir /a\nsync\nls /\nfault read 1\n",
+            (0, served, ""),
+        ),
+        (
+            &["from-part", "x", "x"],
+            "",
+            (1, "", "uffs: cannot write x\n"),
+        ),
+    ];
+    assert_calls(&rt, &mut files, rt.alloc(), &calls)?;
+    assert!(rt; files.bytes.starts_with(b"UFFSPART"));
+    assert_eq!(rt; files.bytes.len(), 4096 + 4096 + 131_072);
+    Ok(())
+}
+
+/// A script on the part in the one file.
+const SERVED: &[&str] = &["serve", "--part", "x"];
+
+/// Changes a byte of a file, if it has so many.
+fn put_byte(files: &mut OneFile, place: usize, byte: u8) {
+    if let Some(old) = files.bytes.get_mut(place) {
+        *old = byte;
+    }
+}
+
+/// Asserts that a part is refused, with this status and message.
+fn assert_no_part<R: Abort>(
+    rt: &R,
+    files: &mut OneFile,
+    alloc: Global,
+    status: u8,
+    told: &str,
+) -> Result<(), Fail> {
+    assert_calls(rt, files, alloc, &[(SERVED, "ls /\n", (status, "", told))])
+}
+
+#[test]
+fn a_part_that_is_not_had_is_told(rt: HostRuntime) -> Result<(), Fail> {
+    let alloc = rt.alloc();
+    let mut files = OneFile::new(alloc);
+    assert_no_part(&rt, &mut files, alloc, 1, "uffs: cannot read x\n")?;
+    let made: [Wanted<'_>; 1] = [(&["format", "--part", "x"], "", (0, "", ""))];
+    assert_calls(&rt, &mut files, alloc, &made)?;
+    files.bytes.truncate(8192 + 256 * 5);
+    assert_no_part(&rt, &mut files, alloc, 1, "uffs: cannot read page 5 of x\n")?;
+    put_byte(&mut files, 4096, 3);
+    assert_no_part(&rt, &mut files, alloc, 3, "uffs: part BadState\n")?;
+    put_byte(&mut files, 8, 1);
+    assert_no_part(&rt, &mut files, alloc, 3, "uffs: part BadGeometry\n")?;
+    put_byte(&mut files, 7, 0);
+    assert_no_part(&rt, &mut files, alloc, 3, "uffs: part NotPart\n")?;
+    files.is_taken = true;
+    assert_no_part(&rt, &mut files, alloc, 1, "uffs: cannot write x\n")
 }
 
 #[test]
@@ -623,4 +706,45 @@ fn a_tree_that_cannot_be_written_is_told(rt: HostRuntime) -> Result<(), Fail> {
     assert_eq!(rt; (status, err.as_slice()), (1, &b"uffs: output\n"[..]));
     assert_eq!(rt; out.bytes.as_slice(), b"/d".as_slice());
     Ok(())
+}
+
+// By hand: 15 levels of four names, and a file of two bytes below each path. Below a directory of the last
+// level stand 1 entry and 2 bytes, and below one of the level before four times one more entry and four
+// times the bytes. Each version keeps its root alone.
+#[test]
+fn trees_that_share_directories_are_counted(rt: HostRuntime) -> Result<(), Fail> {
+    let alloc = rt.alloc();
+    let mut files = OneFile::new(alloc);
+    files.bytes = many_paths(alloc, 4)?;
+    let versions = "@1 entries 2505397588 bytes 2147483648 frees 1 alone 1\n\
+        @3 entries 1879048191 bytes 1610612736 alone 1 present\n";
+    let refused = (4, "", "uffs: TOOMANYLINES\n");
+    let calls: [Wanted<'_>; 7] = [
+        (&["check", "x"], "", (0, "ok\n", "")),
+        (&["versions", "x"], "", (0, versions, "")),
+        (&["tree", "x"], "", refused),
+        (&["tree", "x", "@1"], "", refused),
+        (&["diff", "x", "@1"], "", refused),
+        (&["diff", "x", "@1", "@1"], "", (0, "", "")),
+        (&["diff", "x", "@3", "--exit-code"], "", (0, "", "")),
+    ];
+    assert_calls(&rt, &mut files, alloc, &calls)
+}
+
+#[test]
+fn sums_past_the_greatest_number_are_told(rt: HostRuntime) -> Result<(), Fail> {
+    let alloc = rt.alloc();
+    let mut files = OneFile::new(alloc);
+    files.bytes = many_paths(alloc, 32)?;
+    let past = ">18446744073709551615";
+    let versions = format!(in alloc;
+        "@1 entries {past} bytes {past} frees 1 alone 1\n@3 entries {past} bytes {past} alone 1 present\n"
+    )?;
+    let refused = (4, "", "uffs: TOOMANYLINES\n");
+    let calls: [Wanted<'_>; 3] = [
+        (&["versions", "x"], "", (0, versions.as_str(), "")),
+        (&["tree", "x"], "", refused),
+        (&["diff", "x", "@1"], "", refused),
+    ];
+    assert_calls(&rt, &mut files, alloc, &calls)
 }

@@ -18,6 +18,7 @@ fn event_of(alloc: Global, line: &str) -> Result<Event, Fault> {
     match read_line(alloc, line.as_bytes())? {
         Line::Call(call) => Ok(Event::Call(call)),
         Line::ReclaimStep(budget) => Ok(Event::ReclaimStep(budget)),
+        Line::CleanStep(budget) => Ok(Event::CleanStep(budget)),
         Line::Restart => Ok(Event::Restart),
         _ => Err(Fault::Invalid),
     }

@@ -12,3 +12,4 @@ pub mod Places
 pub mod Marks
 pub mod Kept
 pub mod Counted
+pub mod Compared

@@ -5,6 +5,7 @@
 mod body;
 mod change;
 mod changes;
+mod comparisons;
 mod new_nodes;
 mod old_nodes;
 mod range_reads;
@@ -13,4 +14,5 @@ mod table;
 
 pub use body::Body;
 pub use changes::{set_length, write_range};
+pub use comparisons::has_bytes;
 pub use range_reads::{LEAST_SCAN, read_range};

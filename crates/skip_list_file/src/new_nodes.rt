@@ -1,11 +1,12 @@
 //! The nodes of a changed body, each written after those before it.
-ghost use Rattle.std.specs.Prelude.{◌≡◌, ℕ, ◌+◌, ◌-◌, ◌*◌, ◌^◌, ◌<◌, ◌≤◌, length, drop, replicate, slice_index, OnOk, IfOk, IfErr};
+ghost use Rattle.std.specs.Prelude.{◌≡◌, ℕ, ◌+◌, ◌-◌, ◌*◌, ◌^◌, ◌<◌, ◌≤◌, true, false, length, drop, replicate, slice_index, Some, OnOk, IfOk, IfErr};
 ghost use Rattle.fs_types.specs.declared.limits.TheConstants.{MAX_FILE_BYTES};
-ghost use Rattle.node_format.specs.Headers.{body_header};
+ghost use Rattle.node_format.specs.Headers.{body_header, IsNode};
 ghost use Rattle.node_format.specs.BodyNodes.{HasSlot, IsBodySpelling};
 ghost use Rattle.node_format.specs.declared.headers.TheConstants.{SLOTS};
 ghost use Rattle.plain_trees.specs.Contents.{read_from};
 ghost use Rattle.block_trees.specs.Bodies.{head_index};
+ghost use Rattle.node_store.specs.Faults.{IsWriteFault};
 ghost use Rattle.node_store.specs.Frames.{OnlyLooks, Works};
 ghost use Rattle.skip_list_file.specs.Reading.{AreBlocks, HoldsBody, IsBodyFault};
 ghost use Rattle.skip_list_file.specs.Writing as spec;
@@ -102,6 +103,29 @@ fn edited_node<N: Nodes>(
     Ok(node)
 }
 
+/// Writes a node, and answers its block. It stays in memory where it is the last one of its body.
+fn write_new<N: Nodes>(nodes: &mut N, node: Vec<u8>, is_last: bool) -> Result<u32, Fault>
+    requires sound { N.is_sound nodes.old }
+    requires whole { IsNode (N.limit nodes.old) node.items }
+
+    // The block, or why there is none.
+    ensures fresh { IfOk result (λ block. N.kept nodes.old block ≡ false) }
+    ensures kept { IfOk result (λ block. N.kept nodes.new block ≡ true) }
+    ensures written { IfOk result (λ block. N.node nodes.new block ≡ Some node.items) }
+    ensures refused { IfErr result (λ fault. IsWriteFault fault × N.causes nodes.old nodes.new fault) }
+
+    // One write, and no read.
+    ensures reads { N.reads nodes.new ≡ N.reads nodes.old }
+    ensures writes { N.writes nodes.new ≡ N.writes nodes.old + 1 }
+    ensures works { Works N.follows N.is_sound N.limit N.blocks nodes.old nodes.new }
+{
+    let block = nodes.write_owned(node)?;
+    if !is_last {
+        nodes.supersede(block);
+    }
+    Ok(block)
+}
+
 /// Writes one node after a body of full nodes, and answers its block. Its slots are those of the
 /// table, which takes it in.
 fn append<N: Nodes>(
@@ -110,6 +134,7 @@ fn append<N: Nodes>(
     head: u32,
     index: u32,
     node: Vec<u8>,
+    is_last: bool,
 ) -> Result<u32, Fault>
     // The nodes before the index.
     requires sound { N.is_sound nodes.old }
@@ -129,13 +154,13 @@ fn append<N: Nodes>(
     ensures refused { IfErr result (λ fault. IsWritingFault fault × N.causes nodes.old nodes.new fault) }
     ensures works { Works N.follows N.is_sound N.limit N.blocks nodes.old nodes.new }
 {
-    let block = nodes.write_owned(node)?;
+    let block = write_new(nodes, node, is_last)?;
     table.move_on(index, block);
     Ok(block)
 }
 
 /// Writes the node of an index of a body that is changed, after the nodes before it, and answers its
-/// block. `old` are the listed blocks of the old body.
+/// block. It stays in memory where it is the last one. `old` are the listed blocks of the old body.
 pub(crate) fn write_node<N: Nodes>(
     alloc: Global,
     nodes: &mut N,
@@ -166,5 +191,6 @@ pub(crate) fn write_node<N: Nodes>(
     ensures works { Works N.follows N.is_sound N.limit N.blocks nodes.old nodes.new }
 {
     let node = edited_node(alloc, nodes, change, bytes, old, &table.blocks, index)?;
-    append(nodes, table, head, index, node)
+    let is_last = change.size - index * change.capacity <= change.capacity;
+    append(nodes, table, head, index, node, is_last)
 }

@@ -10,7 +10,7 @@ ghost use Rattle.node_store.specs.Frames.{OnlyLooks};
 
 use crate::body::Body;
 use crate::change::Change;
-use crate::range_reads::{copy_data, find, pointer_at};
+use crate::range_reads::{copy_part, find, pointer_at};
 use fs_types::Fault;
 use node_store::Nodes;
 use std::alloc::Global;
@@ -80,8 +80,8 @@ fn find_listed<N: Nodes>(
 }
 
 /// Fills a slice of zeros with those bytes of a body that a change whose bytes end at `end` keeps, from
-/// the first byte of the node of an index on. The node is read where there is one, and then once; it is
-/// not kept in memory, since its successor is written next.
+/// the first byte of the node of an index on. The node is read where there is one, and then once, by the
+/// pages that hold the bytes; it is not kept in memory, since its successor is written next.
 /// `old` are the listed blocks of the body.
 pub(crate) fn read_kept<N: Nodes>(
     nodes: &mut N,
@@ -127,7 +127,7 @@ pub(crate) fn read_kept<N: Nodes>(
         old,
         index,
     )?;
-    copy_data(nodes, block, 0, &mut out[..kept as usize])?;
+    copy_part(nodes, block, 0, &mut out[..kept as usize])?;
     nodes.supersede(block);
     Ok(())
 }

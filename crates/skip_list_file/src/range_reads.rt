@@ -117,7 +117,12 @@ pub(crate) fn copy_data<N: Nodes>(
 }
 
 /// Fills a slice with the data of a body node from a place on, by the pages that hold it.
-fn copy_part<N: Nodes>(nodes: &mut N, block: u32, from: u32, out: &mut [u8]) -> Result<(), Fault>
+pub(crate) fn copy_part<N: Nodes>(
+    nodes: &mut N,
+    block: u32,
+    from: u32,
+    out: &mut [u8],
+) -> Result<(), Fault>
     // The block holds a body node with so many bytes.
     requires sound { N.is_sound nodes.old }
     requires node { (index : ℕ) × (index_of (N.node nodes.old block) ≡ Some index) }

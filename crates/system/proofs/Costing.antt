@@ -3,10 +3,11 @@ use Rattle.std.proofs.Common.{◌≡◌, inl, inr, Option, Some, None, Ok, ℕ, 
 use Rattle.std.proofs.lemmas.List.{append-nil}
 use Rattle.std.specs.Prelude.{IfSome, unwrap_or}
 use Rattle.std.specs.FinSet as set
+use Rattle.std.specs.List.{sum_by}
 use Rattle.std.specs.Ordering.{nat_cmp}
 use Rattle.std.proofs.Math.Nat.{add-mul, mul-le-mul_right}
 use Rattle.flash_model.specs.Device.{Device}
-use Rattle.flash_model.specs.Geometry.{IsGeometry}
+use Rattle.flash_model.specs.Geometry.{IsGeometry, block_bytes}
 use Rattle.flash_model.specs.Reading.{OnlyReads}
 use Rattle.flash_model.specs.declared.geometry.Geometry.{Geometry}
 use Rattle.node_store.specs.NodePages.{node_of}
@@ -15,10 +16,10 @@ use Rattle.node_store.specs.Stores.{Follows}
 use Rattle.node_store.specs.declared.store.Store.{Store}
 use Rattle.block_trees.specs.Bodies.{Blocks}
 use Rattle.reclaim.specs.Passes.{Pass, IsPass, AreReached, HasRead}
-use Rattle.reclaim.specs.Verified.{most_reads}
+use Rattle.reclaim.specs.Verified.{all_pages}
 use Rattle.record_format.specs.declared.record.Record.{Record}
 use Rattle.commit_pair.specs.Newest.{committed_on}
-use Rattle.mounting.specs.Costs.{AsksToVerify}
+use Rattle.mounting.specs.Costs.{AsksToVerify, verify_pages}
 use Rattle.system.specs.Reclaiming.{AsksForRest, AsksToStep, GoesOnFrom, marking_of}
 use Rattle.system.specs.Mounts.{AsksToMount, scan_pages}
 use Rattle.mounting.specs.Records.{history_of, roots_of, working_roots}
@@ -95,5 +96,7 @@ asks_to_mount d e new r lawful holds reads scan verify = record {
     nodes : node_of e ≡ node_of d
     nodes = OnlyReads_nodes d e lawful reads
 
-    counts : most_reads (node_of e) verify.blocks * e.geometry.pages ≡ most_reads (node_of d) verify.blocks * d.geometry.pages
-    counts = ap (λ (f : Blocks). most_reads f verify.blocks * e.geometry.pages) nodes ∙ ap (λ (g : Geometry). most_reads (node_of d) verify.blocks * g.pages) reads.geometry
+    counts : verify_pages e verify.blocks ≡ verify_pages d verify.blocks
+    counts =
+        ap (λ (f : Blocks). sum_by (λ b. all_pages e.geometry.page (block_bytes e.geometry) (f b)) verify.blocks) nodes
+        ∙ ap (λ (g : Geometry). sum_by (λ b. all_pages g.page (block_bytes g) (node_of d b)) verify.blocks) reads.geometry

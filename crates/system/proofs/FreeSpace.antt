@@ -1,5 +1,5 @@
 -- The blocks that are free once versions are forgotten, by the first root that reaches each.
-use Rattle.std.proofs.Common.{◌≡◌, ◌↔◌, ◌⊎◌, inl, inr, ℕ, suc, ◌+◌, ◌-◌, ◌<◌, ◌≤◌, Bool, true, ◌||◌, not, Result, Ok, Err, List, [], ◌++◌, length, take, drop, reverse, map, get_or, count_by, refl, sym, ap, subst, ◌∙◌, arith}
+use Rattle.std.proofs.Common.{◌≡◌, ℕ, ◌+◌, ◌-◌, ◌<◌, ◌≤◌, Bool, Result, Ok, Err, List, ◌++◌, length, take, drop, reverse, map, get_or, count_by, refl, sym, ap, subst, ◌∙◌, arith}
 use Rattle.std.proofs.lemmas.List.{length-append, length-map, length-reverse, length-take-le, length-drop, get_or-take, get_or-drop, get_or-reverse, take_all, drop-append-le, drop-map}
 use Rattle.std.specs.FinSet as set
 use Rattle.std.specs.Prelude.{Contains}
@@ -17,7 +17,6 @@ use Rattle.block_trees.specs.Reached.{Reached}
 use Rattle.reclaim.proofs.MoreRoots.{reached_more}
 use Rattle.space_counts.specs.Counts.{CountsFree}
 use Rattle.working_state.specs.Mounted.{IsMounted}
-use Rattle.working_state.specs.Roots.{IsReached}
 use Rattle.working_state.specs.Seen.{seen_on, tree_on}
 use Rattle.working_state.specs.Worked.{ReadCause}
 use Rattle.working_state.specs.declared.state.State.{State}

@@ -17,3 +17,9 @@ pub mod Twice
 pub mod FreeSpace
 pub mod HistoryLooks
 pub mod Forgetting
+pub mod TreeSizes
+pub mod VersionSpaces
+pub mod LooksAsDf
+pub mod SpaceLaws
+pub mod ToldBefore
+pub mod Cleaned

@@ -145,6 +145,7 @@ heavy_call m (Call.Pwrite descriptor offset []) some = absurd (by (descriptor_at
     by : (o : Option Descriptor) → is_some (option_map_or (pwrite_tree m offset []) o None) ≡ true → ⊥
     by None wrong = true≢false (sym wrong)
     by (Some d) wrong = true≢false (sym wrong)
+heavy_call m (Call.WriteFiles directory []) some = absurd (true≢false (sym some))
 heavy_call m _ some = refl
 
 -- what is known of a call that found the flash full

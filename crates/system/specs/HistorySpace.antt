@@ -1,5 +1,5 @@
 -- What is free once versions are forgotten, and how many have to be for so many blocks.
-use Rattle.std.specs.Prelude.{◌≡◌, ◌≢◌, ℕ, zero, suc, ◌+◌, ◌<◌, ◌≤◌, ◌||◌, Bool, true, false, is_some, None, Option, Result, Ok, Err, IfErr}
+use Rattle.std.specs.Prelude.{◌≡◌, ℕ, zero, suc, ◌<◌, ◌≤◌, true, false, is_some, None, Result, Ok, Err}
 use Rattle.history_machine.specs.History.{forgotten}
 use Rattle.history_machine.specs.Machine.{Space}
 use Rattle.fs_types.specs.declared.call.Call.{Call}
@@ -9,7 +9,7 @@ use Rattle.fs_types.specs.declared.fault.Fault.TheVariants.{FlashFull, PowerCut,
 use Rattle.flash_model.specs.Device.{Device}
 use Rattle.working_state.specs.Roots.{IsSpace}
 use Rattle.working_state.specs.Seen.{seen_on}
-use Rattle.working_state.specs.Steps.{is_cut_answer, replied, empty}
+use Rattle.working_state.specs.Steps.{is_cut_answer}
 use Rattle.working_state.specs.Worked.{ReadCause}
 use Rattle.working_state.specs.declared.state.State.{State}
 use Rattle.mounting.specs.Costs.{AsksEach}
@@ -63,6 +63,12 @@ pub record Looks {T : Type 0} (old : Device) (m : System) (result : Result T Fau
   pub record_roots : n.record_roots ≡ m.record_roots
   pub off : n.state.is_off ≡ is_cut_answer result
 
+-- a look is as a call `df`, which is answered Ok where the nodes were read
+abbrev pub df_answer : Reply → Result ℕ Fault → Result Reply Fault
+df_answer reply (Ok count) = Ok reply
+df_answer reply (Err FlashFull) = Ok reply
+df_answer reply (Err fault) = Err fault
+
 -- what follows on what was found: a call `forget` of so many versions, where any are to be forgotten
 abbrev pub ForgetsFound : Result ℕ Fault → Device → System → Result ℕ Fault → Device → System → Type 0
 ForgetsFound (Err fault) old m result new n = (result ≡ Err fault) × (new ≡ old) × (n ≡ m)
@@ -79,6 +85,7 @@ pub record LooksAndForgets (old : Device) (m : System) (blocks : ℕ) (result : 
   pub mounted : IsSystem device system
   pub finds : Finds old m.state blocks found device system.state
   pub asks : AsksEach old (working_roots m.state) device
+  pub as_df : (reply : Reply) × SystemStep old m Call.Df (df_answer reply found) device system
   pub forgets : ForgetsFound found device system result new n
 
 -- the fewest versions are forgotten that leave so many blocks free. Once a call has answered that the power is off, nothing

@@ -1,3 +1,4 @@
+pub mod Cleaning
 pub mod Commits
 pub mod Moments
 pub mod Mounts
@@ -7,3 +8,6 @@ pub mod Rooms
 pub mod Steps
 pub mod Systems
 pub mod HistorySpace
+pub mod TreeSizes
+pub mod VersionSpace
+pub mod SpaceLaws

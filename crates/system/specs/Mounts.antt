@@ -4,7 +4,6 @@ use Rattle.fs_types.specs.declared.limits.TheConstants.{ANCHORS}
 use Rattle.flash_model.specs.Device.{Device}
 use Rattle.node_store.specs.NodePages.{node_of}
 use Rattle.reclaim.specs.Passes.{AreReached}
-use Rattle.reclaim.specs.Verified.{most_reads}
 use Rattle.record_format.specs.declared.record.Record.{Record}
 use Rattle.commit_pair.specs.Parts.{parts_on}
 use Rattle.commit_pair.specs.Newest.{committed_on}
@@ -15,7 +14,7 @@ use Rattle.flash_model.specs.Geometry.{IsGeometry}
 use Rattle.commit_pair.specs.Laws.{HasNone, HasTie}
 use Rattle.commit_pair.specs.Remembering.{KnowsNewest}
 use Rattle.system.specs.declared.systems.System.{System}
-use Rattle.mounting.specs.Costs.{record_pages}
+use Rattle.mounting.specs.Costs.{record_pages, verify_pages}
 
 -- each page of the anchors, and those of the newest record once more
 abbrev pub scan_pages : Device → ℕ
@@ -28,7 +27,7 @@ pub record AsksToMount (old new : Device) : Type 0 where
   pub holds : committed_on old ≡ Some (Ok newest)
   pub blocks : List ℕ
   pub are : AreReached (node_of old) (roots_of (history_of newest)) blocks
-  pub most : new.operations ≤ old.operations + scan_pages old + most_reads (node_of old) blocks * old.geometry.pages
+  pub most : new.operations ≤ old.operations + scan_pages old + verify_pages old blocks
 
 -- a mount that was refused asked for the pages of the anchors and of the newest record at most, or for what one may
 -- that is answered
@@ -43,6 +42,7 @@ pub record IsMountOf (old new : Device) (system : System) : Type 0 where
   pub loaded : IsLoaded new newest system.state
   pub remembers : KnowsNewest new system.state.storage.bad system.anchors
   pub pass : system.pass ≡ None
+  pub cleaned_to : system.cleaned_to ≡ 0
 
 -- the newest record is sound, but some version or checkpoint of it has no tree
 abbrev pub LacksTrees : Device → Type 0

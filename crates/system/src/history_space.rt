@@ -1,5 +1,7 @@
 //! How many versions have to be forgotten for so many blocks to be free.
 ghost use Rattle.std.specs.Prelude.{◌≡◌, ◌≢◌, ◌≤◌, ◌+◌, ℕ, false, length, reverse, IfOk, IfErr};
+ghost use Rattle.fs_types.specs.declared.call.Call.{Call};
+ghost use Rattle.fs_types.specs.declared.call.Reply.{Reply};
 ghost use Rattle.flash_model.specs.Device.{Device};
 ghost use Rattle.node_store.specs.NodePages.{node_of};
 ghost use Rattle.mounting.specs.Costs.{AsksEach};
@@ -8,7 +10,8 @@ ghost use Rattle.working_state.specs.Moments.{moment};
 ghost use Rattle.working_state.specs.Mounted.{IsMounted};
 ghost use Rattle.working_state.specs.Worked.{IsLooked};
 ghost use Rattle.space_counts.specs.FirstRoots.{AreFirstRoots};
-ghost use Rattle.system.specs.HistorySpace.{FreeAfter, Finds, FindsIn, ForgetsUntil, Looks};
+ghost use Rattle.system.specs.HistorySpace.{FreeAfter, Finds, FindsIn, ForgetsUntil, Looks, df_answer};
+ghost use Rattle.system.specs.Steps.{SystemStep};
 ghost use Rattle.system.specs.Systems.{IsSystem};
 
 use crate::systems::System;
@@ -62,6 +65,7 @@ impl System {
         ensures looks { Looks (F.device flash.old) self.old result (F.device flash.new) self.new }
         ensures finds { Finds (F.device flash.old) self.old.state blocks result (F.device flash.new) self.new.state }
         ensures asks { AsksEach (F.device flash.old) (working_roots self.old.state) (F.device flash.new) }
+        ensures as_df { (reply : Reply) × SystemStep (F.device flash.old) self.old Call.Df (df_answer reply result) (F.device flash.new) self.new }
     {
         let found = find_least(&mut self.state, alloc, flash, blocks);
         self.state.remember_cut(found)

@@ -1,14 +1,21 @@
 //! A file system that is mounted on a flash: its working state beside the newest record, commits, the
-//! second try of a call that finds the flash full, and the marking that makes room.
+//! second try of a call that finds the flash full, the marking that makes room, and the cleaning of free
+//! blocks.
 #![tactic(auto)]
 
+mod cleaning;
 mod forgotten;
 mod history_space;
+mod laws;
 mod mounts;
 mod passes;
 mod room;
 mod space;
 mod systems;
+mod tree_sizes;
+mod version_space;
 
+pub use laws::space_laws;
 pub use mounts::{mount, mount_with};
 pub use systems::System;
+pub use version_space::{HistorySpace, VersionSpace};

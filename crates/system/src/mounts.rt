@@ -44,6 +44,7 @@ fn mount_cached<F: Flash>(alloc: Global, flash: &mut F, cache: NodeCache) -> Res
         anchors,
         record_roots,
         pass: None,
+        cleaned_to: 0,
     })
 }
 

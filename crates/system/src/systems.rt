@@ -24,8 +24,8 @@ use record_format::Record;
 use std::alloc::Global;
 use working_state::State;
 
-/// A mounted system: its working state, what is known of the newest record, and the marking that goes
-/// on.
+/// A mounted system: its working state, what is known of the newest record, the marking that goes on, and
+/// how far a round of cleaning has come.
 #[derive(Drop)]
 pub struct System {
     /// The versions and checkpoints, the change group that is open, if one is, what nodes are kept with,
@@ -37,6 +37,8 @@ pub struct System {
     pub record_roots: Vec<u32>,
     /// The marking of used blocks that goes on beside the calls, where one was begun.
     pub pass: Option<Pass>,
+    /// The block at which a round of cleaning goes on; 0 where a new one begins.
+    pub cleaned_to: u32,
 }
 
 impl System {

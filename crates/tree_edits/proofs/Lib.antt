@@ -3,3 +3,4 @@ pub mod NewRoots
 pub mod NewBytes
 pub mod Needs
 pub mod NeedLaws
+pub mod ManyFiles

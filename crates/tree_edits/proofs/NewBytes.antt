@@ -52,12 +52,12 @@ file_shape : (capacity : ℕ) (f : Blocks) (head size : ℕ) → IsBody capacity
 file_shape capacity f head size is [] there e = (subst (IsWholePlace capacity f) (place_is (File head size) there e) is, omega arith)
 file_shape capacity f head size is (n ∷ q) there e = absurd cc
 
-record StaysBody (capacity : ℕ) (new : Blocks) (kept : ℕ → Bool) (head size : ℕ) (bytes : List ℕ) : Type 0 where
-  whole : IsBody capacity new head size
-  shown : body capacity new head size ≡ bytes
-  held : IsHeld new kept (File head size)
+pub record StaysBody (capacity : ℕ) (new : Blocks) (kept : ℕ → Bool) (head size : ℕ) (bytes : List ℕ) : Type 0 where
+  pub whole : IsBody capacity new head size
+  pub shown : body capacity new head size ≡ bytes
+  pub held : IsHeld new kept (File head size)
 
-stays_body : (capacity : ℕ) (old new : Blocks) (kept kept' : ℕ → Bool) (x : Body) (bytes : List ℕ) → Keeps kept old kept' new → IsWritten capacity old kept x bytes → StaysBody capacity new kept' x.head x.length bytes
+pub stays_body : (capacity : ℕ) (old new : Blocks) (kept kept' : ℕ → Bool) (x : Body) (bytes : List ℕ) → Keeps kept old kept' new → IsWritten capacity old kept x bytes → StaysBody capacity new kept' x.head x.length bytes
 stays_body capacity old new kept kept' x bytes keeps written =
     let law = frame_law old new kept kept' keeps in
     let at = File x.head x.length in

@@ -1,15 +1,21 @@
 -- New roots.
-use Rattle.std.specs.Prelude.{◌≡◌, ◌⊎◌, ℕ, ◌-◌, Bool, true, false, Option, List, [], ◌∷◌, Result, IfOk, IfErr}
+use Rattle.std.specs.Prelude.{◌≡◌, ◌⊎◌, ℕ, ◌-◌, Bool, true, false, Option, Some, List, [], ◌∷◌, Result, IfOk, IfErr}
 use Rattle.fs_types.specs.declared.fault.Fault.{Fault}
+use Rattle.fs_types.specs.declared.named_file.NamedFile.{NamedFile}
+use Rattle.fs_types.specs.Names.{Path}
 use Rattle.plain_trees.specs.Trees.{Tree}
 use Rattle.node_format.specs.Headers.{body_header}
+use Rattle.node_format.specs.Items.{is_place}
+use Rattle.node_format.specs.declared.place.Place.{Place}
 use Rattle.node_format.specs.declared.place.Place.TheVariants.{Dir, File}
 use Rattle.block_trees.specs.Bodies.{Blocks}
 use Rattle.block_trees.specs.Chains.{is_chained}
 use Rattle.block_trees.specs.Reached.{Reached, IsHeld, PlaceNames}
+use Rattle.block_trees.specs.Rewritten.{IsRewritten}
 use Rattle.block_trees.specs.Trees.{IsRoot, root_tree}
 use Rattle.directory.specs.Trails.{IsChangeFault}
-use Rattle.skip_list_file.specs.Writing.{HoldsIndex}
+use Rattle.directory.specs.declared.directory_puts.NamedPlace.{NamedPlace}
+use Rattle.skip_list_file.specs.Writing.{HoldsIndex, IsWritten}
 use Rattle.skip_list_file.specs.declared.body.Body.{Body}
 
 -- a node as it is written: one of a chain of a directory, or one of a body, with 0 in its zero field and in each slot that its
@@ -38,3 +44,26 @@ pub record IsApplied {S : Type 0} (limit : S → ℕ) (node : S → Blocks) (kep
   pub why : IfErr result (causes old new)
   pub faults : IfErr result IsChangeFault
   pub came : follows old new
+
+-- a place is a file of these bytes: its body is written and kept, and each block that it reaches was not kept before
+abbrev pub IsNewFile : ℕ → (ℕ → Bool) → Blocks → (ℕ → Bool) → List ℕ → Place → Type 0
+IsNewFile capacity kept new kept' bytes (Dir block) = ⊥
+IsNewFile capacity kept new kept' bytes (File head size) =
+    (is_place (File head size) ≡ true) × IsWritten capacity new kept' (record { head = head; length = size }) bytes
+    × IsFreshBody kept new (record { head = head; length = size })
+
+-- each of these files, in order, has its name and its place
+abbrev pub AreNewFiles : ℕ → (ℕ → Bool) → Blocks → (ℕ → Bool) → List NamedFile → List NamedPlace → Type 0
+AreNewFiles capacity kept new kept' [] [] = Unit {0}
+AreNewFiles capacity kept new kept' [] (put ∷ puts) = ⊥
+AreNewFiles capacity kept new kept' (file ∷ files) [] = ⊥
+AreNewFiles capacity kept new kept' (file ∷ files) (put ∷ puts) =
+    (put.name.now ≡ file.name) × IsNewFile capacity kept new kept' file.bytes put.place
+    × AreNewFiles capacity kept new kept' files puts
+
+-- the path of a directory leads to the one in a block: that is the new root where the path is the root's, else each
+-- directory above it was written anew
+abbrev pub IsLinked : Blocks → Blocks → (ℕ → Bool) → (ℕ → Bool) → ℕ → ℕ → Path → ℕ → Type 0
+IsLinked old new kept kept' from to [] block = to ≡ block
+IsLinked old new kept kept' from to (name ∷ path) block =
+    IsRewritten old new kept kept' from to (name ∷ path) (Some (Dir block))

@@ -11,6 +11,7 @@ ghost use Rattle.tree_edits.specs.Roots.{IsNewRoot};
 use crate::edit::Edit;
 use crate::entries::{make, remove, rename};
 use crate::files::{overwrite, put_empty, resize, write_file};
+use crate::many_files::write_files;
 use fs_types::Fault;
 use node_store::Nodes;
 use std::alloc::Global;
@@ -50,6 +51,13 @@ pub fn apply<N: Nodes>(
         Edit::WriteFile { path, trail, bytes } => {
             write_file(alloc, nodes, root, trail, path, bytes)
         }
+        Edit::WriteFiles {
+            directory,
+            trail,
+            block,
+            files,
+            changes,
+        } => write_files(alloc, nodes, root, trail, directory, block, files, changes),
         Edit::Overwrite {
             path,
             trail,

@@ -1,6 +1,6 @@
 //! Edits of a tree, as values.
 use directory::Trail;
-use fs_types::Path;
+use fs_types::{NamedFile, Path};
 use node_format::Place;
 use skip_list_file::Body;
 
@@ -24,6 +24,15 @@ pub enum Edit<'p, 't> {
         path: &'p Path,
         trail: &'t Trail,
         bytes: &'p [u8],
+    },
+    /// Puts those of these files that change in the directory at a path, which begins in this block: each
+    /// where nothing stands, or in the place of a file.
+    WriteFiles {
+        directory: &'p Path,
+        trail: &'t Trail,
+        block: u32,
+        files: &'p [NamedFile],
+        changes: &'t [bool],
     },
     /// Writes bytes, at least one, from `offset` on over those of a file, which has this body.
     Overwrite {

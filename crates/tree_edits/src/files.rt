@@ -87,7 +87,11 @@ pub(crate) fn put_empty<N: Nodes>(
 }
 
 /// A body of these bytes, beside those that are there.
-fn write_body<N: Nodes>(alloc: Global, nodes: &mut N, bytes: &[u8]) -> Result<Body, Fault>
+pub(crate) fn write_body<N: Nodes>(
+    alloc: Global,
+    nodes: &mut N,
+    bytes: &[u8],
+) -> Result<Body, Fault>
     requires sound { N.is_sound nodes.old }
     requires fits { length bytes.now ≤ MAX_FILE_BYTES }
 

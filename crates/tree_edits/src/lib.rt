@@ -5,6 +5,7 @@ mod applied;
 mod edit;
 mod entries;
 mod files;
+mod many_files;
 
 pub use applied::apply;
 pub use edit::Edit;

@@ -28,13 +28,14 @@ use Rattle.working_state.specs.Steps.{is_sync}
 use Rattle.system.specs.Steps.{SystemStep}
 use Rattle.mounting.specs.Records.{trees_of, HasTrees}
 use Rattle.system.specs.Mounts.{IsMountOf, MountCause}
+use Rattle.system.specs.Cleaning.{Cleans}
 use Rattle.system.specs.Reclaiming.{Reclaims}
 use Rattle.mounting.specs.Saved.{record_in, saved_on, saved_trees, IsWholeRecord}
 use Rattle.system.specs.Systems.{IsSystem}
 use Rattle.system.specs.declared.systems.System.{System}
 use Rattle.system.proofs.SameRecords.{still_saved, same_trees, still_whole}
 use Rattle.system.proofs.Syncs.{sync_syncs, fsync_syncs}
-use Rattle.undofs.specs.Runs.{Shows, IsSaved, found_after, ReclaimsOn, put_on, MayRefuseMount, Mounts, Happens, Run}
+use Rattle.undofs.specs.Runs.{Shows, IsSaved, found_after, ReclaimsOn, CleansOn, put_on, MayRefuseMount, Mounts, Happens, Run}
 use Rattle.undofs.specs.Sessions.{IsSound, Stands, world, Starts, Serves, AreServed, IsServed, ServeLaw, IsSession}
 use Rattle.undofs.proofs.RunLaws.{shown, refused_keeps}
 
@@ -164,6 +165,39 @@ step_leads d m budget (Ok done) e n found step system stands =
     (found, (done, refl, step_happens d m budget e n found stands (Ok done) step system), step_stands d m budget e n found stands (Ok done) step system)
 step_leads d m budget (Err fault) e n found step system stands =
     (found, step_happens d m budget e n found stands (Err fault) step system, step_stands d m budget e n found stands (Err fault) step system)
+
+-- ---- after a step of cleaning
+
+module _ (d : Device) (m : System) (budget : ℕ) (e : Device) (n : System) (found : List (Past Tree)) (stands : Stands (world d (Some m) found)) where
+  clean_saved : (result : Result Bool Fault) → Cleans d m budget result e n → IsSaved e found
+  clean_saved result step = record {
+    history = stands.saved.history;
+    saved = step.undisturbed.saved ∙ stands.saved.saved;
+    among = stands.saved.among;
+    whole = step.undisturbed.whole stands.saved.whole;
+  }
+
+  clean_happens : (result : Result Bool Fault) → Cleans d m budget result e n → IsSystem e n → CleansOn (world d (Some m) found) budget result (world e (Some n) found)
+  clean_happens result step system = record { before = m; after = n; was = refl; is = refl; step = step; mounted = system; found = refl; saved = clean_saved result step }
+
+  clean_stands : (result : Result Bool Fault) → Cleans d m budget result e n → IsSystem e n → Stands (world e (Some n) found)
+  clean_stands result step system = record {
+    lawful = system.mounted.lawful;
+    saved = clean_saved result step;
+    shown = shows_system e n found (subst (λ (x : Machine). Contains found x.history) (sym step.undisturbed.machine) (stands.shown (machine_on d m.state) (m, refl, refl)));
+  }
+
+pub clean_serves : (d : Device) (m : System) (budget : ℕ) (result : Result Bool Fault) (e : Device) (n : System) → Cleans d m budget result e n → IsSystem e n
+    → Serves d (Some m) (Event.CleanStep budget) (step_answer result) e (Some n)
+clean_serves d m budget (Ok done) e n step system = (done, refl, record { before = m; after = n; was = refl; is = refl; step = step; mounted = system })
+clean_serves d m budget (Err fault) e n step system = record { before = m; after = n; was = refl; is = refl; step = step; mounted = system }
+
+clean_leads : (d : Device) (m : System) (budget : ℕ) (result : Result Bool Fault) (e : Device) (n : System) (found : List (Past Tree)) → Cleans d m budget result e n → IsSystem e n
+    → Stands (world d (Some m) found) → Leads d (Some m) (Event.CleanStep budget) (step_answer result) e (Some n) found
+clean_leads d m budget (Ok done) e n found step system stands =
+    (found, (done, refl, clean_happens d m budget e n found stands (Ok done) step system), clean_stands d m budget e n found stands (Ok done) step system)
+clean_leads d m budget (Err fault) e n found step system stands =
+    (found, clean_happens d m budget e n found stands (Err fault) step system, clean_stands d m budget e n found stands (Err fault) step system)
 
 -- ---- after a mount
 
@@ -301,6 +335,14 @@ serve_law d e s t (Event.ReclaimStep budget) (Answer.Refused fault) found h stan
     on_systems d e s t (Event.ReclaimStep budget) (Answer.Refused fault) found h.before h.after h.was h.is (step_leads d h.before budget (Err fault) e h.after found h.step h.mounted) stands
 serve_law d e s t (Event.ReclaimStep budget) Answer.Mounted found h stands = absurd h
 serve_law d e s t (Event.ReclaimStep budget) Answer.Unmounted found (none, device, system) stands =
+    let same = same_world d e s t found device system in (found, (none, same), subst Stands (sym same) stands)
+serve_law d e s t (Event.CleanStep budget) (Answer.Done reply) found (done, is, h) stands =
+    subst (λ (x : Reply). Leads d s (Event.CleanStep budget) (Answer.Done x) e t found) (sym is)
+    (on_systems d e s t (Event.CleanStep budget) (Answer.Done (Reply.Step done)) found h.before h.after h.was h.is (clean_leads d h.before budget (Ok done) e h.after found h.step h.mounted) stands)
+serve_law d e s t (Event.CleanStep budget) (Answer.Refused fault) found h stands =
+    on_systems d e s t (Event.CleanStep budget) (Answer.Refused fault) found h.before h.after h.was h.is (clean_leads d h.before budget (Err fault) e h.after found h.step h.mounted) stands
+serve_law d e s t (Event.CleanStep budget) Answer.Mounted found h stands = absurd h
+serve_law d e s t (Event.CleanStep budget) Answer.Unmounted found (none, device, system) stands =
     let same = same_world d e s t found device system in (found, (none, same), subst Stands (sym same) stands)
 serve_law d e s t Event.Restart answer found h stands =
     start_leads (put_on d) e t answer found h stands.lawful (stays_saved d (put_on d) stands.lawful refl (λ p. refl) found stands.saved)

@@ -10,10 +10,12 @@ use crate::refused_mount::RefusedMount;
 use crate::space::Space;
 use flash_model::{FaultKind, Flash, Planned};
 use fs_types::{
-    Bytes, Call, CpName, Fault, Name, OpenFlags, Path, Reply, Request, Sequence, Stat, View,
+    Bytes, Call, CpName, Fault, Name, NamedFile, OpenFlags, Path, Reply, Request, Sequence, Stat,
+    View,
 };
 use std::alloc::Global;
-use system::{System, mount, mount_with};
+use system::{HistorySpace, System, mount, mount_with};
+use tree_counts::TreeSize;
 
 /// A file system that is mounted on a flash.
 ///
@@ -43,11 +45,15 @@ impl<'f, F: Flash> Fs<'f, F> {
     ghost use Rattle.flash_model.specs.Reading.{OnlyReads};
     ghost use Rattle.working_state.specs.Leaves.{is_still};
     ghost use Rattle.working_state.specs.Looking.{only_looks};
+    ghost use Rattle.system.specs.Cleaning.{Cleans};
     ghost use Rattle.system.specs.HistorySpace.{ForgetsUntil};
     ghost use Rattle.system.specs.Moments.{system_moment};
     ghost use Rattle.system.specs.Mounts.{AsksToMount};
     ghost use Rattle.system.specs.Mounts.{IsMountOf};
     ghost use Rattle.system.specs.Reclaiming.{Reclaims};
+    ghost use Rattle.system.specs.TreeSizes.{TellsSize, ShowRoots, RefusesRoots};
+    ghost use Rattle.system.specs.VersionSpace.{AsksTwice, TellsHistorySpace};
+    ghost use Rattle.mounting.specs.Records.{working_roots};
     ghost use Rattle.fs_types.specs.declared.limits.TheConstants.{MOUNTED_NODES};
     ghost use Rattle.undofs.specs.Refusals.{RefusesMount};
     ghost use Rattle.undofs.specs.Values.{descriptor_reply, log_reply, space_reply};
@@ -264,6 +270,27 @@ impl<'f, F: Flash> Fs<'f, F> {
         ensures step { StepsBetween self.old (Call.WriteFile path.now bytes.now) (replied empty result) self.new }
     {
         self.carry_out_empty(alloc, Request::WriteFile { path, bytes })
+    }
+
+    /// Each of these files of a directory has exactly its bytes, at most 16,777,216: it is made, or
+    /// replaces the file that stands there, all as one change. Their names ascend in byte order. Where
+    /// no file is open, a change group of one `write_file` each does the same in more writes: the
+    /// directory, and those above it, are written once here. Where all have their bytes already, no
+    /// version is made, and that is no refusal in read-only mode.
+    ///
+    /// [`Fault::Invalid`] where a name does not come after the one before it, so where one stands twice;
+    /// [`Fault::NameTooLong`] for one file or more in a directory whose path has 16 names. Else refused
+    /// with the first refusal that `write_file` of each in turn has, with nothing done: so also with
+    /// [`Fault::DirectoryFull`] where the files before it leave no room.
+    pub fn write_files(
+        &mut self,
+        alloc: Global,
+        directory: &Path,
+        files: &[NamedFile],
+    ) -> Result<(), Fault>
+        ensures step { StepsBetween self.old (Call.WriteFiles directory.now files.now) (replied empty result) self.new }
+    {
+        self.carry_out_empty(alloc, Request::WriteFiles { directory, files })
     }
 
     /// What stands at a path of the tree that a view shows: a directory, with its number of entries, or
@@ -546,6 +573,39 @@ impl<'f, F: Flash> Fs<'f, F> {
         self.system.forget_until_free(alloc, self.flash, blocks)
     }
 
+    /// What each version and each checkpoint keeps, and what it frees to forget the versions up to one
+    /// ([`System::space_by_version`]). Refused as [`Fs::df`] is.
+    pub fn space_by_version(&mut self, alloc: Global) -> Result<HistorySpace, Fault>
+        ensures tells { TellsHistorySpace (F.device self.old.flash.now) self.old.system result (F.device self.new.flash.now) self.new.system }
+        ensures asks { AsksTwice (F.device self.old.flash.now) (working_roots self.old.system.state) (F.device self.new.flash.now) }
+        ensures same_flash { flash_name self.new ≡ flash_name self.old }
+    {
+        self.system.space_by_version(alloc, self.flash)
+    }
+
+    /// How many directories and files stand in the tree of a view below its root, and how many bytes these
+    /// files have ([`System::count_tree`]). The nodes of its directories are read once each.
+    ///
+    /// Refused as [`Fs::list`] of the root of that view.
+    pub fn count_tree(&mut self, alloc: Global, view: &View) -> Result<TreeSize, Fault>
+        ensures step { TellsSize (F.device self.old.flash.now) self.old.system view.now result (F.device self.new.flash.now) self.new.system }
+        ensures same_flash { flash_name self.new ≡ flash_name self.old }
+    {
+        self.system.count_tree(alloc, self.flash, view)
+    }
+
+    /// Whether two views show the same root, so that their trees are the same: true of two versions between
+    /// which nothing was written. False tells nothing of the trees. No page is read.
+    ///
+    /// [`Fault::PowerCut`] where a call answered that before; the refusal of the first view, then of the
+    /// second.
+    pub fn show_same_root(&self, view: &View, other: &View) -> Result<bool, Fault>
+        ensures shown { IfOk result (λ same. ShowRoots self.now.system.state view.now other.now same) }
+        ensures err { IfErr result (RefusesRoots self.now.system.state view.now other.now) }
+    {
+        self.system.show_same_root(view, other)
+    }
+
     /// Takes a step of reclaiming: reads `budget` blocks more of those in use, or all that remain, and
     /// then the others are free ([`System::reclaim_step`]). Whether none remained.
     pub fn reclaim_step(&mut self, alloc: Global, budget: u64) -> Result<bool, Fault>
@@ -553,6 +613,16 @@ impl<'f, F: Flash> Fs<'f, F> {
         ensures same_flash { flash_name self.new ≡ flash_name self.old }
     {
         self.system.reclaim_step(alloc, self.flash, budget)
+    }
+
+    /// Goes on with a round over the blocks that are free: looks at `budget` of them at most, and erases
+    /// those that are not blank ([`System::clean_step`]), so that a later write need not wait for the
+    /// erase, where the driver answers that of a blank block at once. Whether the round is over.
+    pub fn clean_step(&mut self, budget: u64) -> Result<bool, Fault>
+        ensures step { Cleans (F.device self.old.flash.now) self.old.system budget result (F.device self.new.flash.now) self.new.system }
+        ensures same_flash { flash_name self.new ≡ flash_name self.old }
+    {
+        self.system.clean_step(self.flash, budget)
     }
 
     /// Carries out a call, and answers its reply. Its step says what that of each call says: a call that

@@ -2,7 +2,7 @@
 ghost use Rattle.std.specs.Prelude.{◌≡◌};
 
 use fs_types::Fault;
-use node_store::Nodes;
+use node_store::{Examines, Nodes};
 
 /// Other nodes, and how many reads were asked of them.
 #[derive(Drop)]
@@ -138,4 +138,13 @@ impl<N: Nodes> Nodes for Counted<N> {
     ghost none_below = { λ s. N.none_below s.nodes };
 
     ghost none_beyond = { λ s. N.none_beyond s.nodes };
+}
+
+impl<N: Examines> Examines for Counted<N> {
+    fn examine(&mut self, block: u32, header: &mut [u8]) -> Result<bool, Fault> {
+        self.asked = self.asked.saturating_add(1);
+        self.nodes.examine(block, header)
+    }
+
+    ghost asks_each = { λ s t. N.asks_each s.nodes t.nodes };
 }

@@ -12,7 +12,8 @@ use Rattle.plain_trees.specs.Contents.{Contents, Entry, overwritten, resized, pw
 use Rattle.plain_trees.specs.Trees.{Tree, put, IsFile, bytes_of, bytes_of_file}
 use Rattle.history_machine.specs.History.{working_root, changed, group_with}
 use Rattle.history_machine.specs.Descriptors.{Descriptor, descriptor_at}
-use Rattle.history_machine.specs.Machine.{Machine, Space, has_paths, working_tree, file_put, pwrite_tree, ftruncate_tree, refusal, way_need, pwrite_body, ftruncate_body, change_need, reply_of, tree_after, descriptors_after, machine_of, machine_with}
+use Rattle.plain_trees.specs.Files.{file_put}
+use Rattle.history_machine.specs.Machine.{Machine, Space, has_paths, working_tree, pwrite_tree, ftruncate_tree, refusal, way_need, pwrite_body, ftruncate_body, change_need, reply_of, tree_after, descriptors_after, machine_of, machine_with}
 use Rattle.fs_types.specs.declared.call.Call.{Call}
 use Rattle.fs_types.specs.declared.call.Reply.{Reply}
 use Rattle.fs_types.specs.declared.fault.Fault.{Fault}

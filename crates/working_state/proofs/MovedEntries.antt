@@ -69,12 +69,12 @@ read_may old new m call PowerCut begins why = (begins, why)
 read_may old new m call NoMemory begins why = begins
 read_may old new m call _ begins why = absurd why
 
-read_lookup : (fault : Fault) → IsReadFault fault → IsLookupFault fault
+pub read_lookup : (fault : Fault) → IsReadFault fault → IsLookupFault fault
 read_lookup NoEntry reads = refl
 read_lookup NotDirectory reads = refl
 read_lookup _ reads = reads
 
-not_path : (fault : Fault) → IsReadFault fault → (fault ≡ Damaged → ⊥) → is_path_fault fault ≡ false
+pub not_path : (fault : Fault) → IsReadFault fault → (fault ≡ Damaged → ⊥) → is_path_fault fault ≡ false
 not_path NoEntry reads whole = absurd (not_so reads)
 not_path NotDirectory reads whole = absurd (not_so reads)
 not_path Damaged reads whole = absurd (whole refl)

@@ -21,13 +21,13 @@ use Rattle.working_state.proofs.ChangedCalls.{IsChangeBy}
 use Rattle.working_state.proofs.ChangeSteps.{later_stands, later_tree}
 
 -- the way of a call, by the trees before it and after it as the flash shows them after a look
-way_at : (a b : Moment) (call : Call) (made : ℕ → Tree) (reply : Reply) (root : ℕ) (path : Path) → IsMountedAt a → working_root a.state.history a.state.group ≡ Some root → IsLooked a b → IsChangeBy a call made reply
+pub way_at : (a b : Moment) (call : Call) (made : ℕ → Tree) (reply : Reply) (root : ℕ) (path : Path) → IsMountedAt a → working_root a.state.history a.state.group ≡ Some root → IsLooked a b → IsChangeBy a call made reply
     → way_need (machine_at a) call path ≡ path_need (version_tree b root) (made root) path
 way_at a b call made reply root path m is l by =
     ap (λ (o : Option Tree). path_need (working_tree (machine_at a)) (unwrap_or o (working_tree (machine_at a))) path) (by.after root is)
     ∙ ap (λ (t : Tree). path_need t (made root) path) (later_tree a b root m is l)
 
-looked_rooted : (a b : Moment) (root : ℕ) → IsMountedAt a → working_root a.state.history a.state.group ≡ Some root → IsLooked a b → IsRoot (capacity_at b) (nodes_at b) root
+pub looked_rooted : (a b : Moment) (root : ℕ) → IsMountedAt a → working_root a.state.history a.state.group ≡ Some root → IsLooked a b → IsRoot (capacity_at b) (nodes_at b) root
 looked_rooted a b root m is l = (later_stands a b root m is l).rooted
 
 -- what is put at a path

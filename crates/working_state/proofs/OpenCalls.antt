@@ -10,7 +10,8 @@ use Rattle.plain_trees.specs.Contents.{Contents, Entry, parent_of, lookup_refusa
 use Rattle.plain_trees.specs.Trees.{Tree, is_full, bytes_of}
 use Rattle.history_machine.specs.Descriptors.{Descriptors, least_free, opened, creates, is_exclusive, truncates, are_lawful}
 use Rattle.history_machine.specs.History.{Past, working_root, changed, group_with}
-use Rattle.history_machine.specs.Machine.{Machine, IsMachine, Space, working_tree, full_table_refusal, open_refusal, open_changes, file_put, refusal, tree_after, answer_of, machine_of, machine_with}
+use Rattle.plain_trees.specs.Files.{file_put}
+use Rattle.history_machine.specs.Machine.{Machine, IsMachine, Space, working_tree, full_table_refusal, open_refusal, open_changes, refusal, tree_after, answer_of, machine_of, machine_with}
 use Rattle.fs_types.specs.declared.call.Call.{Call}
 use Rattle.fs_types.specs.declared.call.Reply.{Reply}
 use Rattle.fs_types.specs.declared.fault.Fault.{Fault}

@@ -6,6 +6,7 @@ use Rattle.std.specs.Prelude.{IsTrue, IfErr, OnErr, not, ◌==◌}
 use Rattle.history_machine.specs.Descriptors.{are_lawful}
 use Rattle.history_machine.specs.History.{view_refusal}
 use Rattle.history_machine.specs.Machine.{Machine, makes_version, need, refusal}
+use Rattle.fs_types.specs.NamedFiles.{files_refusal}
 use Rattle.fs_types.specs.declared.call.Call.{Call}
 use Rattle.fs_types.specs.declared.call.Reply.{Reply}
 use Rattle.fs_types.specs.declared.fault.Fault.{Fault}
@@ -37,6 +38,7 @@ left_fits (Some fault) o fine = fine
 unlooked_none : (m : Machine) (call : Call) → refusal m call ≡ None → unlooked_refusal m call ≡ None
 unlooked_none m (Call.Open path flags) fine = first_fits (not (are_lawful flags)) Invalid _ fine
 unlooked_none m (Call.WriteFile path bytes) fine = refl
+unlooked_none m (Call.WriteFiles directory files) fine = left_fits (files_refusal directory files) _ fine
 unlooked_none m (Call.Rename old new) fine = refl
 unlooked_none m (Call.Unlink path) fine = refl
 unlooked_none m (Call.Mkdir path) fine = first_fits (length path == 0) Exists _ fine

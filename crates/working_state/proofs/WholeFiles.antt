@@ -1,11 +1,10 @@
 -- The step of a whole file that is written.
-use Rattle.std.proofs.Common.{◌≡◌, ℕ, ◌+◌, ◌<◌, ◌≤◌, Bool, true, false, cond, not, ◌||◌, Option, Some, None, Ok, Err, List, length, take, refl, sym, ap, ◌∙◌, inl, inr, arith}
+use Rattle.std.proofs.Common.{◌≡◌, ℕ, ◌+◌, ◌<◌, ◌≤◌, Bool, true, false, cond, not, ◌||◌, Option, Some, None, Ok, Err, List, length, refl, sym, ap, ◌∙◌, inl, inr, arith}
 use Rattle.std.proofs.lemmas.Bool.{cases_Bool, eqb-false, eqb-true, true≢false}
 use Rattle.std.specs.Prelude.{is_some, is_none, nat_lt, if◌then◌else◌}
 use Rattle.std.specs.Option.{option_or, option_map_or, option_and_then}
 use Rattle.std.specs.FinMap.{get}
 use Rattle.std.specs.FinSet as set
-use Rattle.std.proofs.Math.Seq.{take-length}
 use Rattle.fs_types.specs.Names.{Path, is_path}
 use Rattle.fs_types.specs.declared.call.Call.{Call}
 use Rattle.fs_types.specs.declared.call.Reply.{Reply}
@@ -14,10 +13,10 @@ use Rattle.fs_types.specs.declared.fault.Fault.TheVariants.{DirectoryFull, TooBi
 use Rattle.fs_types.proofs.Orders.{same_name-is}
 use Rattle.plain_trees.specs.Contents.{Contents, Entry, parent_of, lookup_refusal, body_need, same_bytes}
 use Rattle.plain_trees.specs.Trees.{Tree, put, is_full, bytes_of, bytes_of_file}
-use Rattle.plain_trees.proofs.Beneath.{None≢Some}
 use Rattle.history_machine.specs.Descriptors.{is_open}
 use Rattle.history_machine.specs.History.{working_root, changed, group_with}
-use Rattle.history_machine.specs.Machine.{Machine, working_tree, write_place_refusal, size_refusal, write_file_changes, file_put, refusal, tree_after, change_need, way_need, machine_of, machine_with}
+use Rattle.plain_trees.specs.Files.{file_put}
+use Rattle.history_machine.specs.Machine.{Machine, working_tree, write_place_refusal, size_refusal, write_file_changes, refusal, tree_after, change_need, way_need, machine_of, machine_with}
 use Rattle.block_trees.specs.Trees.{tree}
 use Rattle.block_trees.proofs.RootMaps.{full_directory}
 use Rattle.directory.specs.Counts.{path_nodes}
@@ -30,10 +29,9 @@ use Rattle.directory.proofs.TrailEdits.{look_later, trail_later}
 use Rattle.skip_list_file.specs.Reading.{is_body_fault}
 use Rattle.tree_edits.specs.Edits.{TakesFile}
 use Rattle.working_state.specs.Moments.{Moment, machine_at, seen_at, IsMountedAt, IsRefused, nodes_at, capacity_at, version_tree}
-use Rattle.working_state.specs.WholeFiles.{place_refusal, is_as_long}
+use Rattle.working_state.specs.WholeFiles.{place_refusal, is_as_long, file_bytes, IsWholeFile}
 use Rattle.working_state.specs.Worked.{IsLooked, WorkCause, ReadCause}
 use Rattle.working_state.specs.Mounted.{IsStanding}
-use Rattle.working_state.specs.Reading.{refuse_directory, file_refusal, IsRead}
 use Rattle.working_state.specs.Seen.{Seen}
 use Rattle.working_state.specs.Moments.{storage_at}
 use Rattle.working_state.proofs.ChangeSteps.{later_tree, way_some}
@@ -41,7 +39,7 @@ use Rattle.working_state.proofs.FileChanges.{working_body, long_body}
 use Rattle.working_state.proofs.ChangedCalls.{IsChangeBy}
 use Rattle.working_state.proofs.Needs.{put_way}
 use Rattle.working_state.proofs.OpenCalls.{working_is}
-use Rattle.working_state.proofs.PathCalls.{OnlyReads, working_tree_is, working_stands, found_tells}
+use Rattle.working_state.proofs.PathCalls.{OnlyReads, working_tree_is, working_stands}
 use Rattle.working_state.proofs.Refusals.{read_refuses}
 use Rattle.working_state.proofs.Standing.{keeps, same_capacity, looked_worked}
 
@@ -49,7 +47,7 @@ use Rattle.working_state.proofs.Standing.{keeps, same_capacity, looked_worked}
 
 -- by what stands at each path
 abbrev refusal_by : Machine → Path → List ℕ → Contents → Option Fault
-refusal_by m path bytes t = option_or (lookup_refusal t path) (option_or (write_place_refusal m path (t path)) (size_refusal bytes))
+refusal_by m path bytes t = option_or (lookup_refusal t path) (option_or (write_place_refusal (working_tree m) m.descriptors path (t path)) (size_refusal bytes))
 
 write_at : (a : Moment) (path : Path) (bytes : List ℕ) (root : ℕ) → IsMountedAt a → working_root a.state.history a.state.group ≡ Some root
     → refusal (machine_at a) (Call.WriteFile path bytes) ≡ refusal_by (machine_at a) path bytes (tree (capacity_at a) (nodes_at a) root)
@@ -62,11 +60,11 @@ write_found a path bytes root x m is e =
     let n = machine_at a in
     let law = found_is (capacity_at a) (nodes_at a) root path x (rooted_leads (capacity_at a) (nodes_at a) root (working_stands a root m is).rooted) e in
     write_at a path bytes root m is
-    ∙ ap (λ o. option_or o (option_or (write_place_refusal n path (tree (capacity_at a) (nodes_at a) root path)) (size_refusal bytes))) law.0
-    ∙ ap (λ o. option_or (write_place_refusal n path o) (size_refusal bytes)) law.1
+    ∙ ap (λ o. option_or o (option_or (write_place_refusal (working_tree n) n.descriptors path (tree (capacity_at a) (nodes_at a) root path)) (size_refusal bytes))) law.0
+    ∙ ap (λ o. option_or (write_place_refusal (working_tree n) n.descriptors path o) (size_refusal bytes)) law.1
     ∙ ap (λ o. option_or o (size_refusal bytes)) (go x e)
   where
-    go : (x : Found) → look_up (nodes_at a) root path ≡ Ok x → write_place_refusal (machine_at a) path (found_entry (capacity_at a) (nodes_at a) x) ≡ place_refusal (is_open a.state.files path) x
+    go : (x : Found) → look_up (nodes_at a) root path ≡ Ok x → write_place_refusal (working_tree (machine_at a)) (machine_at a).descriptors path (found_entry (capacity_at a) (nodes_at a) x) ≡ place_refusal (is_open a.state.files path) x
     go (found.Missing full) e =
         let parent = missing_parent (nodes_at a) root path full (rooted_leads (capacity_at a) (nodes_at a) root (working_stands a root m is).rooted) e in
         let same : is_full (working_tree (machine_at a)) (parent_of path) ≡ full =
@@ -80,7 +78,7 @@ write_told : (a : Moment) (path : Path) (bytes : List ℕ) (root : ℕ) (fault :
     → refusal (machine_at a) (Call.WriteFile path bytes) ≡ Some fault
 write_told a path bytes root fault m is e =
     write_at a path bytes root m is
-    ∙ ap (λ o. option_or o (option_or (write_place_refusal (machine_at a) path (tree (capacity_at a) (nodes_at a) root path)) (size_refusal bytes))) (refused_is (capacity_at a) (nodes_at a) root path fault (working_stands a root m is).rooted e)
+    ∙ ap (λ o. option_or o (option_or (write_place_refusal (working_tree (machine_at a)) (machine_at a).descriptors path (tree (capacity_at a) (nodes_at a) root path)) (size_refusal bytes))) (refused_is (capacity_at a) (nodes_at a) root path fault (working_stands a root m is).rooted e)
 
 -- a look up that was refused, by whether the nodes tell of it
 pub write_fault : (a b : Moment) (path : Path) (bytes : List ℕ) (root : ℕ) (fault : Fault) → IsMountedAt a → working_root a.state.history a.state.group ≡ Some root
@@ -176,7 +174,7 @@ other_bytes xs ys other = elim (cases_Bool (same_bytes xs ys)) [
 ]
 
 -- what stands at the path, as it was found
-there : (b : Moment) (root : ℕ) (path : Path) (x : Found) → IsMountedAt b → working_root b.state.history b.state.group ≡ Some root → look_up (nodes_at b) root path ≡ Ok x → get (working_tree (machine_at b)) path ≡ found_entry (capacity_at b) (nodes_at b) x
+pub there : (b : Moment) (root : ℕ) (path : Path) (x : Found) → IsMountedAt b → working_root b.state.history b.state.group ≡ Some root → look_up (nodes_at b) root path ≡ Ok x → get (working_tree (machine_at b)) path ≡ found_entry (capacity_at b) (nodes_at b) x
 there b root path x m is led = ap (λ (t : Contents). t path) (working_is b root m is) ∙ (found_is (capacity_at b) (nodes_at b) root path x (rooted_leads (capacity_at b) (nodes_at b) root (working_stands b root m is).rooted) led).1
 
 -- nothing, or a file of another length, has not these bytes
@@ -190,45 +188,26 @@ other_changes b root path bytes (found.File head size) m is led takes other =
     let differ = other_bytes (bytes_of_file (working_tree (machine_at b)) path) bytes (λ same. eqb-false size (length bytes) other (sym long ∙ same)) in
     ap (λ o. is_none o || not (same_bytes (bytes_of_file (working_tree (machine_at b)) path) bytes)) (there b root path (found.File head size) m is led) ∙ ap not differ
 
--- a file that was found of as many bytes
-pub record IsCounted (b : Moment) (root : ℕ) (path : Path) (n : ℕ) : Type 0 where
-  pub file : (bytes : List ℕ) × (get (working_tree (machine_at b)) path ≡ Some (Entry.File bytes))
-  pub counted : length (bytes_of_file (working_tree (machine_at b)) path) ≡ n
-  pub accepted : file_refusal (version_tree b root) path ≡ None
-
-pub found_counted : (b : Moment) (root : ℕ) (path : Path) (n : ℕ) (x : Found) → IsMountedAt b → working_root b.state.history b.state.group ≡ Some root → look_up (nodes_at b) root path ≡ Ok x → is_as_long x n ≡ true → IsCounted b root path n
-found_counted b root path n (found.Missing full) m is led same = absurd (true≢false (sym same))
-found_counted b root path n (found.Dir block) m is led same = absurd (true≢false (sym same))
-found_counted b root path n (found.File head size) m is led same =
-    let shown = working_body b root path head size m is led in
-    let rooted = (working_stands b root m is).rooted in
-    record {
-      file = (_, there b root path (found.File head size) m is led);
-      counted = ap length shown.shown ∙ long_body (capacity_at b) (nodes_at b) head size shown.whole ∙ eqb-true size n same;
-      accepted = found_tells (capacity_at b) (nodes_at b) root path refuse_directory rooted (found.File head size) led;
-    }
-
--- all bytes of a file were read
-pub read_whole : (b : Moment) (root : ℕ) (path : Path) (n : ℕ) (read : List ℕ) → working_root b.state.history b.state.group ≡ Some root → IsCounted b root path n → IsRead (version_tree b root) path 0 n read → read ≡ bytes_of_file (working_tree (machine_at b)) path
-read_whole b root path n read is counted done =
-    let tree = working_tree_is b root is in
-    done.read ∙ ap (λ t. take n (bytes_of_file t path)) (sym tree) ∙ ap (λ k. take k (bytes_of_file (working_tree (machine_at b)) path)) (sym counted.counted) ∙ take-length (bytes_of_file (working_tree (machine_at b)) path)
+-- a file that was found of as many bytes is whole
+pub found_whole : (b : Moment) (root : ℕ) (path : Path) (n : ℕ) (x : Found) → IsMountedAt b → working_root b.state.history b.state.group ≡ Some root → look_up (nodes_at b) root path ≡ Ok x → is_as_long x n ≡ true
+    → IsWholeFile (capacity_at b) (nodes_at b) x n
+found_whole b root path n (found.Missing full) m is led same = absurd (true≢false (sym same))
+found_whole b root path n (found.Dir block) m is led same = absurd (true≢false (sym same))
+found_whole b root path n (found.File head size) m is led same = ((working_body b root path head size m is led).whole, eqb-true size n same)
 
 -- it is the bytes that are compared
-pub same_changes : (b : Moment) (root : ℕ) (path : Path) (n : ℕ) (bytes read : List ℕ) → IsCounted b root path n → read ≡ bytes_of_file (working_tree (machine_at b)) path → write_file_changes (working_tree (machine_at b)) path bytes ≡ not (same_bytes read bytes)
-same_changes b root path n bytes read counted whole =
-    ap (λ o. is_none o || not (same_bytes (bytes_of_file (working_tree (machine_at b)) path) bytes)) counted.file.1 ∙ ap (λ xs. not (same_bytes xs bytes)) (sym whole)
+pub same_changes : (b : Moment) (root : ℕ) (path : Path) (bytes : List ℕ) (x : Found) (same : Bool) → IsMountedAt b → working_root b.state.history b.state.group ≡ Some root → look_up (nodes_at b) root path ≡ Ok x → is_as_long x (length bytes) ≡ true
+    → same ≡ same_bytes (file_bytes (capacity_at b) (nodes_at b) x) bytes → write_file_changes (working_tree (machine_at b)) path bytes ≡ not same
+same_changes b root path bytes (found.Missing full) same m is led long compared = absurd (true≢false (sym long))
+same_changes b root path bytes (found.Dir block) same m is led long compared = absurd (true≢false (sym long))
+same_changes b root path bytes (found.File head size) same m is led long compared =
+    let shown = working_body b root path head size m is led in
+    ap (λ o. is_none o || not (same_bytes (bytes_of_file (working_tree (machine_at b)) path) bytes)) (there b root path (found.File head size) m is led)
+    ∙ ap (λ xs. not (same_bytes xs bytes)) shown.shown ∙ ap not (sym compared)
 
-body_cause : (old new : Seen) (fault : Fault) → is_body_fault fault ≡ true → WorkCause old fault new → ReadCause old fault new
+-- a file that is there is refused to be compared only for what reads are
+pub body_cause : (old new : Seen) (fault : Fault) → is_body_fault fault ≡ true → WorkCause old fault new → ReadCause old fault new
 body_cause old new ReadFailed is why = why
 body_cause old new PowerCut is why = why
 body_cause old new NoMemory is why = tt
 body_cause old new _ is why = absurd (true≢false (sym is))
-
--- a file that is there is refused to be read only for what reads are
-pub read_fault : (b d : Moment) (root : ℕ) (path : Path) (n : ℕ) (fault : Fault) → IsCounted b root path n → (is_body_fault fault ≡ false → file_refusal (version_tree b root) path ≡ Some fault) → (is_body_fault fault ≡ true → WorkCause (seen_at b) fault (seen_at d))
-    → ReadCause (seen_at b) fault (seen_at d)
-read_fault b d root path n fault counted refused why = elim (cases_Bool (is_body_fault fault)) [
-  | inl is ↦ body_cause (seen_at b) (seen_at d) fault is (why is)
-  | inr other ↦ absurd (None≢Some (sym counted.accepted ∙ refused other))
-]

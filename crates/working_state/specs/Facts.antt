@@ -1,5 +1,5 @@
 -- What is so of each call, whatever it works on: a row for each call.
-use Rattle.std.specs.Prelude.{◌&&◌, ℕ, Bool, true, false, Option, Some, None, is_some, is_none, List, [], ◌∷◌, if◌then◌else◌}
+use Rattle.std.specs.Prelude.{◌&&◌, Bool, true, false, Option, Some, None, is_some, is_none, List, [], ◌∷◌, if◌then◌else◌}
 use Rattle.history_machine.specs.Descriptors.{Descriptors, any_open}
 use Rattle.fs_types.specs.declared.call.Call.{Call}
 use Rattle.fs_types.specs.declared.call.Group.{Group}
@@ -48,7 +48,7 @@ travel = record plain { still = true; light = true; outside = true; closed = tru
 abbrev pub ending : Facts
 ending = record plain { still = true; light = true; inside = true; closed = true }
 
-abbrev pub is_nothing : List ℕ → Bool
+abbrev pub is_nothing : {A : Type 0} → List A → Bool
 is_nothing [] = true
 is_nothing (x ∷ xs) = false
 
@@ -59,6 +59,7 @@ facts_of (Call.Pread descriptor offset count) = record plain { looks = true }
 facts_of (Call.Pwrite descriptor offset bytes) = record plain { light = is_nothing bytes }
 facts_of (Call.Ftruncate descriptor length) = plain
 facts_of (Call.WriteFile path bytes) = plain
+facts_of (Call.WriteFiles directory files) = record plain { light = is_nothing files }
 facts_of (Call.Rename old new) = plain
 facts_of (Call.Unlink path) = plain
 facts_of (Call.Mkdir path) = plain

@@ -3,6 +3,7 @@ use Rattle.std.specs.Prelude.{◌≡◌, ◌⊎◌, ℕ, ◌+◌, ◌-◌, ◌^�
 use Rattle.history_machine.specs.Descriptors.{are_lawful}
 use Rattle.history_machine.specs.History.{view_refusal}
 use Rattle.history_machine.specs.Machine.{Machine, Space, refusal, answer, next, is_accepted, makes_version, need, tree_after, version_after}
+use Rattle.fs_types.specs.NamedFiles.{files_refusal}
 use Rattle.fs_types.specs.declared.call.Call.{Call}
 use Rattle.fs_types.specs.declared.call.Reply.{Reply}
 use Rattle.fs_types.specs.declared.fault.Fault.{Fault}
@@ -30,6 +31,7 @@ is_light call = (facts_of call).light
 abbrev pub unlooked_refusal : Machine → Call → Option Fault
 unlooked_refusal m (Call.Open path flags) = if not (are_lawful flags) then Some Invalid else None
 unlooked_refusal m (Call.WriteFile path bytes) = None
+unlooked_refusal m (Call.WriteFiles directory files) = files_refusal directory files
 unlooked_refusal m (Call.Rename old new) = None
 unlooked_refusal m (Call.Unlink path) = None
 unlooked_refusal m (Call.Mkdir path) = if length path == 0 then Some Exists else None

@@ -77,6 +77,9 @@ impl State {
             Request::WriteFile { path, bytes } => {
                 empty_reply(self.write_file(alloc, flash, path, bytes))
             }
+            Request::WriteFiles { directory, files } => {
+                empty_reply(self.write_files(alloc, flash, directory, files))
+            }
             Request::Rename { old, new } => empty_reply(self.move_entry(alloc, flash, old, new)),
             Request::Unlink { path } => empty_reply(self.remove_file(alloc, flash, path)),
             Request::Mkdir { path } => empty_reply(self.add_directory(alloc, flash, path)),

@@ -1,7 +1,7 @@
 //! Whole files written at a path, on the working state and the flash. Checked in order: the refusals of
 //! the call; whether the file has these bytes already; read-only mode; outside a change group the greatest
 //! serial; and then it works.
-ghost use Rattle.std.specs.Prelude.{◌≡◌, ◌≤◌, true, not, length, None, Some, Ok, IfOk, IfErr, OnOk};
+ghost use Rattle.std.specs.Prelude.{◌≡◌, ◌≤◌, true, false, not, length, None, Some, Ok, IfOk, IfErr, OnOk};
 ghost use Rattle.fs_types.specs.Names.{is_path};
 ghost use Rattle.fs_types.specs.declared.call.Call.{Call};
 ghost use Rattle.fs_types.specs.declared.limits.TheConstants.{MAX_FILE_BYTES};
@@ -13,17 +13,23 @@ ghost use Rattle.directory.specs.Trails.{IsTrail};
 ghost use Rattle.tree_edits.specs.Edits.{TakesFile};
 ghost use Rattle.working_state.specs.Mounted.{IsMounted};
 ghost use Rattle.working_state.specs.Moments.{IsAnswered, IsRefused, moment, machine_at, seen_at};
-ghost use Rattle.working_state.specs.WholeFiles.{place_refusal, is_as_long};
+ghost use Rattle.plain_trees.specs.Contents.{same_bytes};
+ghost use Rattle.skip_list_file.specs.Reading.{IsBodyFault};
+ghost use Rattle.working_state.specs.Changes.{IsReady};
+ghost use Rattle.working_state.specs.Leaves.{HasLooked};
+ghost use Rattle.working_state.specs.Seen.{capacity_of, seen_of};
+ghost use Rattle.working_state.specs.WholeFiles.{place_refusal, is_as_long, file_bytes, IsWholeFile};
 ghost use Rattle.working_state.specs.Steps.{replied, empty};
-ghost use Rattle.working_state.specs.Worked.{IsLooked, ReadCause};
+ghost use Rattle.working_state.specs.Worked.{IsLooked, ReadCause, WorkCause};
 
 use crate::changes::change;
 use crate::lookups::find_path;
-use crate::reads::read_below;
 use crate::state::State;
 use directory::{Found, Trail};
 use flash_model::Flash;
 use fs_types::{Fault, MAX_FILE_BYTES, Path};
+use node_store::{Storage, Store};
+use skip_list_file::{Body, has_bytes};
 use std::alloc::Global;
 use tree_edits::Edit;
 
@@ -97,8 +103,9 @@ impl State {
         Ok((found, trail))
     }
 
-    /// Whether a file was found that has exactly these bytes. They are read only where it is as long.
-    fn has_bytes<F: Flash>(
+    /// Whether a file was found that has exactly these bytes. Its pages are read only where it is as long,
+    /// one after the other, up to the first one that has another byte.
+    pub(crate) fn has_bytes<F: Flash>(
         &mut self,
         alloc: Global,
         flash: &mut F,
@@ -118,14 +125,37 @@ impl State {
         // Whether the call changes the tree, and why that is not known.
         ensures same { IfOk result (λ same. write_file_changes (working_tree (machine_at (moment (F.device flash.old) self.old))) path.now bytes.now ≡ not same) }
         ensures why { IfErr result (λ fault. ReadCause (seen_at (moment (F.device flash.old) self.old)) fault (seen_at (moment (F.device flash.new) self.new))) }
+
+        // Nothing is read where it is not as long.
+        ensures unread { is_as_long found (length bytes.now) ≡ false → (F.device flash.new ≡ F.device flash.old) × (self.new ≡ self.old) }
     {
         if !is_as_long(found, bytes.len()) {
             return Ok(false);
         }
-        let count = bytes.len() as u64;
-        let there = read_below(alloc, flash, &mut self.storage, root, path, 0, count)?;
-        Ok(there.as_slice() == bytes)
+        is_same(alloc, flash, &mut self.storage, found, bytes)
     }
+}
+
+/// Whether the file that was found has exactly these bytes, of which there are as many. Its pages are read
+/// one after the other, up to the first one that has another byte, and none of them is kept.
+fn is_same<F: Flash>(
+    alloc: Global,
+    flash: &mut F,
+    storage: &mut Storage,
+    found: Found,
+    bytes: &[u8],
+) -> Result<bool, Fault>
+    requires ready { IsReady (F.device flash.old) storage.old }
+    requires whole { IsWholeFile (capacity_of (F.device flash.old)) (node_of (F.device flash.old)) found (length bytes.now) }
+    ensures looked { HasLooked (F.device flash.old) storage.old (F.device flash.new) storage.new }
+    ensures same { IfOk result (λ same. same ≡ same_bytes (file_bytes (capacity_of (F.device flash.old)) (node_of (F.device flash.old)) found) bytes.now) }
+    ensures refused { IfErr result (λ fault. IsBodyFault fault × WorkCause (seen_of (F.device flash.old) storage.old) fault (seen_of (F.device flash.new) storage.new)) }
+{
+    let Found::File { head, length } = found else {
+        unreachable!()
+    };
+    let mut store = Store::new(flash, storage);
+    has_bytes(alloc, &mut store, Body { head, length }, bytes)
 }
 
 /// Whether a file was found that has so many bytes.

@@ -1,5 +1,6 @@
 use Rattle.block_trees.proofs.EditedTrees.{edit_law, mkdir_law}
 use Rattle.block_trees.proofs.EditedMaps.{remove_law, put_file_law}
+use Rattle.block_trees.proofs.FilePuts.{put_files_law}
 use Rattle.block_trees.proofs.laws.edit_laws.Goals as goal
 
 pub returns-clause-edits : goal.returns-clause-edits
@@ -13,3 +14,6 @@ returns-clause-removed c = remove_law
 
 pub returns-clause-file_put : goal.returns-clause-file_put
 returns-clause-file_put c = put_file_law
+
+pub returns-clause-files_put : goal.returns-clause-files_put
+returns-clause-files_put c = put_files_law

@@ -1,26 +1,13 @@
-use Rattle.std.proofs.Common.{◌<◌, inl, inr, refl, sym, subst}
-use Rattle.fs_types.specs.declared.limits.TheConstants.{MIN_VERSIONS, MAX_VERSIONS}
-use Rattle.script_runs.specs.Flashes.{IsNewFlash, IsFormatOf}
-use Rattle.image_jobs.specs.Images.{FormatFailure}
-use Rattle.image_jobs.proofs.ImageLemmas.{lawful_limit, format_saved, format_refused}
+use Rattle.std.proofs.Common.{inl, refl}
+use Rattle.image_jobs.proofs.ImageLemmas.{format_saved}
 use Rattle.image_jobs.proofs.images.make_image.Goals as goal
 
-pub returns-in-Ok-format : goal.returns-in-Ok-format
-returns-in-Ok-format g c =
-    let low : c.args.history < MIN_VERSIONS → ⊥ = λ h. let bad = c.format.ensures.limits.1 (c.in-Ok.flash.lawful, inl h) in absurd cc in
-    let high : MAX_VERSIONS < c.args.history → ⊥ = λ h. let bad = c.format.ensures.limits.1 (c.in-Ok.flash.lawful, inr h) in absurd cc in
-    let made : IsNewFlash c.args.sizes c.in-Ok.flash = record { new = c.in-Ok.ensures.new; plan = c.in-Ok.ensures.plan } in
-    let holds = c.in-Ok-format.ensures in
-    let done : IsFormatOf c.args.history c.in-Ok.flash c.format.new.flash = record { formatted = holds.ok; sizes = holds.stay; listed = holds.listed; numbered = holds.numbered } in
-    record {
-      ends = format_saved c.args.sizes c.args.history c.format.new.flash (g.F.ImageFiles.held c.args.files.now c.args.name.now) (g.F.ImageFiles.held c.save.new.files c.args.name.now) c.save.result
-          (c.in-Ok.flash, lawful_limit c.args.sizes c.args.history c.in-Ok.ensures.lawful low high, made, done) c.save.ensures.ok c.save.ensures.err;
-      others = c.save.ensures.others;
-    }
+pub returns-in-Ok : goal.returns-in-Ok
+returns-in-Ok g c = record {
+  ends = format_saved c.args.sizes c.args.history c.in-Ok.flash (g.F.ImageFiles.held c.args.files.now c.args.name.now) (g.F.ImageFiles.held c.save_image.new.files c.args.name.now) c.save_image.result
+      c.in-Ok.ensures.ok c.save_image.ensures.ok c.save_image.ensures.err;
+  others = c.save_image.ensures.others;
+}
 
-pub returns : goal.returns
-returns g c =
-    let made : IsNewFlash c.args.sizes c.in-Ok.flash = record { new = c.in-Ok.ensures.new; plan = c.in-Ok.ensures.plan } in
-    let why : FormatFailure c.args.sizes c.args.history c.of_system-in-Err-format.result = subst (FormatFailure c.args.sizes c.args.history) (sym c.of_system-in-Err-format.ensures)
-    (format_refused c.args.sizes c.args.history c.in-Ok.flash c.format.new.flash c.in-Err-format.fault made c.in-Err-format.ensures.why) in
-    record { ends = inl (why, refl); others = λ other one another. refl }
+pub returns-in-Err : goal.returns-in-Err
+returns-in-Err g c = record { ends = inl (c.in-Err.ensures.err, refl); others = λ other one another. refl }

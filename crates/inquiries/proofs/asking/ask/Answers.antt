@@ -1,4 +1,4 @@
-use Rattle.std.proofs.Common.{rules, ◌≡◌, ◌⊎◌, Some, subst}
+use Rattle.std.proofs.Common.{rules, ◌≡◌, ◌⊎◌, Some, None, subst}
 use Rattle.fs_types.specs.declared.fault.Fault.{Fault}
 use Rattle.flash_model.specs.Device.{Device}
 use Rattle.flash_model.specs.Reading.{OnlyReads}
@@ -22,7 +22,19 @@ refused_on d was end left inquiry system fault same mounted reads why = record {
   why = subst (λ (e : Device). (inquiry_refusal (machine_on was system.state) inquiry ≡ Some fault) ⊎ Meets was e fault) same why;
 }
 
-pub returns-in-Err-told-clause-err : goal.returns-in-Err-told-clause-err
-returns-in-Err-told-clause-err g c =
-    refused_on (g.F.Flash.device c.args.flash.now) (g.F.Flash.device c.in-Ok.fs.flash.now) (g.F.Flash.device c.tell-told.new.fs.flash.now) _ c.args.inquiry.now c.in-Ok.fs.system c.in-Err-told.fault
-    (search rules) c.in-Ok.ensures.mounted c.in-Ok.ensures.only_reads c.in-Err-told.ensures.err
+pub returns-in-Refused-clause-err : goal.returns-in-Refused-clause-err
+returns-in-Refused-clause-err g c =
+    let why = rw c.in-Refused.is at c.in-Err-told.ensures.err in
+    refused_on (g.F.Flash.device c.args.flash.now) (g.F.Flash.device c.in-Ok.fs.flash.now) (g.F.Flash.device c.tell-told.new.fs.flash.now) _ c.args.inquiry.now c.in-Ok.fs.system c.in-Refused.refusal
+    (search rules) c.in-Ok.ensures.mounted c.in-Ok.ensures.only_reads why
+
+pub returns-in-TooManyLines-clause-err : goal.returns-in-TooManyLines-clause-err
+returns-in-TooManyLines-clause-err g c =
+    let many = rw c.in-TooManyLines.is at c.in-Err-told.ensures.err in
+    record {
+      device = g.F.Flash.device c.in-Ok.fs.flash.now;
+      system = c.in-Ok.fs.system;
+      mounted = c.in-Ok.ensures.mounted;
+      accepted = many.0;
+      many = many.1;
+    }

@@ -6,7 +6,7 @@ returns-clause-some c = record {
   pages = c.in_ok-number-2.ensures.some;
   blocks = c.in_ok-number-3.ensures.some;
   history = c.in_ok-number-4.ensures.some;
-  count = c.in_ok-number-5.ensures.some;
+  count = rw c.count_word.ensures at c.in_ok-number-5.ensures.some;
 }
 
 pub returns-in_err-number-clause-none : goal.returns-in_err-number-clause-none
@@ -22,4 +22,6 @@ pub returns-in_err-number-4-clause-none : goal.returns-in_err-number-4-clause-no
 returns-in_err-number-4-clause-none c = rw c.from_residual-in_err-number-4.ensures (λ numbers are. c.in_err-number-4.ensures.none numbers.history are.history)
 
 pub returns-in_err-number-5-clause-none : goal.returns-in_err-number-5-clause-none
-returns-in_err-number-5-clause-none c = rw c.from_residual-in_err-number-5.ensures (λ numbers are. c.in_err-number-5.ensures.none numbers.count are.count)
+returns-in_err-number-5-clause-none c =
+    let none = rw c.count_word.ensures at c.in_err-number-5.ensures.none in
+    rw c.from_residual-in_err-number-5.ensures (λ numbers are. none numbers.count are.count)

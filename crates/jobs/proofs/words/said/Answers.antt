@@ -6,17 +6,18 @@ use Rattle.jobs.proofs.words.said.Goals as goal
 pub returns-in_err-image-clause-none : goal.returns-in_err-image-clause-none
 returns-in_err-image-clause-none c =
     rw c.from_residual-in_err-image.ensures (image_unsaid c.args.matches.now c.in_ok-name.name.now (rows_of (found_of c.in_ok-name.given.now)) c.in_ok-command.command c.in_ok-name.ensures.name c.in_ok-name.ensures.rows
-    (sym c.task_named.ensures ∙ c.in_ok-command.was) c.in_err-image.ensures.none)
+    (sym c.task_asked.ensures ∙ c.in_ok-command.was) c.in_err-image.ensures.none)
 
 pub returns-in_err-page-clause-none : goal.returns-in_err-page-clause-none
 returns-in_err-page-clause-none c =
-    rw c.from_residual-in_err-page.ensures (none_said c.args.matches.now c.in_ok-name.name.now (rows_of (found_of c.in_ok-name.given.now)) c.in_ok-name.ensures.name c.in_ok-name.ensures.rows c.in_err-page.ensures.none)
+    rw c.from_residual-in_err-page.ensures (none_said c.args.matches.now c.in_ok-name.name.now (rows_of (found_of c.in_ok-name.given.now)) c.in_ok-command.command c.in_ok-name.ensures.name c.in_ok-name.ensures.rows
+    (sym c.task_asked.ensures ∙ c.in_ok-command.was) c.in_err-page.ensures.none)
 
 pub returns-clause-some : goal.returns-clause-some
 returns-clause-some c =
     let numbers = c.in_ok-page.ensures.some in
     job_said c.args.matches.now c.in_ok-name.name.now (rows_of (found_of c.in_ok-name.given.now)) _ c.in_ok-name.ensures.name c.in_ok-name.ensures.rows (record {
-      command = sym c.task_named.ensures ∙ c.in_ok-command.was;
+      command = sym c.task_asked.ensures ∙ c.in_ok-command.was;
       image = c.in_ok-image.ensures.some;
       page = numbers.page;
       pages = numbers.pages;
@@ -28,11 +29,12 @@ returns-clause-some c =
       is_history_given = c.is_given.ensures;
       answers = c.word-3.ensures;
       orders = c.word-4.ensures;
+      part = c.word-5.ensures;
       exit_code = c.has_flag.ensures;
       stop = c.has_flag-2.ensures;
-      path = c.word-5.ensures;
-      file = c.word-6.ensures;
-      view = c.word-7.ensures;
-      other = c.word-8.ensures;
+      path = c.word-6.ensures;
+      file = c.word-7.ensures;
+      view = c.word-8.ensures;
+      other = c.word-9.ensures;
       progress = c.has_flag-3.ensures;
     })

@@ -11,7 +11,7 @@ use Rattle.reclaim.proofs.looks.are_stepped.Goals as goal
 use Rattle.reclaim.proofs.looks.are_stepped.Goals.{then-has_pointer+in_ok-holds+else-not-holds, else-has_pointer}
 
 pub returns-then-not-holds-clause-exact : goal.returns-then-not-holds-clause-exact
-returns-then-not-holds-clause-exact g c hold =
+returns-then-not-holds-clause-exact g c hold first =
     let p = slice_index c.args.pointers.now in
     let x = c.loop-slot.slot in
     let next : suc x ≡ x + 1 = omega arith in
@@ -57,20 +57,22 @@ loop-slot-preserved g c =
           subst (λ (k : ℕ). HoldsSlot (g.N.Nodes.node c.args.nodes.now (p x)) x (p k)) (sym next)
           (subst (λ (f : Blocks). HoldsSlot (f (p x)) x (p (x + 1))) so_far.looks.same_nodes ((w.in_ok-holds.ensures.exact there).0 w.if-not-holds.false)) in
           rw w.nodes-is (record {
-            good = λ hold. stepped_more (g.N.Nodes.node c.args.nodes.now) p c.args.index x (so_far.good hold) (λ has. here hold);
-            reads = omega (arith, so_far.reads, w.holds_slot.ensures.reads);
+            good = λ hold first. stepped_more (g.N.Nodes.node c.args.nodes.now) p c.args.index x (so_far.good hold first) (λ has. here hold);
+            reads = omega (arith, so_far.reads, w.holds_slot.ensures.reads, c.loop-slot.auto.slot);
+            asks = omega (arith, so_far.asks, w.holds_slot.ensures.reads, w.holds_slot.ensures.asks);
             looks = g.met.N.Nodes.looks_on c.args.nodes.now c.loop-slot.nodes w.holds_slot.new.nodes so_far.looks w.holds_slot.ensures.looks;
           })
       | else-has_pointer w ↦
           rw w.nodes-is (record {
-            good = λ hold. stepped_more (g.N.Nodes.node c.args.nodes.now) p c.args.index x (so_far.good hold) (λ has. absurd (true≢false (sym has ∙ ap (has_slot c.args.index) next ∙ sym c.has_pointer.ensures ∙ w.if-has_pointer.false)));
+            good = λ hold first. stepped_more (g.N.Nodes.node c.args.nodes.now) p c.args.index x (so_far.good hold first) (λ has. absurd (true≢false (sym has ∙ ap (has_slot c.args.index) next ∙ sym c.has_pointer.ensures ∙ w.if-has_pointer.false)));
             reads = omega (arith, so_far.reads);
+            asks = so_far.asks;
             looks = so_far.looks;
           })
     ]
 
 pub returns-clause-exact : goal.returns-clause-exact
-returns-clause-exact g c hold =
+returns-clause-exact g c hold first =
     let p = slice_index c.args.pointers.now in
     let all : c.loop-slot.slot ≡ 12 = omega (arith, c.loop-slot-test.false, c.loop-slot.auto.slot-end) in
-    (λ t. subst (AreSteppedTo (g.N.Nodes.node c.args.nodes.now) p c.args.index) all (c.loop-slot.invariant.good hold), λ h. refl)
+    (λ t. subst (AreSteppedTo (g.N.Nodes.node c.args.nodes.now) p c.args.index) all (c.loop-slot.invariant.good hold first), λ h. refl)

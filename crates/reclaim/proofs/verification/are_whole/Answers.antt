@@ -57,6 +57,7 @@ returns-clause-whole g c good =
       },
       told,
       looked.2,
+      looked.3,
     )
 
 pub returns-clause-bad : goal.returns-clause-bad

@@ -2,11 +2,11 @@ use Rattle.std.proofs.Common.{◌≤◌, ◌+◌, ◌-◌, ℕ, List, refl, subs
 use Rattle.block_trees.specs.Bodies.{Blocks}
 use Rattle.reclaim.specs.Heads.{HeadsAreTold}
 use Rattle.reclaim.specs.Levels.{AreLeveled}
-use Rattle.reclaim.specs.Looks.{look_reads, NamesNodes, NextHoldsLink, IsLooked}
+use Rattle.reclaim.specs.Looks.{NamesNodes, NextHoldsLink, IsLooked}
 use Rattle.reclaim.specs.Passes.{IsPass}
 use Rattle.reclaim.specs.Tables.{IsTold}
-use Rattle.reclaim.specs.Verified.{AreAllowed, HasLookedOnce}
-use Rattle.reclaim.proofs.Costs.{looked_one, looked_all}
+use Rattle.reclaim.specs.Verified.{AreAllowed, HasCost, once_reads, once_pages}
+use Rattle.reclaim.proofs.Costs.{looked_one, looked_all, pages_same}
 use Rattle.reclaim.proofs.Marking.{begins_itself, begins_on}
 use Rattle.reclaim.proofs.Telling.{looked_none, looked_on, reads_on}
 use Rattle.reclaim.proofs.verification.look_at_all.Goals as goal
@@ -20,6 +20,7 @@ loop-block-init g c = record {
   leveled = c.requires.leveled;
   on = record { blocks = refl; roots = refl; begins = begins_itself c.args.pass.now.order };
   reads = omega arith;
+  asks = omega arith;
   looks = record { same_nodes = refl; same_kept = refl; same_writes = refl; came = g.met.N.Nodes.follows_itself c.args.nodes.now; sound = c.requires.sound; same_limit = refl; same_blocks = refl };
 }
 
@@ -67,8 +68,12 @@ loop-block-preserved g c =
     (c.in_ok-good.ensures.looked c.if-not-good.false)) in
     let heads : HeadsAreTold (g.N.Nodes.limit s - 80) f q u =
     subst (λ (n : ℕ). HeadsAreTold (n - 80) f q u) so_far.looks.same_limit (subst (λ (h : Blocks). HeadsAreTold (g.N.Nodes.limit mid - 80) h q u) so_far.looks.same_nodes (c.in_ok-good.ensures.heads c.if-not-good.false)) in
-    let own : g.N.Nodes.reads new ≤ g.N.Nodes.reads mid + (1 + look_reads (f block)) =
-    subst (λ (h : Blocks). g.N.Nodes.reads new ≤ g.N.Nodes.reads mid + (1 + look_reads (h block))) so_far.looks.same_nodes c.look_at_next.ensures.reads in
+    let own : g.N.Nodes.reads new ≤ g.N.Nodes.reads mid + once_reads (f block) =
+    subst (λ (h : Blocks). g.N.Nodes.reads new ≤ g.N.Nodes.reads mid + once_reads (h block)) so_far.looks.same_nodes c.look_at_next.ensures.reads.0 in
+    let pages : g.N.Nodes.asked new ≤ g.N.Nodes.asked mid + once_pages (g.N.Nodes.page s) (g.N.Nodes.limit s) (f block) =
+    subst (λ (h : Blocks). g.N.Nodes.asked new ≤ g.N.Nodes.asked mid + once_pages (g.N.Nodes.page s) (g.N.Nodes.limit s) (h block)) so_far.looks.same_nodes
+    (pages_same (g.N.Nodes.page s) (g.N.Nodes.limit s) (g.N.Nodes.page mid) (g.N.Nodes.limit mid) (g.N.Nodes.asked mid) (g.N.Nodes.asked new) (g.N.Nodes.node mid block)
+    (g.met.N.Nodes.same_page s mid so_far.looks.came) so_far.looks.same_limit c.look_at_next.ensures.reads.1) in
     record {
       pass = subst (λ (h : Blocks). IsPass h q) both c.in_ok-good.ensures.pass.0;
       told = subst (λ (h : Blocks). IsTold h q u) both c.in_ok-good.ensures.pass.1;
@@ -76,7 +81,8 @@ loop-block-preserved g c =
       heads = heads;
       leveled = subst (λ (h : Blocks). AreLeveled h q c.look_at_next.new.levels) so_far.looks.same_nodes c.in_ok-good.ensures.leveled;
       on = record { blocks = on.blocks ∙ so_far.on.blocks; roots = on.roots ∙ so_far.on.roots; begins = begins_on c.args.pass.now.order p.order q.order so_far.on.begins on.begins };
-      reads = omega (arith, own, so_far.reads, reads_on p q block on left.0 left.1 c.in_ok-good.ensures.next (λ b. 1 + look_reads (f b)));
+      reads = omega (arith, own, so_far.reads, reads_on p q block on left.0 left.1 c.in_ok-good.ensures.next (λ b. once_reads (f b)));
+      asks = omega (arith, pages, so_far.asks, reads_on p q block on left.0 left.1 c.in_ok-good.ensures.next (λ b. once_pages (g.N.Nodes.page s) (g.N.Nodes.limit s) (f b)));
       looks = g.met.N.Nodes.looks_on s mid new so_far.looks c.look_at_next.ensures.looks;
     }
 
@@ -93,14 +99,14 @@ returns-then-not-good-clause-bad g c _ trees =
 pub returns-in_err-good-clause-reads : goal.returns-in_err-good-clause-reads
 returns-in_err-good-clause-reads g c =
     let so_far = c.loop-block.invariant in
-    looked_one (g.N.Nodes.node c.args.nodes.now) (g.N.Nodes.node c.loop-block.nodes) c.loop-block.pass c.args.pass.now.roots c.in-Some.block (g.N.Nodes.reads c.args.nodes.now) (g.N.Nodes.reads c.loop-block.nodes) (g.N.Nodes.reads c.look_at_next.new.nodes)
-    so_far.looks.same_nodes so_far.pass so_far.on.roots c.in-Some.ensures.left.0 c.in-Some.ensures.left.1 so_far.reads c.look_at_next.ensures.reads
+    looked_one once_reads (g.N.Nodes.node c.args.nodes.now) (g.N.Nodes.node c.loop-block.nodes) c.loop-block.pass c.args.pass.now.roots c.in-Some.block (g.N.Nodes.reads c.args.nodes.now) (g.N.Nodes.reads c.loop-block.nodes) (g.N.Nodes.reads c.look_at_next.new.nodes)
+    so_far.looks.same_nodes so_far.pass so_far.on.roots c.in-Some.ensures.left.0 c.in-Some.ensures.left.1 so_far.reads c.look_at_next.ensures.reads.0
 
 pub returns-then-not-good-clause-reads : goal.returns-then-not-good-clause-reads
 returns-then-not-good-clause-reads g c =
     let so_far = c.loop-block.invariant in
-    looked_one (g.N.Nodes.node c.args.nodes.now) (g.N.Nodes.node c.loop-block.nodes) c.loop-block.pass c.args.pass.now.roots c.in-Some.block (g.N.Nodes.reads c.args.nodes.now) (g.N.Nodes.reads c.loop-block.nodes) (g.N.Nodes.reads c.look_at_next.new.nodes)
-    so_far.looks.same_nodes so_far.pass so_far.on.roots c.in-Some.ensures.left.0 c.in-Some.ensures.left.1 so_far.reads c.look_at_next.ensures.reads
+    looked_one once_reads (g.N.Nodes.node c.args.nodes.now) (g.N.Nodes.node c.loop-block.nodes) c.loop-block.pass c.args.pass.now.roots c.in-Some.block (g.N.Nodes.reads c.args.nodes.now) (g.N.Nodes.reads c.loop-block.nodes) (g.N.Nodes.reads c.look_at_next.new.nodes)
+    so_far.looks.same_nodes so_far.pass so_far.on.roots c.in-Some.ensures.left.0 c.in-Some.ensures.left.1 so_far.reads c.look_at_next.ensures.reads.0
 
 pub returns-then-not-good-clause-on : goal.returns-then-not-good-clause-on
 returns-then-not-good-clause-on g c =
@@ -114,5 +120,33 @@ returns-then-not-good-clause-looks g c = g.met.N.Nodes.looks_on c.args.nodes.now
 pub returns-clause-reads : goal.returns-clause-reads
 returns-clause-reads g c =
     let so_far = c.loop-block.invariant in
-    subst (λ (l : List ℕ). HasLookedOnce (g.N.Nodes.node c.args.nodes.now) l (g.N.Nodes.reads c.args.nodes.now) (g.N.Nodes.reads c.loop-block.nodes)) so_far.on.roots
-    (looked_all (g.N.Nodes.node c.args.nodes.now) c.loop-block.pass (g.N.Nodes.reads c.args.nodes.now) (g.N.Nodes.reads c.loop-block.nodes) so_far.pass so_far.reads)
+    subst (λ (l : List ℕ). HasCost once_reads (g.N.Nodes.node c.args.nodes.now) l (g.N.Nodes.reads c.args.nodes.now) (g.N.Nodes.reads c.loop-block.nodes)) so_far.on.roots
+    (looked_all once_reads (g.N.Nodes.node c.args.nodes.now) c.loop-block.pass (g.N.Nodes.reads c.args.nodes.now) (g.N.Nodes.reads c.loop-block.nodes) so_far.pass so_far.reads)
+
+pub returns-clause-asks : goal.returns-clause-asks
+returns-clause-asks g c =
+    let so_far = c.loop-block.invariant in
+    let s = c.args.nodes.now in
+    let cost = once_pages (g.N.Nodes.page s) (g.N.Nodes.limit s) in
+    subst (λ (l : List ℕ). HasCost cost (g.N.Nodes.node s) l (g.N.Nodes.asked s) (g.N.Nodes.asked c.loop-block.nodes)) so_far.on.roots
+    (looked_all cost (g.N.Nodes.node s) c.loop-block.pass (g.N.Nodes.asked s) (g.N.Nodes.asked c.loop-block.nodes) so_far.pass so_far.asks)
+
+pub returns-in_err-good-clause-asks : goal.returns-in_err-good-clause-asks
+returns-in_err-good-clause-asks g c =
+    let so_far = c.loop-block.invariant in
+    let s = c.args.nodes.now in
+    let mid = c.loop-block.nodes in
+    looked_one (once_pages (g.N.Nodes.page s) (g.N.Nodes.limit s)) (g.N.Nodes.node s) (g.N.Nodes.node mid) c.loop-block.pass c.args.pass.now.roots c.in-Some.block (g.N.Nodes.asked s) (g.N.Nodes.asked mid) (g.N.Nodes.asked c.look_at_next.new.nodes)
+    so_far.looks.same_nodes so_far.pass so_far.on.roots c.in-Some.ensures.left.0 c.in-Some.ensures.left.1 so_far.asks
+    (pages_same (g.N.Nodes.page s) (g.N.Nodes.limit s) (g.N.Nodes.page mid) (g.N.Nodes.limit mid) (g.N.Nodes.asked mid) (g.N.Nodes.asked c.look_at_next.new.nodes) (g.N.Nodes.node mid c.in-Some.block)
+    (g.met.N.Nodes.same_page s mid so_far.looks.came) so_far.looks.same_limit c.look_at_next.ensures.reads.1)
+
+pub returns-then-not-good-clause-asks : goal.returns-then-not-good-clause-asks
+returns-then-not-good-clause-asks g c =
+    let so_far = c.loop-block.invariant in
+    let s = c.args.nodes.now in
+    let mid = c.loop-block.nodes in
+    looked_one (once_pages (g.N.Nodes.page s) (g.N.Nodes.limit s)) (g.N.Nodes.node s) (g.N.Nodes.node mid) c.loop-block.pass c.args.pass.now.roots c.in-Some.block (g.N.Nodes.asked s) (g.N.Nodes.asked mid) (g.N.Nodes.asked c.look_at_next.new.nodes)
+    so_far.looks.same_nodes so_far.pass so_far.on.roots c.in-Some.ensures.left.0 c.in-Some.ensures.left.1 so_far.asks
+    (pages_same (g.N.Nodes.page s) (g.N.Nodes.limit s) (g.N.Nodes.page mid) (g.N.Nodes.limit mid) (g.N.Nodes.asked mid) (g.N.Nodes.asked c.look_at_next.new.nodes) (g.N.Nodes.node mid c.in-Some.block)
+    (g.met.N.Nodes.same_page s mid so_far.looks.came) so_far.looks.same_limit c.look_at_next.ensures.reads.1)

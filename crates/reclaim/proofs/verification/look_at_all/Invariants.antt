@@ -3,10 +3,9 @@ use Rattle.std.specs.List.{sum_by}
 use Rattle.node_store.specs.Frames.{OnlyLooks}
 use Rattle.reclaim.specs.Heads.{HeadsAreTold}
 use Rattle.reclaim.specs.Levels.{AreLeveled}
-use Rattle.reclaim.specs.Looks.{look_reads}
 use Rattle.reclaim.specs.Passes.{IsPass, Advances}
 use Rattle.reclaim.specs.Tables.{IsTold}
-use Rattle.reclaim.specs.Verified.{AreLooked}
+use Rattle.reclaim.specs.Verified.{AreLooked, once_reads, once_pages}
 use Rattle.reclaim.proofs.verification.look_at_all.Given as goal
 
 -- what was read so far is marked, told and sound
@@ -18,7 +17,8 @@ invariant-loop-block g l = record {
   heads : HeadsAreTold (g.N.Nodes.limit l.fn.nodes - 80) (g.N.Nodes.node l.fn.nodes) l.pass l.table;
   leveled : AreLeveled (g.N.Nodes.node l.fn.nodes) l.pass l.levels;
   on : Advances l.fn.pass l.pass;
-  reads : g.N.Nodes.reads l.nodes ≤ g.N.Nodes.reads l.fn.nodes + sum_by (λ b. 1 + look_reads (g.N.Nodes.node l.fn.nodes b)) (take l.pass.next l.pass.order);
+  reads : g.N.Nodes.reads l.nodes ≤ g.N.Nodes.reads l.fn.nodes + sum_by (λ b. once_reads (g.N.Nodes.node l.fn.nodes b)) (take l.pass.next l.pass.order);
+  asks : g.N.Nodes.asked l.nodes ≤ g.N.Nodes.asked l.fn.nodes + sum_by (λ b. once_pages (g.N.Nodes.page l.fn.nodes) (g.N.Nodes.limit l.fn.nodes) (g.N.Nodes.node l.fn.nodes b)) (take l.pass.next l.pass.order);
   looks : OnlyLooks g.N.Nodes.node g.N.Nodes.kept g.N.Nodes.writes g.N.Nodes.follows g.N.Nodes.is_sound g.N.Nodes.limit g.N.Nodes.blocks l.fn.nodes l.nodes;
 }
 

@@ -22,11 +22,11 @@ use Rattle.reclaim.proofs.Paths.{leveled_on, stands_block, no_entries}
 use Rattle.reclaim.proofs.Telling.{told_on, on_any, ok_any, mark_why, next_reached}
 use Rattle.reclaim.proofs.verification.look_at_next.Goals as goal
 
-pub returns-in_err-read-clause-damaged : goal.returns-in_err-read-clause-damaged
-returns-in_err-read-clause-damaged g c damaged =
+pub returns-in_err-facts-clause-damaged : goal.returns-in_err-facts-clause-damaged
+returns-in_err-facts-clause-damaged g c damaged =
     let p = err_from_is_err_and c.from_residual.result c.from_residual.ensures.1 in
     let is : p.0 ≡ Damaged = cc in
-    (c.args.block, next_reached (g.N.Nodes.node c.args.nodes.now) c.args.pass.now c.args.block c.requires.pass c.requires.left.0 c.requires.left.1, c.in_err-read.ensures.damaged (ap (λ (e : Fault). Err e) (sym p.2 ∙ is)))
+    (c.args.block, next_reached (g.N.Nodes.node c.args.nodes.now) c.args.pass.now c.args.block c.requires.pass c.requires.left.0 c.requires.left.1, c.in_err-facts.ensures.damaged (ap (λ (e : Fault). Err e) (sym p.2 ∙ is)))
 
 pub returns-in_err-mark_next-clause-damaged : goal.returns-in_err-mark_next-clause-damaged
 returns-in_err-mark_next-clause-damaged g c damaged =
@@ -37,10 +37,9 @@ returns-in_err-mark_next-clause-damaged g c damaged =
     let fault = c.in_err-mark_next.field-0.0 in
     let p = err_from_is_err_and c.from_residual-in_err-mark_next.result c.from_residual-in_err-mark_next.ensures.1 in
     let is : p.0 ≡ Damaged = cc in
-    let held : f block ≡ Some c.lent-bytes.result.now = c.in_ok-read.ensures.shown ∙ ap (λ (xs : List ℕ). Some xs) (sym c.lent-bytes.ensures) in
-    let names = c.in_ok-names.names.items in
+    let names = c.in_ok-facts.facts.names.items in
     no_node f pass (f block) names pass.blocks fault c.requires.pass c.requires.left.0 (ap f (sym c.requires.left.1))
-    (subst (λ (o : Option (List ℕ)). (b : ℕ) → Contains names b ↔ Names o b) (sym held) c.in_ok-names.ensures.names)
+    c.in_ok-facts.ensures.facts.names
     (λ b low. g.met.N.Nodes.none_below s b low)
     (λ b high. g.met.N.Nodes.none_beyond s b (subst (λ (n : ℕ). n ≤ b) c.requires.blocks high))
     (subst (λ (l : List ℕ). IsMarkFault pass.blocks l fault) c.deref.ensures.value c.in_err-mark_next.ensures.why)
@@ -49,7 +48,7 @@ returns-in_err-mark_next-clause-damaged g c damaged =
 pub returns-in_err-mark_next-clause-why : goal.returns-in_err-mark_next-clause-why
 returns-in_err-mark_next-clause-why g c =
     let p = err_from_is_err_and c.from_residual-in_err-mark_next.result c.from_residual-in_err-mark_next.ensures.1 in
-    let why = mark_why (g.N.Nodes.causes c.args.nodes.now c.read.new.self) c.args.pass.now.blocks c.deref.result.now c.in_err-mark_next.field-0.0 c.in_err-mark_next.ensures.why (g.met.N.Nodes.memory_may_want c.args.nodes.now c.read.new.self) in
+    let why = mark_why (g.N.Nodes.causes c.args.nodes.now c.read_facts.new.nodes) c.args.pass.now.blocks c.deref.result.now c.in_err-mark_next.field-0.0 c.in_err-mark_next.ensures.why (g.met.N.Nodes.memory_may_want c.args.nodes.now c.read_facts.new.nodes) in
     rw (p.1, p.2) why
 
 pub returns-then-not-have_heads-clause-pass : goal.returns-then-not-have_heads-clause-pass
@@ -62,34 +61,32 @@ returns-then-not-have_heads-clause-pass g c =
     let t = c.args.table.now in
     let u = c.take_in-have_heads.new.self in
     let block = c.args.block in
-    let bytes = c.lent-bytes.result.now in
-    let held : f block ≡ Some bytes = c.in_ok-read.ensures.shown ∙ ap (λ (xs : List ℕ). Some xs) (sym c.lent-bytes.ensures) in
-    let says : Says (f block) c.in_ok-parts.parts = subst (λ (o : Option (List ℕ)). Says o c.in_ok-parts.parts) (sym held) c.in_ok-parts.ensures in
+    let says : Says (f block) c.in_ok-facts.facts.parts = c.in_ok-facts.ensures.facts.says in
     let same_capacity : c.block_bytes-capacity.result - 80 ≡ limit - 80 = ap (λ (n : ℕ). n - 80) c.block_bytes-capacity.ensures.value in
     let whole : (b : ℕ) (bytes : List ℕ) → f b ≡ Some bytes → IsNode limit bytes = λ b bytes is. g.met.N.Nodes.whole s b bytes c.requires.sound is in
     let most : ℕ → ℕ = λ b. longest (limit - 80) (f b) in
     let keeps : KeepsHeads (c.block_bytes-capacity.result - 80) most (take p.next p.order) (places_read f p) t =
     subst (λ (n : ℕ). KeepsHeads n most (take p.next p.order) (places_read f p) t) (sym same_capacity) c.requires.heads in
-    let new : IsNew (c.block_bytes-capacity.result - 80) most c.in_ok-parts.parts block t =
-    subst (λ (n : ℕ). IsNew n most c.in_ok-parts.parts block t) (sym same_capacity) (record {
-      allows = parts_allow limit (f block) c.in_ok-parts.parts (whole block) says;
-      link = λ some. linked_allows (limit - 80) (f block) (sym (edge_some (f block) c.in_ok-parts.parts.edge says.edge) ∙ some);
+    let new : IsNew (c.block_bytes-capacity.result - 80) most c.in_ok-facts.facts.parts block t =
+    subst (λ (n : ℕ). IsNew n most c.in_ok-facts.facts.parts block t) (sym same_capacity) (record {
+      allows = parts_allow limit (f block) c.in_ok-facts.facts.parts (whole block) says;
+      link = λ some. linked_allows (limit - 80) (f block) (sym (edge_some (f block) c.in_ok-facts.facts.parts.edge says.edge) ∙ some);
       fresh = next_fresh f p t block c.requires.pass c.requires.told c.requires.left.0 c.requires.left.1;
     }) in
-    let f' = g.N.Nodes.node c.read.new.self in
-    let same : f' ≡ f = c.read.ensures.looks.same_nodes in
-    let there : f block ≢ None = λ none. (let no : None ≡ found bytes = sym none ∙ held in cc) in
-    let names = c.in_ok-names.names.items in
+    let f' = g.N.Nodes.node c.read_facts.new.nodes in
+    let same : f' ≡ f = c.read_facts.ensures.looks.same_nodes in
+    let there = c.in_ok-facts.ensures.there in
+    let names = c.in_ok-facts.facts.names.items in
     let named : (b : ℕ) → Contains c.deref.result.now b ↔ Names (f block) b =
-    subst (λ (l : List ℕ). (b : ℕ) → Contains l b ↔ Names (f block) b) (sym c.deref.ensures.value) (subst (λ (o : Option (List ℕ)). (b : ℕ) → Contains names b ↔ Names o b) (sym held) c.in_ok-names.ensures.names) in
+    subst (λ (l : List ℕ). (b : ℕ) → Contains l b ↔ Names (f block) b) (sym c.deref.ensures.value) c.in_ok-facts.ensures.facts.names in
     let pass : IsPass f q = c.in_ok-mark_next.ensures.pass f c.requires.pass (subst (λ (b : ℕ). f b ≢ None) c.requires.left.1 there) (subst (λ (k : ℕ). (b : ℕ) → Contains c.deref.result.now b ↔ Names (f k) b) c.requires.left.1 named) in
     let below : block < p.blocks = elim (cases_lt block p.blocks) [ inl less ↦ less | inr past ↦ absurd (there (g.met.N.Nodes.none_beyond s block (subst (λ (n : ℕ). n ≤ block) c.requires.blocks past))) ] in
     let directories : (b : ℕ) → Contains c.deref-3.result.now b ↔ NamesDirectory (f block) b =
-    subst (λ (l : List ℕ). (b : ℕ) → Contains l b ↔ NamesDirectory (f block) b) (sym c.deref-3.ensures.value) (subst (λ (o : Option (List ℕ)). (b : ℕ) → Contains c.in_ok-directories.directories.items b ↔ NamesDirectory o b) (sym held) c.in_ok-directories.ensures.names) in
+    subst (λ (l : List ℕ). (b : ℕ) → Contains l b ↔ NamesDirectory (f block) b) (sym c.deref-3.ensures.value) c.in_ok-facts.ensures.facts.directories in
     let told : IsTold f q u =
     told_on p q block c.mark_next.ensures.on c.requires.left.0 c.requires.left.1 c.in_ok-mark_next.ensures.next.0 f t u c.deref-3.result.now c.requires.told below c.take_in-have_heads.ensures.sized directories c.take_in-have_heads.ensures.named c.take_in-have_heads.ensures.stay
-    (is_some c.in_ok-parts.parts.edge) (edge_some (f block) c.in_ok-parts.parts.edge says.edge) c.take_in-have_heads.ensures.links
-    (λ l is. c.take_in-have_heads.ensures.nexts l.next (next_said (f block) c.in_ok-parts.parts.edge says.edge ∙ ap (option_map (λ (l : Link). l.next)) is)) c.take_in-have_heads.ensures.quiet in
+    (is_some c.in_ok-facts.facts.parts.edge) (edge_some (f block) c.in_ok-facts.facts.parts.edge says.edge) c.take_in-have_heads.ensures.links
+    (λ l is. c.take_in-have_heads.ensures.nexts l.next (next_said (f block) c.in_ok-facts.facts.parts.edge says.edge ∙ ap (option_map (λ (l : Link). l.next)) is)) c.take_in-have_heads.ensures.quiet in
     (subst (λ (h : Blocks). IsPass h q) (sym same) pass, subst (λ (h : Blocks). IsTold h q u) (sym same) told)
 
 pub returns-then-not-have_heads-clause-bad : goal.returns-then-not-have_heads-clause-bad
@@ -102,24 +99,22 @@ returns-then-not-have_heads-clause-bad g c _ trees =
     let t = c.args.table.now in
     let u = c.take_in-have_heads.new.self in
     let block = c.args.block in
-    let bytes = c.lent-bytes.result.now in
-    let held : f block ≡ Some bytes = c.in_ok-read.ensures.shown ∙ ap (λ (xs : List ℕ). Some xs) (sym c.lent-bytes.ensures) in
-    let says : Says (f block) c.in_ok-parts.parts = subst (λ (o : Option (List ℕ)). Says o c.in_ok-parts.parts) (sym held) c.in_ok-parts.ensures in
+    let says : Says (f block) c.in_ok-facts.facts.parts = c.in_ok-facts.ensures.facts.says in
     let same_capacity : c.block_bytes-capacity.result - 80 ≡ limit - 80 = ap (λ (n : ℕ). n - 80) c.block_bytes-capacity.ensures.value in
     let whole : (b : ℕ) (bytes : List ℕ) → f b ≡ Some bytes → IsNode limit bytes = λ b bytes is. g.met.N.Nodes.whole s b bytes c.requires.sound is in
     let most : ℕ → ℕ = λ b. longest (limit - 80) (f b) in
     let keeps : KeepsHeads (c.block_bytes-capacity.result - 80) most (take p.next p.order) (places_read f p) t =
     subst (λ (n : ℕ). KeepsHeads n most (take p.next p.order) (places_read f p) t) (sym same_capacity) c.requires.heads in
-    let new : IsNew (c.block_bytes-capacity.result - 80) most c.in_ok-parts.parts block t =
-    subst (λ (n : ℕ). IsNew n most c.in_ok-parts.parts block t) (sym same_capacity) (record {
-      allows = parts_allow limit (f block) c.in_ok-parts.parts (whole block) says;
-      link = λ some. linked_allows (limit - 80) (f block) (sym (edge_some (f block) c.in_ok-parts.parts.edge says.edge) ∙ some);
+    let new : IsNew (c.block_bytes-capacity.result - 80) most c.in_ok-facts.facts.parts block t =
+    subst (λ (n : ℕ). IsNew n most c.in_ok-facts.facts.parts block t) (sym same_capacity) (record {
+      allows = parts_allow limit (f block) c.in_ok-facts.facts.parts (whole block) says;
+      link = λ some. linked_allows (limit - 80) (f block) (sym (edge_some (f block) c.in_ok-facts.facts.parts.edge says.edge) ∙ some);
       fresh = next_fresh f p t block c.requires.pass c.requires.told c.requires.left.0 c.requires.left.1;
     }) in
     let small : limit ≤ 2 ^ 18 = omega (arith, c.block_bytes-capacity.ensures.value, c.block_bytes-capacity.ensures.most) in
     c.take_in-have_heads.ensures.bad most (take p.next p.order) (places_read f p) keeps new c.if-not-have_heads.true
-    (subst (λ (n : ℕ). FitHeads n most (places_read f p ++ c.in_ok-parts.parts.places.items)) (sym same_capacity)
-    (trees_fit limit f p.roots trees.0 small whole p block c.in_ok-parts.parts.places.items refl c.requires.pass (next_reached f p block c.requires.pass c.requires.left.0 c.requires.left.1) says.places))
+    (subst (λ (n : ℕ). FitHeads n most (places_read f p ++ c.in_ok-facts.facts.parts.places.items)) (sym same_capacity)
+    (trees_fit limit f p.roots trees.0 small whole p block c.in_ok-facts.facts.parts.places.items refl c.requires.pass (next_reached f p block c.requires.pass c.requires.left.0 c.requires.left.1) says.places))
 
 pub returns-clause-pass : goal.returns-clause-pass
 returns-clause-pass g c =
@@ -131,34 +126,32 @@ returns-clause-pass g c =
     let t = c.args.table.now in
     let u = c.take_in-have_heads.new.self in
     let block = c.args.block in
-    let bytes = c.lent-bytes.result.now in
-    let held : f block ≡ Some bytes = c.in_ok-read.ensures.shown ∙ ap (λ (xs : List ℕ). Some xs) (sym c.lent-bytes.ensures) in
-    let says : Says (f block) c.in_ok-parts.parts = subst (λ (o : Option (List ℕ)). Says o c.in_ok-parts.parts) (sym held) c.in_ok-parts.ensures in
+    let says : Says (f block) c.in_ok-facts.facts.parts = c.in_ok-facts.ensures.facts.says in
     let same_capacity : c.block_bytes-capacity.result - 80 ≡ limit - 80 = ap (λ (n : ℕ). n - 80) c.block_bytes-capacity.ensures.value in
     let whole : (b : ℕ) (bytes : List ℕ) → f b ≡ Some bytes → IsNode limit bytes = λ b bytes is. g.met.N.Nodes.whole s b bytes c.requires.sound is in
     let most : ℕ → ℕ = λ b. longest (limit - 80) (f b) in
     let keeps : KeepsHeads (c.block_bytes-capacity.result - 80) most (take p.next p.order) (places_read f p) t =
     subst (λ (n : ℕ). KeepsHeads n most (take p.next p.order) (places_read f p) t) (sym same_capacity) c.requires.heads in
-    let new : IsNew (c.block_bytes-capacity.result - 80) most c.in_ok-parts.parts block t =
-    subst (λ (n : ℕ). IsNew n most c.in_ok-parts.parts block t) (sym same_capacity) (record {
-      allows = parts_allow limit (f block) c.in_ok-parts.parts (whole block) says;
-      link = λ some. linked_allows (limit - 80) (f block) (sym (edge_some (f block) c.in_ok-parts.parts.edge says.edge) ∙ some);
+    let new : IsNew (c.block_bytes-capacity.result - 80) most c.in_ok-facts.facts.parts block t =
+    subst (λ (n : ℕ). IsNew n most c.in_ok-facts.facts.parts block t) (sym same_capacity) (record {
+      allows = parts_allow limit (f block) c.in_ok-facts.facts.parts (whole block) says;
+      link = λ some. linked_allows (limit - 80) (f block) (sym (edge_some (f block) c.in_ok-facts.facts.parts.edge says.edge) ∙ some);
       fresh = next_fresh f p t block c.requires.pass c.requires.told c.requires.left.0 c.requires.left.1;
     }) in
     let f' = g.N.Nodes.node c.look.new.nodes in
-    let same : f' ≡ f = c.look.ensures.looks.same_nodes ∙ c.read.ensures.looks.same_nodes in
-    let there : f block ≢ None = λ none. (let no : None ≡ found bytes = sym none ∙ held in cc) in
-    let names = c.in_ok-names.names.items in
+    let same : f' ≡ f = c.look.ensures.looks.same_nodes ∙ c.read_facts.ensures.looks.same_nodes in
+    let there = c.in_ok-facts.ensures.there in
+    let names = c.in_ok-facts.facts.names.items in
     let named : (b : ℕ) → Contains c.deref.result.now b ↔ Names (f block) b =
-    subst (λ (l : List ℕ). (b : ℕ) → Contains l b ↔ Names (f block) b) (sym c.deref.ensures.value) (subst (λ (o : Option (List ℕ)). (b : ℕ) → Contains names b ↔ Names o b) (sym held) c.in_ok-names.ensures.names) in
+    subst (λ (l : List ℕ). (b : ℕ) → Contains l b ↔ Names (f block) b) (sym c.deref.ensures.value) c.in_ok-facts.ensures.facts.names in
     let pass : IsPass f q = c.in_ok-mark_next.ensures.pass f c.requires.pass (subst (λ (b : ℕ). f b ≢ None) c.requires.left.1 there) (subst (λ (k : ℕ). (b : ℕ) → Contains c.deref.result.now b ↔ Names (f k) b) c.requires.left.1 named) in
     let below : block < p.blocks = elim (cases_lt block p.blocks) [ inl less ↦ less | inr past ↦ absurd (there (g.met.N.Nodes.none_beyond s block (subst (λ (n : ℕ). n ≤ block) c.requires.blocks past))) ] in
     let directories : (b : ℕ) → Contains c.deref-3.result.now b ↔ NamesDirectory (f block) b =
-    subst (λ (l : List ℕ). (b : ℕ) → Contains l b ↔ NamesDirectory (f block) b) (sym c.deref-3.ensures.value) (subst (λ (o : Option (List ℕ)). (b : ℕ) → Contains c.in_ok-directories.directories.items b ↔ NamesDirectory o b) (sym held) c.in_ok-directories.ensures.names) in
+    subst (λ (l : List ℕ). (b : ℕ) → Contains l b ↔ NamesDirectory (f block) b) (sym c.deref-3.ensures.value) c.in_ok-facts.ensures.facts.directories in
     let told : IsTold f q u =
     told_on p q block c.mark_next.ensures.on c.requires.left.0 c.requires.left.1 c.in_ok-mark_next.ensures.next.0 f t u c.deref-3.result.now c.requires.told below c.take_in-have_heads.ensures.sized directories c.take_in-have_heads.ensures.named c.take_in-have_heads.ensures.stay
-    (is_some c.in_ok-parts.parts.edge) (edge_some (f block) c.in_ok-parts.parts.edge says.edge) c.take_in-have_heads.ensures.links
-    (λ l is. c.take_in-have_heads.ensures.nexts l.next (next_said (f block) c.in_ok-parts.parts.edge says.edge ∙ ap (option_map (λ (l : Link). l.next)) is)) c.take_in-have_heads.ensures.quiet in
+    (is_some c.in_ok-facts.facts.parts.edge) (edge_some (f block) c.in_ok-facts.facts.parts.edge says.edge) c.take_in-have_heads.ensures.links
+    (λ l is. c.take_in-have_heads.ensures.nexts l.next (next_said (f block) c.in_ok-facts.facts.parts.edge says.edge ∙ ap (option_map (λ (l : Link). l.next)) is)) c.take_in-have_heads.ensures.quiet in
     on_any c.look.result (IsPass f' q × IsTold f' q u) (subst (λ (h : Blocks). IsPass h q) (sym same) pass, subst (λ (h : Blocks). IsTold h q u) (sym same) told)
 
 pub returns-clause-heads : goal.returns-clause-heads
@@ -171,36 +164,32 @@ returns-clause-heads g c =
     let t = c.args.table.now in
     let u = c.take_in-have_heads.new.self in
     let block = c.args.block in
-    let bytes = c.lent-bytes.result.now in
-    let held : f block ≡ Some bytes = c.in_ok-read.ensures.shown ∙ ap (λ (xs : List ℕ). Some xs) (sym c.lent-bytes.ensures) in
-    let says : Says (f block) c.in_ok-parts.parts = subst (λ (o : Option (List ℕ)). Says o c.in_ok-parts.parts) (sym held) c.in_ok-parts.ensures in
+    let says : Says (f block) c.in_ok-facts.facts.parts = c.in_ok-facts.ensures.facts.says in
     let same_capacity : c.block_bytes-capacity.result - 80 ≡ limit - 80 = ap (λ (n : ℕ). n - 80) c.block_bytes-capacity.ensures.value in
     let whole : (b : ℕ) (bytes : List ℕ) → f b ≡ Some bytes → IsNode limit bytes = λ b bytes is. g.met.N.Nodes.whole s b bytes c.requires.sound is in
     let most : ℕ → ℕ = λ b. longest (limit - 80) (f b) in
     let keeps : KeepsHeads (c.block_bytes-capacity.result - 80) most (take p.next p.order) (places_read f p) t =
     subst (λ (n : ℕ). KeepsHeads n most (take p.next p.order) (places_read f p) t) (sym same_capacity) c.requires.heads in
-    let new : IsNew (c.block_bytes-capacity.result - 80) most c.in_ok-parts.parts block t =
-    subst (λ (n : ℕ). IsNew n most c.in_ok-parts.parts block t) (sym same_capacity) (record {
-      allows = parts_allow limit (f block) c.in_ok-parts.parts (whole block) says;
-      link = λ some. linked_allows (limit - 80) (f block) (sym (edge_some (f block) c.in_ok-parts.parts.edge says.edge) ∙ some);
+    let new : IsNew (c.block_bytes-capacity.result - 80) most c.in_ok-facts.facts.parts block t =
+    subst (λ (n : ℕ). IsNew n most c.in_ok-facts.facts.parts block t) (sym same_capacity) (record {
+      allows = parts_allow limit (f block) c.in_ok-facts.facts.parts (whole block) says;
+      link = λ some. linked_allows (limit - 80) (f block) (sym (edge_some (f block) c.in_ok-facts.facts.parts.edge says.edge) ∙ some);
       fresh = next_fresh f p t block c.requires.pass c.requires.told c.requires.left.0 c.requires.left.1;
     }) in
     let kept = c.take_in-have_heads.ensures.told most (take p.next p.order) (places_read f p) keeps new c.if-not-have_heads.false in
     let heads : HeadsAreTold (limit - 80) f q u =
-    heads_on f p q block c.mark_next.ensures.on c.requires.left.0 c.requires.left.1 c.in_ok-mark_next.ensures.next.0 (limit - 80) c.in_ok-parts.parts.places.items u says.places
-    (subst (λ (n : ℕ). KeepsHeads n most (take p.next p.order ++ block ∷ []) (places_read f p ++ c.in_ok-parts.parts.places.items) u) same_capacity kept) in
+    heads_on f p q block c.mark_next.ensures.on c.requires.left.0 c.requires.left.1 c.in_ok-mark_next.ensures.next.0 (limit - 80) c.in_ok-facts.facts.parts.places.items u says.places
+    (subst (λ (n : ℕ). KeepsHeads n most (take p.next p.order ++ block ∷ []) (places_read f p ++ c.in_ok-facts.facts.parts.places.items) u) same_capacity kept) in
     ok_any c.look.result (λ good. good ≡ true → HeadsAreTold (limit - 80) f q u) (λ good is. heads)
 
 pub returns-clause-looked : goal.returns-clause-looked
 returns-clause-looked g c =
     let s = c.args.nodes.now in
     let f = g.N.Nodes.node s in
-    let f1 = g.N.Nodes.node c.read.new.self in
+    let f1 = g.N.Nodes.node c.read_facts.new.nodes in
     let block = c.args.block in
-    let same : f1 ≡ f = c.read.ensures.looks.same_nodes in
-    let bytes = c.lent-bytes.result.now in
-    let held : f block ≡ Some bytes = c.in_ok-read.ensures.shown ∙ ap (λ (xs : List ℕ). Some xs) (sym c.lent-bytes.ensures) in
-    let says : Says (f block) c.in_ok-parts.parts = subst (λ (o : Option (List ℕ)). Says o c.in_ok-parts.parts) (sym held) c.in_ok-parts.ensures in
+    let same : f1 ≡ f = c.read_facts.ensures.looks.same_nodes in
+    let says : Says (f block) c.in_ok-facts.facts.parts = c.in_ok-facts.ensures.facts.says in
     IfOk-weaker c.look.result _ _
     (λ good exact well names next.
     let own : (names : NamesNodes f (f block)) (next : NextHoldsLink f (f block)) → IsTrue good ↔ IsLooked (c.block_bytes-capacity.result - 80) f1 c.args.plain (f block) =
@@ -215,12 +204,10 @@ pub returns-clause-bad : goal.returns-clause-bad
 returns-clause-bad g c =
     let s = c.args.nodes.now in
     let f = g.N.Nodes.node s in
-    let f1 = g.N.Nodes.node c.read.new.self in
+    let f1 = g.N.Nodes.node c.read_facts.new.nodes in
     let block = c.args.block in
-    let same : f1 ≡ f = c.read.ensures.looks.same_nodes in
-    let bytes = c.lent-bytes.result.now in
-    let held : f block ≡ Some bytes = c.in_ok-read.ensures.shown ∙ ap (λ (xs : List ℕ). Some xs) (sym c.lent-bytes.ensures) in
-    let says : Says (f block) c.in_ok-parts.parts = subst (λ (o : Option (List ℕ)). Says o c.in_ok-parts.parts) (sym held) c.in_ok-parts.ensures in
+    let same : f1 ≡ f = c.read_facts.ensures.looks.same_nodes in
+    let says : Says (f block) c.in_ok-facts.facts.parts = c.in_ok-facts.ensures.facts.says in
     IfOk-weaker c.look.result _ _
     (λ good exact bad trees.
     let own : (names : NamesNodes f (f block)) (next : NextHoldsLink f (f block)) → IsTrue good ↔ IsLooked (c.block_bytes-capacity.result - 80) f1 c.args.plain (f block) =
@@ -236,25 +223,23 @@ returns-clause-bad g c =
 
 pub returns-clause-why : goal.returns-clause-why
 returns-clause-why g c =
-    IfErr-weaker c.look.result _ _ (λ fault cause other. g.met.N.Nodes.causes_on c.args.nodes.now c.read.new.self c.look.new.nodes fault c.read.ensures.looks.came cause) c.look.ensures.why
+    IfErr-weaker c.look.result _ _ (λ fault cause other. g.met.N.Nodes.causes_on c.args.nodes.now c.read_facts.new.nodes c.look.new.nodes fault c.read_facts.ensures.looks.came cause) c.look.ensures.why
 
 pub returns-clause-looks : goal.returns-clause-looks
-returns-clause-looks g c = g.met.N.Nodes.looks_on c.args.nodes.now c.read.new.self c.look.new.nodes c.read.ensures.looks c.look.ensures.looks
+returns-clause-looks g c = g.met.N.Nodes.looks_on c.args.nodes.now c.read_facts.new.nodes c.look.new.nodes c.read_facts.ensures.looks c.look.ensures.looks
 
 pub returns-then-not-have_heads-clause-leveled : goal.returns-then-not-have_heads-clause-leveled
 returns-then-not-have_heads-clause-leveled g c =
     let f = g.N.Nodes.node c.args.nodes.now in
     let block = c.args.block in
-    let bytes = c.lent-bytes.result.now in
-    let held : f block ≡ Some bytes = c.in_ok-read.ensures.shown ∙ ap (λ (xs : List ℕ). Some xs) (sym c.lent-bytes.ensures) in
-    let says : Says (f block) c.in_ok-parts.parts = subst (λ (o : Option (List ℕ)). Says o c.in_ok-parts.parts) (sym held) c.in_ok-parts.ensures in
+    let says : Says (f block) c.in_ok-facts.facts.parts = c.in_ok-facts.ensures.facts.says in
     let directories : (b : ℕ) → Contains c.deref-2.result.now b ↔ NamesDirectory (f block) b =
-    subst (λ (l : List ℕ). (b : ℕ) → Contains l b ↔ NamesDirectory (f block) b) (sym c.deref-2.ensures.value) (subst (λ (o : Option (List ℕ)). (b : ℕ) → Contains c.in_ok-directories.directories.items b ↔ NamesDirectory o b) (sym held) c.in_ok-directories.ensures.names) in
+    subst (λ (l : List ℕ). (b : ℕ) → Contains l b ↔ NamesDirectory (f block) b) (sym c.deref-2.ensures.value) c.in_ok-facts.ensures.facts.directories in
     let leveled : AreLeveled f c.mark_next.new.self c.take_in.new.self =
     leveled_on f c.args.levels.now c.take_in.new.self c.take_in.ensures.goes c.args.pass.now c.mark_next.new.self block c.mark_next.ensures.on c.requires.left.0 c.requires.left.1 c.in_ok-mark_next.ensures.next.0 c.requires.leveled
     (stands_block f c.take_in.new.self block c.next_in.result c.is_empty.result c.deref-2.result.now
-    (λ l is. c.next_in.ensures ∙ next_said (f block) c.in_ok-parts.parts.edge says.edge ∙ ap (option_map (λ (l : Link). l.next)) is)
-    (λ is. no_entries (f block) c.in_ok-parts.parts.places.items says.places (omega (arith, eqb-true (vec_len c.in_ok-parts.parts.places) 0 (sym c.is_empty.ensures ∙ is), c.in_ok-parts.parts.places.ok.0)))
+    (λ l is. c.next_in.ensures ∙ next_said (f block) c.in_ok-facts.facts.parts.edge says.edge ∙ ap (option_map (λ (l : Link). l.next)) is)
+    (λ is. no_entries (f block) c.in_ok-facts.facts.parts.places.items says.places (omega (arith, eqb-true (vec_len c.in_ok-facts.facts.parts.places) 0 (sym c.is_empty.ensures ∙ is), c.in_ok-facts.facts.parts.places.ok.0)))
     directories c.take_in.ensures.stands) in
     leveled
 
@@ -262,15 +247,13 @@ pub returns-clause-leveled : goal.returns-clause-leveled
 returns-clause-leveled g c =
     let f = g.N.Nodes.node c.args.nodes.now in
     let block = c.args.block in
-    let bytes = c.lent-bytes.result.now in
-    let held : f block ≡ Some bytes = c.in_ok-read.ensures.shown ∙ ap (λ (xs : List ℕ). Some xs) (sym c.lent-bytes.ensures) in
-    let says : Says (f block) c.in_ok-parts.parts = subst (λ (o : Option (List ℕ)). Says o c.in_ok-parts.parts) (sym held) c.in_ok-parts.ensures in
+    let says : Says (f block) c.in_ok-facts.facts.parts = c.in_ok-facts.ensures.facts.says in
     let directories : (b : ℕ) → Contains c.deref-2.result.now b ↔ NamesDirectory (f block) b =
-    subst (λ (l : List ℕ). (b : ℕ) → Contains l b ↔ NamesDirectory (f block) b) (sym c.deref-2.ensures.value) (subst (λ (o : Option (List ℕ)). (b : ℕ) → Contains c.in_ok-directories.directories.items b ↔ NamesDirectory o b) (sym held) c.in_ok-directories.ensures.names) in
+    subst (λ (l : List ℕ). (b : ℕ) → Contains l b ↔ NamesDirectory (f block) b) (sym c.deref-2.ensures.value) c.in_ok-facts.ensures.facts.directories in
     let leveled : AreLeveled f c.mark_next.new.self c.take_in.new.self =
     leveled_on f c.args.levels.now c.take_in.new.self c.take_in.ensures.goes c.args.pass.now c.mark_next.new.self block c.mark_next.ensures.on c.requires.left.0 c.requires.left.1 c.in_ok-mark_next.ensures.next.0 c.requires.leveled
     (stands_block f c.take_in.new.self block c.next_in.result c.is_empty.result c.deref-2.result.now
-    (λ l is. c.next_in.ensures ∙ next_said (f block) c.in_ok-parts.parts.edge says.edge ∙ ap (option_map (λ (l : Link). l.next)) is)
-    (λ is. no_entries (f block) c.in_ok-parts.parts.places.items says.places (omega (arith, eqb-true (vec_len c.in_ok-parts.parts.places) 0 (sym c.is_empty.ensures ∙ is), c.in_ok-parts.parts.places.ok.0)))
+    (λ l is. c.next_in.ensures ∙ next_said (f block) c.in_ok-facts.facts.parts.edge says.edge ∙ ap (option_map (λ (l : Link). l.next)) is)
+    (λ is. no_entries (f block) c.in_ok-facts.facts.parts.places.items says.places (omega (arith, eqb-true (vec_len c.in_ok-facts.facts.parts.places) 0 (sym c.is_empty.ensures ∙ is), c.in_ok-facts.facts.parts.places.ok.0)))
     directories c.take_in.ensures.stands) in
     on_any c.look.result (AreLeveled f c.mark_next.new.self c.take_in.new.self) leveled

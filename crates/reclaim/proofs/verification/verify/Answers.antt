@@ -1,11 +1,16 @@
-use Rattle.std.proofs.Common.{◌≡◌, ◌≢◌, ◌↔◌, ◌≤◌, ◌+◌, ◌*◌, ◌-◌, ℕ, List, Err, length, refl, ap, sym, subst, ◌∙◌}
+use Rattle.std.proofs.Common.{◌≡◌, ◌≢◌, ◌↔◌, ◌≤◌, ◌+◌, ◌*◌, ◌-◌, ℕ, true, List, Err, length, refl, ap, sym, subst, ◌∙◌}
+use Rattle.std.specs.FinSet as set
 use Rattle.std.specs.List.{filter}
-use Rattle.std.specs.Prelude.{IsTrue, All, Contains}
+use Rattle.std.specs.Global.{Global}
+use Rattle.std.specs.Ordering.{nat_cmp}
+use Rattle.std.specs.Prelude.{IsTrue, All, Contains, Vec}
 use Rattle.std.proofs.lemmas.Result.{err_from_is_err_and}
 use Rattle.std.proofs.lemmas.List.Elements.{All-contains}
+use Rattle.allocator.specs.BlockSet.{BlockSet}
 use Rattle.fs_types.specs.declared.fault.Fault.{Fault}
 use Rattle.fs_types.specs.declared.fault.Fault.TheVariants.{Damaged}
 use Rattle.node_format.specs.declared.place.Place.TheVariants.{Dir}
+use Rattle.node_store.specs.NodePages.{pages_for}
 use Rattle.block_trees.specs.Bodies.{Blocks}
 use Rattle.block_trees.specs.Laws.{IsShallow}
 use Rattle.block_trees.specs.Reached.{Reached}
@@ -18,7 +23,8 @@ use Rattle.reclaim.specs.Tables.{IsSized}
 use Rattle.reclaim.proofs.HeadLengths.{heads_none}
 use Rattle.reclaim.proofs.Looked.{all_seen}
 use Rattle.reclaim.proofs.Telling.{told_none, told_quiet, told_silent}
-use Rattle.reclaim.proofs.Costs.{holds_link, none_read, looked_cost, depth_cost, reached_directories}
+use Rattle.reclaim.specs.Verified.{depth_reads, once_reads, once_pages, all_reads, all_pages}
+use Rattle.reclaim.proofs.Costs.{holds_link, none_read, looked_cost, depth_cost, depth_pages, reached_directories}
 use Rattle.reclaim.proofs.Looking.{never, look_read, look_other}
 use Rattle.reclaim.proofs.Marking.{pass_marks}
 use Rattle.reclaim.proofs.Soundness.{sound_directories, sound_has_trees, trees_are_sound}
@@ -34,13 +40,13 @@ returns-then-not-are_data_blocks-clause-damaged g c _ both =
     never (sym c.if-not-are_data_blocks.true ∙ c.are_data_blocks.ensures.1 all)
 
 pub returns-then-not-are_data_blocks-clause-reads : goal.returns-then-not-are_data_blocks-clause-reads
-returns-then-not-are_data_blocks-clause-reads g c = none_read (g.N.Nodes.node c.args.nodes.now) c.args.roots.now (g.N.Nodes.reads c.args.nodes.now)
+returns-then-not-are_data_blocks-clause-reads g c = none_read all_reads (g.N.Nodes.node c.args.nodes.now) c.args.roots.now (g.N.Nodes.reads c.args.nodes.now)
 
 pub returns-in_err-pass-clause-reads : goal.returns-in_err-pass-clause-reads
-returns-in_err-pass-clause-reads g c = none_read (g.N.Nodes.node c.args.nodes.now) c.args.roots.now (g.N.Nodes.reads c.args.nodes.now)
+returns-in_err-pass-clause-reads g c = none_read all_reads (g.N.Nodes.node c.args.nodes.now) c.args.roots.now (g.N.Nodes.reads c.args.nodes.now)
 
 pub returns-in_err-table-clause-reads : goal.returns-in_err-table-clause-reads
-returns-in_err-table-clause-reads g c = none_read (g.N.Nodes.node c.args.nodes.now) c.args.roots.now (g.N.Nodes.reads c.args.nodes.now)
+returns-in_err-table-clause-reads g c = none_read all_reads (g.N.Nodes.node c.args.nodes.now) c.args.roots.now (g.N.Nodes.reads c.args.nodes.now)
 
 pub are_whole-requires-clause-told : goal.are_whole-requires-clause-told
 are_whole-requires-clause-told g c =
@@ -57,7 +63,7 @@ pub are_whole-requires-clause-leveled : goal.are_whole-requires-clause-leveled
 are_whole-requires-clause-leveled g c = leveled_none (g.N.Nodes.node c.args.nodes.now) c.in_ok-pass.pass c.in_ok-levels.levels c.in_ok-pass.ensures.begun.2
 
 pub returns-in_err-levels-clause-reads : goal.returns-in_err-levels-clause-reads
-returns-in_err-levels-clause-reads g c = none_read (g.N.Nodes.node c.args.nodes.now) c.args.roots.now (g.N.Nodes.reads c.args.nodes.now)
+returns-in_err-levels-clause-reads g c = none_read all_reads (g.N.Nodes.node c.args.nodes.now) c.args.roots.now (g.N.Nodes.reads c.args.nodes.now)
 
 pub are_shallow-requires-clause-known : goal.are_shallow-requires-clause-known
 are_shallow-requires-clause-known g c hold =
@@ -72,9 +78,15 @@ are_shallow-requires-clause-known g c hold =
 
 pub are_shallow-requires-clause-quiet : goal.are_shallow-requires-clause-quiet
 are_shallow-requires-clause-quiet g c =
+    let f = g.N.Nodes.node c.args.nodes.now in
     let found = c.in_ok-are_whole.ensures.whole c.if-not-are_whole.false in
-    subst (λ (h : Blocks). AreQuiet h c.are_whole.new.table.quiet.members c.deref.result.now) (sym c.are_whole.ensures.looks.same_nodes)
-    (subst (λ (xs : List ℕ). AreQuiet (g.N.Nodes.node c.args.nodes.now) c.are_whole.new.table.quiet.members xs) (sym c.deref.ensures.value) (told_quiet (g.N.Nodes.node c.args.nodes.now) c.are_whole.new.pass c.are_whole.new.table found.3))
+    let table = c.are_whole.new.table in
+    let gone = c.into_quiet-quiet in
+    let quiet : gone.result.0.members ≡ table.quiet.members = ap (λ (q : BlockSet). q.members) gone.ensures.0 in
+    let words : c.deref.result.now ≡ table.words.items = c.deref.ensures.value ∙ ap (λ (w : Vec ℕ Global). w.items) gone.ensures.1 in
+    subst (λ (h : Blocks). AreQuiet h gone.result.0.members c.deref.result.now) (sym c.are_whole.ensures.looks.same_nodes)
+    (subst (λ (m : set.FinSet nat_cmp). AreQuiet f m c.deref.result.now) (sym quiet)
+    (subst (λ (xs : List ℕ). AreQuiet f table.quiet.members xs) (sym words) (told_quiet f c.are_whole.new.pass table found.3)))
 
 pub are_whole-requires-clause-pass : goal.are_whole-requires-clause-pass
 are_whole-requires-clause-pass g c = c.in_ok-pass.ensures.pass (g.N.Nodes.node c.args.nodes.now)
@@ -99,7 +111,7 @@ pub returns-in_err-are_whole-clause-looks : goal.returns-in_err-are_whole-clause
 returns-in_err-are_whole-clause-looks g c = c.are_whole.ensures.looks
 
 pub returns-in_err-are_whole-clause-reads : goal.returns-in_err-are_whole-clause-reads
-returns-in_err-are_whole-clause-reads g c = looked_cost (g.N.Nodes.node c.args.nodes.now) c.args.roots.now c.args.roots.now (g.N.Nodes.reads c.args.nodes.now) (g.N.Nodes.reads c.are_whole.new.nodes) refl c.are_whole.ensures.reads
+returns-in_err-are_whole-clause-reads g c = looked_cost once_reads depth_reads (g.N.Nodes.node c.args.nodes.now) c.args.roots.now c.args.roots.now (g.N.Nodes.reads c.args.nodes.now) (g.N.Nodes.reads c.are_whole.new.nodes) refl c.are_whole.ensures.reads
 
 pub returns-then-not-are_whole-clause-damaged : goal.returns-then-not-are_whole-clause-damaged
 returns-then-not-are_whole-clause-damaged g c _ both = c.in_ok-are_whole.ensures.bad c.if-not-are_whole.true both
@@ -111,7 +123,7 @@ pub returns-then-not-are_whole-clause-looks : goal.returns-then-not-are_whole-cl
 returns-then-not-are_whole-clause-looks g c = c.are_whole.ensures.looks
 
 pub returns-then-not-are_whole-clause-reads : goal.returns-then-not-are_whole-clause-reads
-returns-then-not-are_whole-clause-reads g c = looked_cost (g.N.Nodes.node c.args.nodes.now) c.args.roots.now c.args.roots.now (g.N.Nodes.reads c.args.nodes.now) (g.N.Nodes.reads c.are_whole.new.nodes) refl c.are_whole.ensures.reads
+returns-then-not-are_whole-clause-reads g c = looked_cost once_reads depth_reads (g.N.Nodes.node c.args.nodes.now) c.args.roots.now c.args.roots.now (g.N.Nodes.reads c.args.nodes.now) (g.N.Nodes.reads c.are_whole.new.nodes) refl c.are_whole.ensures.reads
 
 pub are_shallow-requires-clause-sound : goal.are_shallow-requires-clause-sound
 are_shallow-requires-clause-sound g c = c.are_whole.ensures.looks.sound
@@ -173,11 +185,12 @@ returns-in_err-are_shallow-clause-reads g c =
     let blocks = g.N.Nodes.blocks mid in
     let directories : HasDirectories f blocks roots list =
     reached_directories (g.N.Nodes.limit s - 80) blocks f roots q.order (λ b. (marks b).1) (λ b. (marks b).0) found.2.nodes (λ root within. All-contains (HoldsLink f) roots root found.2.directories within) in
-    let quiet = c.are_whole.new.table.quiet.members in
+    let quiet = c.into_quiet-quiet.result.0.members in
+    let known : quiet ≡ c.are_whole.new.table.quiet.members = ap (λ (q : BlockSet). q.members) c.into_quiet-quiet.ensures.0 in
     let levels : g.N.Nodes.reads c.are_shallow.new.nodes ≤ g.N.Nodes.reads mid + (16 * length (loud_of quiet list) + length list) =
     c.are_shallow.ensures.reads list (subst (λ (h : Blocks). HasDirectories h blocks roots list) (sym c.are_whole.ensures.looks.same_nodes) directories) in
-    depth_cost f roots q quiet (g.N.Nodes.reads s) (g.N.Nodes.reads mid) (g.N.Nodes.reads c.are_shallow.new.nodes) found.0 same found.4
-    (λ b l has is none. told_silent f q c.are_whole.new.table b l found.3 (all_seen f q found.0 found.1 b has) is none) levels
+    depth_cost f roots q quiet found.0 same (λ b l has is none. subst (λ (m : set.FinSet nat_cmp). set.contains m b ≡ true) (sym known) (told_silent f q c.are_whole.new.table b l found.3 (all_seen f q found.0 found.1 b has) is none))
+    (g.N.Nodes.reads s) (g.N.Nodes.reads mid) (g.N.Nodes.reads c.are_shallow.new.nodes) found.4 levels
 
 pub returns-then-not-are_shallow-clause-reads : goal.returns-then-not-are_shallow-clause-reads
 returns-then-not-are_shallow-clause-reads g c =
@@ -193,11 +206,12 @@ returns-then-not-are_shallow-clause-reads g c =
     let blocks = g.N.Nodes.blocks mid in
     let directories : HasDirectories f blocks roots list =
     reached_directories (g.N.Nodes.limit s - 80) blocks f roots q.order (λ b. (marks b).1) (λ b. (marks b).0) found.2.nodes (λ root within. All-contains (HoldsLink f) roots root found.2.directories within) in
-    let quiet = c.are_whole.new.table.quiet.members in
+    let quiet = c.into_quiet-quiet.result.0.members in
+    let known : quiet ≡ c.are_whole.new.table.quiet.members = ap (λ (q : BlockSet). q.members) c.into_quiet-quiet.ensures.0 in
     let levels : g.N.Nodes.reads c.are_shallow.new.nodes ≤ g.N.Nodes.reads mid + (16 * length (loud_of quiet list) + length list) =
     c.are_shallow.ensures.reads list (subst (λ (h : Blocks). HasDirectories h blocks roots list) (sym c.are_whole.ensures.looks.same_nodes) directories) in
-    depth_cost f roots q quiet (g.N.Nodes.reads s) (g.N.Nodes.reads mid) (g.N.Nodes.reads c.are_shallow.new.nodes) found.0 same found.4
-    (λ b l has is none. told_silent f q c.are_whole.new.table b l found.3 (all_seen f q found.0 found.1 b has) is none) levels
+    depth_cost f roots q quiet found.0 same (λ b l has is none. subst (λ (m : set.FinSet nat_cmp). set.contains m b ≡ true) (sym known) (told_silent f q c.are_whole.new.table b l found.3 (all_seen f q found.0 found.1 b has) is none))
+    (g.N.Nodes.reads s) (g.N.Nodes.reads mid) (g.N.Nodes.reads c.are_shallow.new.nodes) found.4 levels
 
 pub returns-clause-reads : goal.returns-clause-reads
 returns-clause-reads g c =
@@ -213,11 +227,12 @@ returns-clause-reads g c =
     let blocks = g.N.Nodes.blocks mid in
     let directories : HasDirectories f blocks roots list =
     reached_directories (g.N.Nodes.limit s - 80) blocks f roots q.order (λ b. (marks b).1) (λ b. (marks b).0) found.2.nodes (λ root within. All-contains (HoldsLink f) roots root found.2.directories within) in
-    let quiet = c.are_whole.new.table.quiet.members in
+    let quiet = c.into_quiet-quiet.result.0.members in
+    let known : quiet ≡ c.are_whole.new.table.quiet.members = ap (λ (q : BlockSet). q.members) c.into_quiet-quiet.ensures.0 in
     let levels : g.N.Nodes.reads c.are_shallow.new.nodes ≤ g.N.Nodes.reads mid + (16 * length (loud_of quiet list) + length list) =
     c.are_shallow.ensures.reads list (subst (λ (h : Blocks). HasDirectories h blocks roots list) (sym c.are_whole.ensures.looks.same_nodes) directories) in
-    depth_cost f roots q quiet (g.N.Nodes.reads s) (g.N.Nodes.reads mid) (g.N.Nodes.reads c.are_shallow.new.nodes) found.0 same found.4
-    (λ b l has is none. told_silent f q c.are_whole.new.table b l found.3 (all_seen f q found.0 found.1 b has) is none) levels
+    depth_cost f roots q quiet found.0 same (λ b l has is none. subst (λ (m : set.FinSet nat_cmp). set.contains m b ≡ true) (sym known) (told_silent f q c.are_whole.new.table b l found.3 (all_seen f q found.0 found.1 b has) is none))
+    (g.N.Nodes.reads s) (g.N.Nodes.reads mid) (g.N.Nodes.reads c.are_shallow.new.nodes) found.4 levels
 
 pub returns-then-not-are_shallow-clause-damaged : goal.returns-then-not-are_shallow-clause-damaged
 returns-then-not-are_shallow-clause-damaged g c _ both =
@@ -249,3 +264,113 @@ returns-clause-pass g c =
 
 pub returns-clause-of : goal.returns-clause-of
 returns-clause-of g c = (c.are_whole.ensures.on.blocks ∙ c.in_ok-pass.ensures.begun.0, c.are_whole.ensures.on.roots ∙ c.in_ok-pass.ensures.begun.1)
+
+pub returns-then-not-are_data_blocks-clause-asks : goal.returns-then-not-are_data_blocks-clause-asks
+returns-then-not-are_data_blocks-clause-asks g c =
+    let s = c.args.nodes.now in
+    none_read (all_pages (g.N.Nodes.page s) (g.N.Nodes.limit s)) (g.N.Nodes.node s) c.args.roots.now (g.N.Nodes.asked s)
+
+pub returns-in_err-pass-clause-asks : goal.returns-in_err-pass-clause-asks
+returns-in_err-pass-clause-asks g c =
+    let s = c.args.nodes.now in
+    none_read (all_pages (g.N.Nodes.page s) (g.N.Nodes.limit s)) (g.N.Nodes.node s) c.args.roots.now (g.N.Nodes.asked s)
+
+pub returns-in_err-table-clause-asks : goal.returns-in_err-table-clause-asks
+returns-in_err-table-clause-asks g c =
+    let s = c.args.nodes.now in
+    none_read (all_pages (g.N.Nodes.page s) (g.N.Nodes.limit s)) (g.N.Nodes.node s) c.args.roots.now (g.N.Nodes.asked s)
+
+pub returns-in_err-levels-clause-asks : goal.returns-in_err-levels-clause-asks
+returns-in_err-levels-clause-asks g c =
+    let s = c.args.nodes.now in
+    none_read (all_pages (g.N.Nodes.page s) (g.N.Nodes.limit s)) (g.N.Nodes.node s) c.args.roots.now (g.N.Nodes.asked s)
+
+pub returns-in_err-are_whole-clause-asks : goal.returns-in_err-are_whole-clause-asks
+returns-in_err-are_whole-clause-asks g c =
+    let s = c.args.nodes.now in
+    let unit = pages_for (g.N.Nodes.page s) (g.N.Nodes.limit s) in
+    looked_cost (once_pages (g.N.Nodes.page s) (g.N.Nodes.limit s)) (λ node. depth_reads node * unit) (g.N.Nodes.node s) c.args.roots.now c.args.roots.now (g.N.Nodes.asked s) (g.N.Nodes.asked c.are_whole.new.nodes) refl c.are_whole.ensures.asks
+
+pub returns-then-not-are_whole-clause-asks : goal.returns-then-not-are_whole-clause-asks
+returns-then-not-are_whole-clause-asks g c =
+    let s = c.args.nodes.now in
+    let unit = pages_for (g.N.Nodes.page s) (g.N.Nodes.limit s) in
+    looked_cost (once_pages (g.N.Nodes.page s) (g.N.Nodes.limit s)) (λ node. depth_reads node * unit) (g.N.Nodes.node s) c.args.roots.now c.args.roots.now (g.N.Nodes.asked s) (g.N.Nodes.asked c.are_whole.new.nodes) refl c.are_whole.ensures.asks
+
+pub returns-in_err-are_shallow-clause-asks : goal.returns-in_err-are_shallow-clause-asks
+returns-in_err-are_shallow-clause-asks g c =
+    let s = c.args.nodes.now in
+    let f = g.N.Nodes.node s in
+    let q = c.are_whole.new.pass in
+    let roots = c.args.roots.now in
+    let mid = c.are_whole.new.nodes in
+    let found = c.in_ok-are_whole.ensures.whole c.if-not-are_whole.false in
+    let same : q.roots ≡ roots = c.are_whole.ensures.on.roots ∙ c.in_ok-pass.ensures.begun.1 in
+    let marks : (b : ℕ) → Contains q.order b ↔ Reached f roots b = subst (λ (l : List ℕ). (b : ℕ) → Contains q.order b ↔ Reached f l b) same (pass_marks f q found.0 found.1) in
+    let list = filter (holds_link f) q.order in
+    let blocks = g.N.Nodes.blocks mid in
+    let directories : HasDirectories f blocks roots list =
+    reached_directories (g.N.Nodes.limit s - 80) blocks f roots q.order (λ b. (marks b).1) (λ b. (marks b).0) found.2.nodes (λ root within. All-contains (HoldsLink f) roots root found.2.directories within) in
+    let quiet = c.into_quiet-quiet.result.0.members in
+    let known : quiet ≡ c.are_whole.new.table.quiet.members = ap (λ (q : BlockSet). q.members) c.into_quiet-quiet.ensures.0 in
+    let levels : g.N.Nodes.reads c.are_shallow.new.nodes ≤ g.N.Nodes.reads mid + (16 * length (loud_of quiet list) + length list) =
+    c.are_shallow.ensures.reads list (subst (λ (h : Blocks). HasDirectories h blocks roots list) (sym c.are_whole.ensures.looks.same_nodes) directories) in
+    let unit : pages_for (g.N.Nodes.page mid) (g.N.Nodes.limit mid) ≡ pages_for (g.N.Nodes.page s) (g.N.Nodes.limit s) =
+    ap (λ (n : ℕ). pages_for n (g.N.Nodes.limit mid)) (g.met.N.Nodes.same_page s mid c.are_whole.ensures.looks.came) ∙ ap (pages_for (g.N.Nodes.page s)) c.are_whole.ensures.looks.same_limit in
+    depth_pages f roots q quiet found.0 same (λ b l has is none. subst (λ (m : set.FinSet nat_cmp). set.contains m b ≡ true) (sym known) (told_silent f q c.are_whole.new.table b l found.3 (all_seen f q found.0 found.1 b has) is none))
+    (g.N.Nodes.page s) (g.N.Nodes.limit s) (g.N.Nodes.asked s) (g.N.Nodes.asked mid) (g.N.Nodes.asked c.are_shallow.new.nodes) (g.N.Nodes.reads mid) (g.N.Nodes.reads c.are_shallow.new.nodes) found.5
+    (subst (λ (n : ℕ). g.N.Nodes.asked c.are_shallow.new.nodes + g.N.Nodes.reads mid * n ≤ g.N.Nodes.asked mid + g.N.Nodes.reads c.are_shallow.new.nodes * n) unit
+    (g.met.N.Examines.asks_each mid c.are_shallow.new.nodes c.are_whole.ensures.looks.sound c.are_shallow.ensures.looks.came c.are_shallow.ensures.looks.same_writes))
+    levels
+
+pub returns-then-not-are_shallow-clause-asks : goal.returns-then-not-are_shallow-clause-asks
+returns-then-not-are_shallow-clause-asks g c =
+    let s = c.args.nodes.now in
+    let f = g.N.Nodes.node s in
+    let q = c.are_whole.new.pass in
+    let roots = c.args.roots.now in
+    let mid = c.are_whole.new.nodes in
+    let found = c.in_ok-are_whole.ensures.whole c.if-not-are_whole.false in
+    let same : q.roots ≡ roots = c.are_whole.ensures.on.roots ∙ c.in_ok-pass.ensures.begun.1 in
+    let marks : (b : ℕ) → Contains q.order b ↔ Reached f roots b = subst (λ (l : List ℕ). (b : ℕ) → Contains q.order b ↔ Reached f l b) same (pass_marks f q found.0 found.1) in
+    let list = filter (holds_link f) q.order in
+    let blocks = g.N.Nodes.blocks mid in
+    let directories : HasDirectories f blocks roots list =
+    reached_directories (g.N.Nodes.limit s - 80) blocks f roots q.order (λ b. (marks b).1) (λ b. (marks b).0) found.2.nodes (λ root within. All-contains (HoldsLink f) roots root found.2.directories within) in
+    let quiet = c.into_quiet-quiet.result.0.members in
+    let known : quiet ≡ c.are_whole.new.table.quiet.members = ap (λ (q : BlockSet). q.members) c.into_quiet-quiet.ensures.0 in
+    let levels : g.N.Nodes.reads c.are_shallow.new.nodes ≤ g.N.Nodes.reads mid + (16 * length (loud_of quiet list) + length list) =
+    c.are_shallow.ensures.reads list (subst (λ (h : Blocks). HasDirectories h blocks roots list) (sym c.are_whole.ensures.looks.same_nodes) directories) in
+    let unit : pages_for (g.N.Nodes.page mid) (g.N.Nodes.limit mid) ≡ pages_for (g.N.Nodes.page s) (g.N.Nodes.limit s) =
+    ap (λ (n : ℕ). pages_for n (g.N.Nodes.limit mid)) (g.met.N.Nodes.same_page s mid c.are_whole.ensures.looks.came) ∙ ap (pages_for (g.N.Nodes.page s)) c.are_whole.ensures.looks.same_limit in
+    depth_pages f roots q quiet found.0 same (λ b l has is none. subst (λ (m : set.FinSet nat_cmp). set.contains m b ≡ true) (sym known) (told_silent f q c.are_whole.new.table b l found.3 (all_seen f q found.0 found.1 b has) is none))
+    (g.N.Nodes.page s) (g.N.Nodes.limit s) (g.N.Nodes.asked s) (g.N.Nodes.asked mid) (g.N.Nodes.asked c.are_shallow.new.nodes) (g.N.Nodes.reads mid) (g.N.Nodes.reads c.are_shallow.new.nodes) found.5
+    (subst (λ (n : ℕ). g.N.Nodes.asked c.are_shallow.new.nodes + g.N.Nodes.reads mid * n ≤ g.N.Nodes.asked mid + g.N.Nodes.reads c.are_shallow.new.nodes * n) unit
+    (g.met.N.Examines.asks_each mid c.are_shallow.new.nodes c.are_whole.ensures.looks.sound c.are_shallow.ensures.looks.came c.are_shallow.ensures.looks.same_writes))
+    levels
+
+pub returns-clause-asks : goal.returns-clause-asks
+returns-clause-asks g c =
+    let s = c.args.nodes.now in
+    let f = g.N.Nodes.node s in
+    let q = c.are_whole.new.pass in
+    let roots = c.args.roots.now in
+    let mid = c.are_whole.new.nodes in
+    let found = c.in_ok-are_whole.ensures.whole c.if-not-are_whole.false in
+    let same : q.roots ≡ roots = c.are_whole.ensures.on.roots ∙ c.in_ok-pass.ensures.begun.1 in
+    let marks : (b : ℕ) → Contains q.order b ↔ Reached f roots b = subst (λ (l : List ℕ). (b : ℕ) → Contains q.order b ↔ Reached f l b) same (pass_marks f q found.0 found.1) in
+    let list = filter (holds_link f) q.order in
+    let blocks = g.N.Nodes.blocks mid in
+    let directories : HasDirectories f blocks roots list =
+    reached_directories (g.N.Nodes.limit s - 80) blocks f roots q.order (λ b. (marks b).1) (λ b. (marks b).0) found.2.nodes (λ root within. All-contains (HoldsLink f) roots root found.2.directories within) in
+    let quiet = c.into_quiet-quiet.result.0.members in
+    let known : quiet ≡ c.are_whole.new.table.quiet.members = ap (λ (q : BlockSet). q.members) c.into_quiet-quiet.ensures.0 in
+    let levels : g.N.Nodes.reads c.are_shallow.new.nodes ≤ g.N.Nodes.reads mid + (16 * length (loud_of quiet list) + length list) =
+    c.are_shallow.ensures.reads list (subst (λ (h : Blocks). HasDirectories h blocks roots list) (sym c.are_whole.ensures.looks.same_nodes) directories) in
+    let unit : pages_for (g.N.Nodes.page mid) (g.N.Nodes.limit mid) ≡ pages_for (g.N.Nodes.page s) (g.N.Nodes.limit s) =
+    ap (λ (n : ℕ). pages_for n (g.N.Nodes.limit mid)) (g.met.N.Nodes.same_page s mid c.are_whole.ensures.looks.came) ∙ ap (pages_for (g.N.Nodes.page s)) c.are_whole.ensures.looks.same_limit in
+    depth_pages f roots q quiet found.0 same (λ b l has is none. subst (λ (m : set.FinSet nat_cmp). set.contains m b ≡ true) (sym known) (told_silent f q c.are_whole.new.table b l found.3 (all_seen f q found.0 found.1 b has) is none))
+    (g.N.Nodes.page s) (g.N.Nodes.limit s) (g.N.Nodes.asked s) (g.N.Nodes.asked mid) (g.N.Nodes.asked c.are_shallow.new.nodes) (g.N.Nodes.reads mid) (g.N.Nodes.reads c.are_shallow.new.nodes) found.5
+    (subst (λ (n : ℕ). g.N.Nodes.asked c.are_shallow.new.nodes + g.N.Nodes.reads mid * n ≤ g.N.Nodes.asked mid + g.N.Nodes.reads c.are_shallow.new.nodes * n) unit
+    (g.met.N.Examines.asks_each mid c.are_shallow.new.nodes c.are_whole.ensures.looks.sound c.are_shallow.ensures.looks.came c.are_shallow.ensures.looks.same_writes))
+    levels

@@ -11,15 +11,15 @@ use Rattle.skip_list_file.proofs.Growth.{are_linked, back_stays, product_some, g
 use Rattle.skip_list_file.proofs.Marks.{linked_before, table_on}
 use Rattle.skip_list_file.proofs.new_nodes.append.Goals as goal
 
-pub write_owned-requires-clause-whole : goal.write_owned-requires-clause-whole
-write_owned-requires-clause-whole g c =
+pub write_new-requires-clause-whole : goal.write_new-requires-clause-whole
+write_new-requires-clause-whole g c =
     let node = c.args.node.items in
     spelled_node (g.N.Nodes.limit c.args.nodes.now) c.args.index c.args.table.now.blocks (drop body_header node) node (omega (arith, c.requires.spelled.size, c.requires.fits)) c.requires.spelled
 
 pub returns-clause-grown : goal.returns-clause-grown
 returns-clause-grown g c =
     let old = c.args.nodes.now in
-    let new = c.write_owned.new.self in
+    let new = c.write_new.new.nodes in
     let capacity : ℕ = g.N.Nodes.limit old - body_header in
     let bytes : List ℕ = drop body_header c.args.node.items in
     let next = c.in_ok-block.block in
@@ -28,8 +28,8 @@ returns-clause-grown g c =
     let fits : length bytes ≤ capacity = omega (arith, c.requires.spelled.size, c.requires.fits) in
     let least : 0 < capacity = omega (arith, some, c.requires.spelled.size, c.requires.fits) in
     let keeps : Keeps (g.N.Nodes.kept old) f (g.N.Nodes.kept new) (g.N.Nodes.node new) = record {
-      same = λ b kept. g.met.N.Nodes.same_node old new b c.requires.sound c.write_owned.ensures.works.came kept;
-      stays = λ b kept. g.met.N.Nodes.stays_kept old new b c.write_owned.ensures.works.came kept;
+      same = λ b kept. g.met.N.Nodes.same_node old new b c.requires.sound c.write_new.ensures.works.came kept;
+      stays = λ b kept. g.met.N.Nodes.stays_kept old new b c.write_new.ensures.works.came kept;
     } in
     let full : 0 < c.args.index → length (data_of (f c.args.head)) ≡ capacity = head_full (g.N.Nodes.limit old) capacity f c.args.head c.args.index refl least c.requires.stored.whole (λ bytes is. g.met.N.Nodes.whole old c.args.head bytes c.requires.sound is) in
     let node : IsNext f (g.N.Nodes.node new) c.args.head c.args.index next bytes =
@@ -46,7 +46,7 @@ returns-clause-grown g c =
 pub returns-clause-table : goal.returns-clause-table
 returns-clause-table g c last is =
     let old = c.args.nodes.now in
-    let new = c.write_owned.new.self in
+    let new = c.write_new.new.nodes in
     let capacity : ℕ = g.N.Nodes.limit old - body_header in
     let bytes : List ℕ = drop body_header c.args.node.items in
     let next = c.in_ok-block.block in
@@ -57,8 +57,8 @@ returns-clause-table g c last is =
     let some : 0 < length bytes = omega (arith, c.requires.spelled.used, c.requires.spelled.node.some) in
     let least : 0 < capacity = omega (arith, some, c.requires.spelled.size, c.requires.fits) in
     let keeps : Keeps (g.N.Nodes.kept old) f (g.N.Nodes.kept new) f' = record {
-      same = λ b kept. g.met.N.Nodes.same_node old new b c.requires.sound c.write_owned.ensures.works.came kept;
-      stays = λ b kept. g.met.N.Nodes.stays_kept old new b c.write_owned.ensures.works.came kept;
+      same = λ b kept. g.met.N.Nodes.same_node old new b c.requires.sound c.write_new.ensures.works.came kept;
+      stays = λ b kept. g.met.N.Nodes.stays_kept old new b c.write_new.ensures.works.came kept;
     } in
     let node : IsNext f f' head index next bytes =
     is_next f f' head index next c.args.table.now.blocks bytes c.args.node.items c.in_ok-block.ensures.written c.requires.spelled c.requires.slots in
@@ -71,4 +71,4 @@ returns-clause-table g c last is =
 pub returns-in_err-block-clause-refused : goal.returns-in_err-block-clause-refused
 returns-in_err-block-clause-refused g c =
     let p = err_from_is_err_and c.from_residual.result c.from_residual.ensures.1 in
-    rw (p.1, p.2) (write_refused c.in_err-block.field-0.0 c.in_err-block.ensures.faults, c.in_err-block.ensures.why)
+    rw (p.1, p.2) (write_refused c.in_err-block.field-0.0 c.in_err-block.ensures.refused.0, c.in_err-block.ensures.refused.1)

@@ -24,8 +24,8 @@ returns-then-start-kept-clause-kept g c =
     let is : c.min-kept.result ≡ min (length file - start) (length c.args.out.now) = omega (arith, c.min-kept.ensures, c.saturating_sub.ensures) in
     none_kept file c.args.out.now start c.args.change.offset c.args.end c.min-kept.result c.requires.zeros is (inr (omega arith, omega arith))
 
-pub copy_data-requires-clause-node : goal.copy_data-requires-clause-node
-copy_data-requires-clause-node g c =
+pub copy_part-requires-clause-node : goal.copy_part-requires-clause-node
+copy_part-requires-clause-node g c =
     let f = g.N.Nodes.node c.args.nodes.now in
     let head_index : ℕ = (c.args.change.body.length - 1) / c.args.change.capacity in
     let some : 0 < c.args.change.body.length = omega (arith, c.min-kept.ensures, c.saturating_sub.ensures) in
@@ -35,8 +35,8 @@ copy_data-requires-clause-node g c =
       same ∙ ap (λ (b : ℕ). index_of (f b)) c.in_ok-block.ensures.found ∙ chain_node c.args.change.capacity (head_index - (head_index - c.args.index)) (back f c.args.change.body.head (head_index - c.args.index)) f chain,
     )
 
-pub copy_data-requires-clause-within : goal.copy_data-requires-clause-within
-copy_data-requires-clause-within g c =
+pub copy_part-requires-clause-within : goal.copy_part-requires-clause-within
+copy_part-requires-clause-within g c =
     let f = g.N.Nodes.node c.args.nodes.now in
     let kept = c.min-kept.result in
     let part = part_of c.args.change.capacity f c.args.change.body.head c.args.change.body.length c.args.index kept c.in_ok-block.block c.requires.holds.least c.requires.holds.whole (omega arith)
@@ -54,17 +54,17 @@ returns-clause-kept g c =
     let is : kept ≡ min (length file - start) (length c.args.out.now) = omega (arith, c.min-kept.ensures, c.saturating_sub.ensures) in
     let part = part_of c.args.change.capacity f c.args.change.body.head c.args.change.body.length c.args.index kept c.in_ok-block.block c.requires.holds.least c.requires.holds.whole (omega arith)
     (omega (arith, c.min-kept.ensures, c.requires.size)) (omega (arith, c.min-kept.ensures, c.saturating_sub.ensures)) c.in_ok-block.ensures.found in
-    let copied : c.copy_data.new.out ≡ take kept (data_of (f c.in_ok-block.block)) =
-    c.in_ok-copy_data.ensures.copied ∙ ap (λ (n : ℕ). take n (data_of (g.N.Nodes.node c.find_listed.new.nodes c.in_ok-block.block))) (length-take-le kept c.args.out.now (omega (arith, c.min-kept.ensures)))
+    let copied : c.copy_part.new.out ≡ take kept (data_of (f c.in_ok-block.block)) =
+    c.in_ok-copy_part.ensures.copied ∙ ap (λ (n : ℕ). take n (data_of (g.N.Nodes.node c.find_listed.new.nodes c.in_ok-block.block))) (length-take-le kept c.args.out.now (omega (arith, c.min-kept.ensures)))
     ∙ ap (λ (h : Blocks). take kept (data_of (h c.in_ok-block.block))) c.in_ok-block.ensures.looks.same_nodes in
     let all = part_kept file c.args.out.now (data_of (f c.in_ok-block.block)) start c.args.change.offset c.args.end kept c.requires.zeros is part.long part.bytes in
     λ i lt which. ap (λ (xs : List ℕ). slice_index (xs ++ drop kept c.args.out.now) i) copied ∙ all i lt which
 
-pub returns-in_err-copy_data-clause-refused : goal.returns-in_err-copy_data-clause-refused
-returns-in_err-copy_data-clause-refused g c =
-    let p = err_from_is_err_and c.from_residual-in_err-copy_data.result c.from_residual-in_err-copy_data.ensures.1 in
-    let refused = c.in_err-copy_data.ensures.refused in
-    let why = g.met.N.Nodes.causes_on c.args.nodes.now c.find_listed.new.nodes c.copy_data.new.nodes c.in_err-copy_data.field-0.0 c.find_listed.ensures.looks.came refused.1 in
+pub returns-in_err-copy_part-clause-refused : goal.returns-in_err-copy_part-clause-refused
+returns-in_err-copy_part-clause-refused g c =
+    let p = err_from_is_err_and c.from_residual-in_err-copy_part.result c.from_residual-in_err-copy_part.ensures.1 in
+    let refused = c.in_err-copy_part.ensures.refused in
+    let why = g.met.N.Nodes.causes_on c.args.nodes.now c.find_listed.new.nodes c.copy_part.new.nodes c.in_err-copy_part.field-0.0 c.find_listed.ensures.looks.came refused.1 in
     rw (p.1, p.2) (refused.0, why)
 
 pub returns-in_err-block-clause-refused : goal.returns-in_err-block-clause-refused
@@ -72,13 +72,13 @@ returns-in_err-block-clause-refused g c =
     let p = err_from_is_err_and c.from_residual.result c.from_residual.ensures.1 in
     rw (p.1, p.2) c.in_err-block.ensures.refused
 
-pub returns-in_err-copy_data-clause-looks : goal.returns-in_err-copy_data-clause-looks
-returns-in_err-copy_data-clause-looks g c = g.met.N.Nodes.looks_on c.args.nodes.now c.find_listed.new.nodes c.copy_data.new.nodes c.find_listed.ensures.looks c.copy_data.ensures.looks
+pub returns-in_err-copy_part-clause-looks : goal.returns-in_err-copy_part-clause-looks
+returns-in_err-copy_part-clause-looks g c = g.met.N.Nodes.looks_on c.args.nodes.now c.find_listed.new.nodes c.copy_part.new.nodes c.find_listed.ensures.looks c.copy_part.ensures.looks
 
 pub returns-clause-looks : goal.returns-clause-looks
 returns-clause-looks g c =
-    g.met.N.Nodes.looks_on c.args.nodes.now c.copy_data.new.nodes c.supersede.new.self
-    (g.met.N.Nodes.looks_on c.args.nodes.now c.find_listed.new.nodes c.copy_data.new.nodes c.find_listed.ensures.looks c.copy_data.ensures.looks) c.supersede.ensures.looks
+    g.met.N.Nodes.looks_on c.args.nodes.now c.copy_part.new.nodes c.supersede.new.self
+    (g.met.N.Nodes.looks_on c.args.nodes.now c.find_listed.new.nodes c.copy_part.new.nodes c.find_listed.ensures.looks c.copy_part.ensures.looks) c.supersede.ensures.looks
 
 pub returns-in_err-block-clause-looks : goal.returns-in_err-block-clause-looks
 returns-in_err-block-clause-looks g c = c.find_listed.ensures.looks

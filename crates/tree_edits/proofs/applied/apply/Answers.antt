@@ -148,3 +148,6 @@ returns-in-Move-clause-faults g c = c.rename.ensures.applied.faults
 
 pub returns-in-Move-clause-follows : goal.returns-in-Move-clause-follows
 returns-in-Move-clause-follows g c = c.rename.ensures.applied.came
+
+pub returns-in-WriteFiles-clause-writes : goal.returns-in-WriteFiles-clause-writes
+returns-in-WriteFiles-clause-writes g c = rw c.in-WriteFiles.is c.write_files.ensures.writes

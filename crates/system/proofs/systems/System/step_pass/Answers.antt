@@ -1,4 +1,4 @@
-use Rattle.std.proofs.Common.{Some, rules}
+use Rattle.std.proofs.Common.{Some}
 use Rattle.std.proofs.lemmas.Result.{err_from_is_err_and}
 use Rattle.system.proofs.Passing.{taken_up, is_stepped, must_be_data, noted_system, step_is_on, refused_system, refused_ends, untaken_asks, stepped_asks, goes_ends, goes_system, stepped_stays, all_system, all_stays, all_ends}
 use Rattle.system.proofs.systems.System.step_pass.Goals as goal

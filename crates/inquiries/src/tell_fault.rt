@@ -1,0 +1,38 @@
+//! Why what is asked of a file system is not told.
+ghost use Rattle.std.specs.Prelude.{◌≡◌};
+ghost use Rattle.fs_types.specs.declared.fault.Fault.TheVariants.{NoMemory};
+ghost use Rattle.inquiries.specs.declared.tell_fault.TellFault.TheVariants.{Refused};
+
+use fs_types::Fault;
+use std::alloc::AllocError;
+use thiserror::Error;
+
+/// The most lines that are told of a tree, and the most entries that are looked at for those that differ.
+pub const MAX_LINES: u64 = 1_048_576;
+
+/// Why what is asked of a file system is not told.
+#[derive(Clone, Copy, Debug, PartialEq, Eq, Error)]
+pub enum TellFault {
+    /// What is asked is refused.
+    #[error("refused: {0}")]
+    Refused(Fault),
+    /// More lines would be told than [`MAX_LINES`], or as many entries would have to be looked at.
+    #[error("too many lines")]
+    TooManyLines,
+}
+
+impl From<Fault> for TellFault {
+    ghost from_gives = { λ fault told. told ≡ Refused fault };
+
+    fn from(fault: Fault) -> TellFault {
+        TellFault::Refused(fault)
+    }
+}
+
+impl From<AllocError> for TellFault {
+    ghost from_gives = { λ _ told. told ≡ Refused NoMemory };
+
+    fn from(_error: AllocError) -> TellFault {
+        TellFault::Refused(Fault::NoMemory)
+    }
+}

@@ -1,0 +1,3 @@
+pub mod Flashes
+pub mod Making
+pub mod Serving

@@ -1,0 +1,8 @@
+use Rattle.std.proofs.Common.{◌≡◌}
+use Rattle.flash_image.specs.Images.{parts}
+use Rattle.flash_model.specs.Simulation.{device_of}
+use Rattle.raw_part.specs.Raws.{part_page}
+use Rattle.raw_part.proofs.spelling.part_bytes.Given as goal
+
+abbrev pub invariant-loop-number : goal.invariant-loop-number
+invariant-loop-number l = l.bytes.items ≡ parts l.number (part_page (device_of l.flash))

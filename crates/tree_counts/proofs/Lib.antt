@@ -1,0 +1,4 @@
+pub mod Sums
+pub mod Weights
+pub mod Trees
+pub mod Gone

@@ -1,0 +1,35 @@
+//! How much stands in the tree of a root.
+ghost use Rattle.std.specs.Prelude.{◌≡◌, ℕ, ◌-◌, [], ◌∷◌, IfOk, IfErr};
+ghost use Rattle.block_trees.specs.Trees.{IsRoot, root_tree};
+ghost use Rattle.node_format.specs.Headers.{body_header};
+ghost use Rattle.node_store.specs.Faults.{IsLookFault};
+ghost use Rattle.node_store.specs.Frames.{OnlyLooks};
+ghost use Rattle.tree_counts.specs.Sizes.{size_of};
+ghost use Rattle.tree_counts.specs.Counted.{ReadsOnce};
+
+use crate::node_sizes::{NodeSizes, size_from};
+use crate::tree_size::TreeSize;
+use fs_types::{CHAIN_NODES, Fault, MAX_NAMES};
+use node_store::Nodes;
+use std::alloc::Global;
+
+/// The most nodes of directories on a way from a root.
+const MOST_STEPS: u32 = (CHAIN_NODES * (MAX_NAMES + 1)) as u32;
+
+/// How many directories and files stand in the tree of a root, which is known to have one, and how many
+/// bytes these files have: counted by node, so that a directory that several paths lead to is read once
+/// and counted for each of them. Each node of a directory that the root reaches is read once, and no other.
+///
+/// [`Fault::ReadFailed`], [`Fault::PowerCut`], [`Fault::NoMemory`].
+pub fn size_of_root<N: Nodes>(alloc: Global, nodes: &mut N, root: u32) -> Result<TreeSize, Fault>
+    requires sound { N.is_sound nodes.old }
+    requires tree { IsRoot (N.limit nodes.old - body_header) (N.node nodes.old) root }
+    ensures size { IfOk result (λ size. size ≡ size_of (root_tree (N.limit nodes.old - body_header) (N.node nodes.old) root)) }
+    ensures reads { ReadsOnce (N.node nodes.old) (root ∷ []) (N.reads nodes.old) (N.reads nodes.new) }
+    ensures looks { OnlyLooks N.node N.kept N.writes N.follows N.is_sound N.limit N.blocks nodes.old nodes.new }
+    ensures why { IfErr result (λ fault. N.causes nodes.old nodes.new fault) }
+    ensures faults { IfErr result IsLookFault }
+{
+    let mut sizes = NodeSizes::new(alloc, nodes.block_count())?;
+    size_from(alloc, nodes, root, MOST_STEPS, &mut sizes)
+}

@@ -1,0 +1,260 @@
+-- What the calls of an update leave.
+use Rattle.std.proofs.Common.{◌≡◌, ◌≢◌, ◌∙◌, ◌⊎◌, inl, inr, ℕ, Bool, true, false, cond, Option, Some, None, IsSome, List, [], ◌∷◌, ◌++◌, refl, sym, ap, ap₂, subst}
+use Rattle.std.specs.Prelude.{reverse, unwrap_or, if◌then◌else◌}
+use Rattle.std.specs.List.{flat_map}
+use Rattle.std.specs.Option.{option_map_or}
+use Rattle.std.specs.FinMap.{get}
+use Rattle.fs_types.specs.Names.{Path}
+use Rattle.fs_types.specs.declared.call.Call.{Call}
+use Rattle.fs_types.specs.declared.fault.Fault.TheVariants.{Busy}
+use Rattle.fs_types.proofs.Orders.{same_name-is, same_name-own}
+use Rattle.plain_trees.specs.Contents.{Entry, Contents, same_bytes}
+use Rattle.plain_trees.specs.Trees.{Tree, bare, IsFileTree}
+use Rattle.plain_trees.proofs.Lookups.{some-is}
+use Rattle.history_machine.specs.Descriptors.{none_open, any_open}
+use Rattle.history_machine.specs.History.{Past, IsLawful, changed, present_root}
+use Rattle.history_machine.specs.Machine.{Machine, machine_with, machine_of, present_tree, next, after}
+use Rattle.history_machine.proofs.Groups.{same-free}
+use Rattle.history_machine.proofs.Steps.{passes, outside, tree-changed}
+use Rattle.tree_updates.specs.Laws.{EachAccepted, UpdateLaw}
+use Rattle.tree_updates.specs.Updates.{goes, removal, removal_at, making, making_at, writing, paths_of, update_changes, update_calls}
+use Rattle.tree_updates.proofs.Listed.{IsListing, listed}
+use Rattle.tree_updates.proofs.Assigned.{assigned, all_assigned, all_miss, all_have, contains_reversed}
+use Rattle.tree_updates.proofs.Leading.{within, Leads, leads-refl, leads-trans, after-append, accepted-parts, mkdir_leads, unlink_leads, rmdir_leads}
+use Rattle.tree_updates.proofs.Pieces.{writing_leads}
+
+-- ---- many paths
+
+many_lead : (f : Path → List Call) (x : Path → Option (Option Entry)) (h : Past Tree)
+    → ((p : Path) (t : Tree) (due : Bool) → EachAccepted (within h t due none_open) (f p) → Leads h t due none_open (after (within h t due none_open) (f p)) (assigned (x p) p (get t)))
+    → (ps : List Path) (t : Tree) (due : Bool) → EachAccepted (within h t due none_open) (flat_map f ps) → Leads h t due none_open (after (within h t due none_open) (flat_map f ps)) (all_assigned x ps (get t))
+many_lead f x h one [] t due each = leads-refl h t due none_open
+many_lead f x h one (p ∷ ps) t due each =
+    let n = within h t due none_open in
+    let parts = accepted-parts n (f p) (flat_map f ps) each in
+    let first = one p t due parts.0 in
+    let rest = many_lead f x h one ps first.tree first.is_due (subst (λ k. EachAccepted k (flat_map f ps)) first.is parts.1) in
+    subst (λ k. Leads h t due none_open k (all_assigned x (p ∷ ps) (get t))) (sym (after-append n (f p) (flat_map f ps)))
+    (leads-trans h t due none_open none_open (after n (f p)) (flat_map f ps) (assigned (x p) p (get t)) (all_assigned x ps) first rest)
+
+module _ (old new : Tree) where
+  -- ---- what goes
+
+  abbrev gone : Option Entry → Option Entry → Option (Option Entry)
+  gone o there = if goes o there then Some None else None
+
+  abbrev gone_at : Path → Option (Option Entry)
+  gone_at p = gone (get old p) (get new p)
+
+  removal_leads : (h : Past Tree) (p : Path) (t : Tree) (due : Bool) → EachAccepted (within h t due none_open) (removal_at old new p) → Leads h t due none_open (after (within h t due none_open) (removal_at old new p)) (assigned (gone_at p) p (get t))
+  removal_leads h p t due = go (get old p) (get new p)
+    where
+      n : Machine
+      n = within h t due none_open
+
+      go : (o there : Option Entry) → EachAccepted n (if goes o there then removal p o else []) → Leads h t due none_open (after n (if goes o there then removal p o else [])) (assigned (gone o there) p (get t))
+      go None there each = leads-refl h t due none_open
+      go (Some Entry.Dir) (Some Entry.Dir) each = leads-refl h t due none_open
+      go (Some Entry.Dir) (Some (Entry.File others)) each = rmdir_leads h t due p each.0
+      go (Some Entry.Dir) None each = rmdir_leads h t due p each.0
+      go (Some (Entry.File bytes)) (Some (Entry.File others)) each = leads-refl h t due none_open
+      go (Some (Entry.File bytes)) (Some Entry.Dir) each = unlink_leads h t due p each.0
+      go (Some (Entry.File bytes)) None each = unlink_leads h t due p each.0
+
+  -- ---- what comes or changes
+
+  abbrev come : Option Entry → Option Entry → Option (Option Entry)
+  come there None = None
+  come (Some Entry.Dir) (Some Entry.Dir) = None
+  come (Some (Entry.File bytes)) (Some (Entry.File others)) = if same_bytes bytes others then None else Some (Some (Entry.File others))
+  come there (Some entry) = Some (Some entry)
+
+  abbrev come_at : Path → Option (Option Entry)
+  come_at p = come (get old p) (get new p)
+
+  making_leads : (h : Past Tree) → IsLawful h → (p : Path) (t : Tree) (due : Bool) → EachAccepted (within h t due none_open) (making_at old new p)
+      → Leads h t due none_open (after (within h t due none_open) (making_at old new p)) (assigned (come_at p) p (get t))
+  making_leads h lawful p t due = go (get old p) (get new p)
+    where
+      n : Machine
+      n = within h t due none_open
+
+      changed_file : (b : Bool) (others : List ℕ) → EachAccepted n (if b then [] else writing p others) → Leads h t due none_open (after n (if b then [] else writing p others)) (assigned (if b then None else Some (Some (Entry.File others))) p (get t))
+      changed_file true others each = leads-refl h t due none_open
+      changed_file false others each = writing_leads h t due p others lawful each
+
+      go : (o there : Option Entry) → EachAccepted n (making p o there) → Leads h t due none_open (after n (making p o there)) (assigned (come o there) p (get t))
+      go None None each = leads-refl h t due none_open
+      go (Some entry) None each = leads-refl h t due none_open
+      go (Some Entry.Dir) (Some Entry.Dir) each = leads-refl h t due none_open
+      go (Some Entry.Dir) (Some (Entry.File others)) each = writing_leads h t due p others lawful each
+      go (Some (Entry.File bytes)) (Some (Entry.File others)) each = changed_file (same_bytes bytes others) others each
+      go (Some (Entry.File bytes)) (Some Entry.Dir) each = mkdir_leads h t due p each.0
+      go None (Some Entry.Dir) each = mkdir_leads h t due p each.0
+      go None (Some (Entry.File others)) each = writing_leads h t due p others lawful each
+
+  -- ---- all of it
+
+  abbrev left : List Path → List Path → Contents → Contents
+  left olds news c = all_assigned come_at news (all_assigned gone_at (reverse olds) c)
+
+  changes_lead : (h : Past Tree) → IsLawful h → (t : Tree) (due : Bool) → EachAccepted (within h t due none_open) (update_changes old new)
+      → Leads h t due none_open (after (within h t due none_open) (update_changes old new)) (left (paths_of old) (paths_of new) (get t))
+  changes_lead h lawful t due each =
+      let n = within h t due none_open in
+      let olds = paths_of old in
+      let news = paths_of new in
+      let removals = flat_map (removal_at old new) (reverse olds) in
+      let makings = flat_map (making_at old new) news in
+      let parts = accepted-parts n removals makings each in
+      let first = many_lead (removal_at old new) gone_at h (removal_leads h) (reverse olds) t due parts.0 in
+      let rest = many_lead (making_at old new) come_at h (making_leads h lawful) news first.tree first.is_due (subst (λ k. EachAccepted k makings) first.is parts.1) in
+      subst (λ k. Leads h t due none_open k (left (paths_of old) (paths_of new) (get t))) (sym (after-append n removals makings))
+      (leads-trans h t due none_open none_open (after n removals) makings (all_assigned gone_at (reverse olds) (get t)) (all_assigned come_at news) first rest)
+
+  -- ---- at each path
+
+  stays_none : (q : Path) → get old q ≡ get new q → (gone_at q ≡ None) × (come_at q ≡ None)
+  stays_none q same = subst (λ (o : Option Entry). (gone (get old q) o ≡ None) × (come (get old q) o ≡ None)) same (go (get old q))
+    where
+      go : (o : Option Entry) → (gone o o ≡ None) × (come o o ≡ None)
+      go None = (refl, refl)
+      go (Some Entry.Dir) = (refl, refl)
+      go (Some (Entry.File bytes)) = (refl, ap (λ (b : Bool). if b then None else Some (Some (Entry.File bytes))) (same_name-own bytes))
+
+  goes_none : (o : Option Entry) → o ≢ None → gone o None ≡ Some None
+  goes_none None differs = absurd (differs refl)
+  goes_none (Some Entry.Dir) differs = refl
+  goes_none (Some (Entry.File bytes)) differs = refl
+
+  comes : (o : Option Entry) (entry : Entry) → o ≢ Some entry → come o (Some entry) ≡ Some (Some entry)
+  comes None Entry.Dir differs = refl
+  comes None (Entry.File others) differs = refl
+  comes (Some Entry.Dir) Entry.Dir differs = absurd (differs refl)
+  comes (Some Entry.Dir) (Entry.File others) differs = refl
+  comes (Some (Entry.File bytes)) Entry.Dir differs = refl
+  comes (Some (Entry.File bytes)) (Entry.File others) differs = go (same_bytes bytes others) refl
+    where
+      go : (b : Bool) → same_bytes bytes others ≡ b → (if b then None else Some (Some (Entry.File others))) ≡ Some (Some (Entry.File others))
+      go true same = absurd (differs (ap (λ (xs : List ℕ). Some (Entry.File xs)) (same_name-is bytes others same)))
+      go false other = refl
+
+  module _ (olds news : List Path) (lawful : IsFileTree old) (lawful' : IsFileTree new) (all : IsListing old olds) (all' : IsListing new news) (c : Contents) where
+    not_root : (q : Path) → get old q ≢ get new q → q ≢ []
+    not_root q differs root = differs (ap (get old) root ∙ lawful.shape.root ∙ sym lawful'.shape.root ∙ ap (get new) (sym root))
+
+    at_other : (q : Path) → get old q ≡ get new q → left olds news c q ≡ c q
+    at_other q same =
+        let none = stays_none q same in
+        all_miss come_at q news (all_assigned gone_at (reverse olds) c) none.1 ∙ all_miss gone_at q (reverse olds) c none.0
+
+    some_listed : (q : Path) (t : Tree) (o : Option Entry) → get t q ≡ o → o ≢ None → IsSome (get t q)
+    some_listed q t None is some = absurd (some refl)
+    some_listed q t (Some entry) is some = some-is (get t q) entry is
+
+    at_differing : (q : Path) → get old q ≢ get new q → left olds news c q ≡ get new q
+    at_differing q differs = go (get new q) refl
+      where
+        go : (o : Option Entry) → get new q ≡ o → left olds news c q ≡ get new q
+        go None is =
+            let there : get old q ≢ None = λ none. differs (none ∙ sym is) in
+            let leaves : gone_at q ≡ Some None = ap (gone (get old q)) is ∙ goes_none (get old q) there in
+            let none : come_at q ≡ None = ap (come (get old q)) is ∙ nothing (get old q) in
+            all_miss come_at q news (all_assigned gone_at (reverse olds) c) none
+            ∙ all_have gone_at q (reverse olds) c None leaves (contains_reversed olds q (all q (not_root q differs) (some_listed q old (get old q) refl there))) ∙ sym is
+          where
+            nothing : (o : Option Entry) → come o None ≡ None
+            nothing None = refl
+            nothing (Some entry) = refl
+        go (Some entry) is =
+            let put : come_at q ≡ Some (Some entry) = ap (come (get old q)) is ∙ comes (get old q) entry (λ same. differs (same ∙ sym is)) in
+            all_have come_at q news (all_assigned gone_at (reverse olds) c) (Some entry) put (all' q (not_root q differs) (some-is (get new q) entry is)) ∙ sym is
+
+  -- ---- where the two are one
+
+  same_changes : old ≡ new → update_changes old new ≡ []
+  same_changes same = ap₂ (λ (xs ys : List Call). xs ++ ys) (none (removal_at old new) (reverse (paths_of old)) (λ p. no_removal p)) (none (making_at old new) (paths_of new) (λ p. no_making p))
+    where
+      none : (f : Path → List Call) (ps : List Path) → ((p : Path) → f p ≡ []) → flat_map f ps ≡ []
+      none f [] each = refl
+      none f (p ∷ ps) each = ap₂ (λ (xs ys : List Call). xs ++ ys) (each p) (none f ps each)
+
+      no_removal : (p : Path) → removal_at old new p ≡ []
+      no_removal p = subst (λ (u : Tree). removal_at old u p ≡ []) same (go (get old p))
+        where
+          go : (o : Option Entry) → (if goes o o then removal p o else []) ≡ []
+          go None = refl
+          go (Some Entry.Dir) = refl
+          go (Some (Entry.File bytes)) = refl
+
+      no_making : (p : Path) → making_at old new p ≡ []
+      no_making p = subst (λ (u : Tree). making_at old u p ≡ []) same (go (get old p))
+        where
+          go : (o : Option Entry) → making p o o ≡ []
+          go None = refl
+          go (Some Entry.Dir) = refl
+          go (Some (Entry.File bytes)) = ap (λ (b : Bool). if b then [] else writing p bytes) (same_name-own bytes)
+
+-- ---- the group ends, and is brought to the flash
+
+ended : (h : Past Tree) (t : Tree) (due : Bool) → after (within h t due none_open) (Call.End ∷ Call.Sync ∷ []) ≡ machine_with (cond due (changed h t) h) None none_open
+ended h t true = refl
+ended h t false = refl
+
+shown : (h : Past Tree) (t : Tree) (due : Bool) → IsLawful h → (due ≡ false → t ≡ unwrap_or (present_root h) bare) → unwrap_or (present_root (cond due (changed h t) h)) bare ≡ t
+shown h t true lawful undue = ap (λ o. unwrap_or o bare) (tree-changed h t lawful)
+shown h t false lawful undue = sym (undue refl)
+
+one_version : (h : Past Tree) (t : Tree) (due : Bool) → (cond due (changed h t) h ≡ h) ⊎ ((u : Tree) × (cond due (changed h t) h ≡ changed h u))
+one_version h t true = inr (t, refl)
+one_version h t false = inl refl
+
+pub update_law : UpdateLaw
+update_law old new m lawful lawful' is each = record {
+  tree = record {
+    differing = λ q differs. ap (λ (c : Contents). c q) (ap get now ∙ l.at) ∙ at_differing old new olds news lawful lawful' (listed old lawful) (listed new lawful') (get was) q differs;
+    others = λ q same. ap (λ (c : Contents). c q) (ap get now ∙ l.at) ∙ at_other old new olds news lawful lawful' (listed old lawful) (listed new lawful') (get was) q same;
+  };
+  version = subst (λ (h : Past Tree). (h ≡ m.history) ⊎ ((u : Tree) × (h ≡ changed m.history u))) (sym (ap (λ (k : Machine). k.history) end)) (one_version m.history l.tree l.is_due);
+  none = λ same. ap (λ (k : Machine). k.history) end ∙ ap (λ (b : Bool). cond b (changed m.history l.tree) m.history) (quiet same);
+}
+  where
+    was : Tree
+    was = present_tree m
+
+    calls : List Call
+    calls = update_changes old new
+
+    olds : List Path
+    olds = paths_of old
+
+    news : List Path
+    news = paths_of new
+
+    n : Machine
+    n = within m.history was false none_open
+
+    begun : next m Call.Begin ≡ n
+    begun =
+        let shut : any_open m.descriptors ≡ false = (passes (any_open m.descriptors) Busy None (outside m _ each.0).1).0 in
+        ap (machine_of m Call.Begin) each.0 ∙ ap (λ ds. within m.history was false ds) (same-free m.descriptors none_open shut refl is.places)
+
+    parts : EachAccepted n calls × EachAccepted (after n calls) (Call.End ∷ Call.Sync ∷ [])
+    parts = accepted-parts n calls (Call.End ∷ Call.Sync ∷ []) (subst (λ k. EachAccepted k (calls ++ Call.End ∷ Call.Sync ∷ [])) begun each.1)
+
+    l : Leads m.history was false none_open (after n calls) (left old new olds news (get was))
+    l = changes_lead old new m.history is.lawful was false parts.0
+
+    end : after m (update_calls old new) ≡ machine_with (cond l.is_due (changed m.history l.tree) m.history) None none_open
+    end =
+        ap (λ k. after k (calls ++ Call.End ∷ Call.Sync ∷ [])) begun ∙ after-append n calls (Call.End ∷ Call.Sync ∷ [])
+        ∙ ap (λ k. after k (Call.End ∷ Call.Sync ∷ [])) l.is ∙ ended m.history l.tree l.is_due
+
+    now : present_tree (after m (update_calls old new)) ≡ l.tree
+    now = ap present_tree end ∙ shown m.history l.tree l.is_due is.lawful (λ e. (l.undue e).1)
+
+    due_of : Machine → Bool
+    due_of k = option_map_or (λ g. g.is_due) k.group false
+
+    quiet : old ≡ new → l.is_due ≡ false
+    quiet same = sym (ap due_of l.is) ∙ ap due_of (ap (after n) (same_changes old new same))

@@ -1,0 +1,70 @@
+-- The calls that bring one tree to another.
+use Rattle.std.specs.Prelude.{ℕ, zero, suc, ◌*◌, nat_le, Bool, true, false, Option, Some, None, List, [], ◌∷◌, ◌++◌, length, take, drop, map, reverse, if◌then◌else◌}
+use Rattle.std.specs.Int.{div_ceil}
+use Rattle.std.specs.List.{flat_map, range_with_len}
+use Rattle.std.specs.FinMap.{get}
+use Rattle.fs_types.specs.Names.{Path}
+use Rattle.fs_types.specs.declared.call.Call.{Call}
+use Rattle.fs_types.specs.declared.limits.TheConstants.{MAX_NAMES}
+use Rattle.plain_trees.specs.Contents.{Entry, same_bytes}
+use Rattle.plain_trees.specs.Trees.{Tree, children}
+use Rattle.history_machine.specs.Laws.{anew}
+use Rattle.tree_updates.specs.declared.laws.TheConstants.{PIECE_BYTES}
+
+-- what stands at a path in the old tree has to go: in the new one nothing stands there, or what is of another kind
+abbrev pub goes : Option Entry → Option Entry → Bool
+goes None there = false
+goes (Some Entry.Dir) (Some Entry.Dir) = false
+goes (Some (Entry.File bytes)) (Some (Entry.File others)) = false
+goes (Some entry) there = true
+
+abbrev pub removal : Path → Option Entry → List Call
+removal path (Some Entry.Dir) = Call.Rmdir path ∷ []
+removal path (Some (Entry.File bytes)) = Call.Unlink path ∷ []
+removal path None = []
+
+abbrev pub removal_at : Tree → Tree → Path → List Call
+removal_at old new path = if goes (get old path) (get new path) then removal path (get old path) else []
+
+-- a piece of a file's bytes, at its place in the file that is open
+abbrev pub piece : List ℕ → ℕ → Call
+piece bytes i = Call.Pwrite 0 (i * PIECE_BYTES) (take PIECE_BYTES (drop (i * PIECE_BYTES) bytes))
+
+-- a file is opened anew, which cuts it or makes it, is written piece by piece, and closed
+abbrev pub pieces_of : Path → List ℕ → List Call
+pieces_of path bytes = Call.Open path anew ∷ (map (piece bytes) (range_with_len 0 (div_ceil (length bytes) PIECE_BYTES)) ++ Call.Close 0 ∷ [])
+
+-- a file gets these bytes: by one call, or piece by piece, where it has more than a piece
+abbrev pub writing : Path → List ℕ → List Call
+writing path bytes =
+    if nat_le (length bytes) PIECE_BYTES then Call.WriteFile path bytes ∷ []
+    else pieces_of path bytes
+
+-- what makes what stands at a path in the new tree of what stands there in the old one
+abbrev pub making : Path → Option Entry → Option Entry → List Call
+making path there None = []
+making path (Some Entry.Dir) (Some Entry.Dir) = []
+making path (Some (Entry.File bytes)) (Some (Entry.File others)) = if same_bytes bytes others then [] else writing path others
+making path there (Some Entry.Dir) = Call.Mkdir path ∷ []
+making path there (Some (Entry.File others)) = writing path others
+
+abbrev pub making_at : Tree → Tree → Path → List Call
+making_at old new path = making path (get old path) (get new path)
+
+-- the paths of what stands below a directory, in so many levels: a directory's before those of what stands in it, and names in byte
+-- order
+unfoldable pub paths_below : Tree → ℕ → Path → List Path
+paths_below t zero directory = []
+paths_below t (suc levels) directory = flat_map (λ entry. (directory ++ entry.0 ∷ []) ∷ (if entry.1 then paths_below t levels (directory ++ entry.0 ∷ []) else [])) (children t directory)
+
+-- those of all that stands below the root: no path has more names
+abbrev pub paths_of : Tree → List Path
+paths_of t = paths_below t MAX_NAMES []
+
+-- the changes: what goes is removed first, what stands in a directory before that; then what came or changed is made
+abbrev pub update_changes : Tree → Tree → List Call
+update_changes old new = flat_map (removal_at old new) (reverse (paths_of old)) ++ flat_map (making_at old new) (paths_of new)
+
+-- all of it in one change group, which is brought to the flash
+abbrev pub update_calls : Tree → Tree → List Call
+update_calls old new = Call.Begin ∷ (update_changes old new ++ Call.End ∷ Call.Sync ∷ [])

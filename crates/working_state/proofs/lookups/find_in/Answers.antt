@@ -1,0 +1,20 @@
+use Rattle.std.proofs.Common.{◌≡◌, Err, subst, rules, ap}
+use Rattle.std.specs.Prelude.{IsErrOf}
+use Rattle.fs_types.specs.declared.fault.Fault.TheVariants.{Damaged}
+use Rattle.flash_model.specs.Device.{Device}
+use Rattle.node_store.specs.NodePages.{node_of}
+use Rattle.directory.specs.Seeking.{place_in}
+use Rattle.working_state.specs.Leaves.{HasLooked}
+use Rattle.working_state.proofs.StoreReads.{on_flash, store_looked}
+use Rattle.working_state.proofs.lookups.find_in.Goals as goal
+
+pub returns-clause-looked : goal.returns-clause-looked
+returns-clause-looked g c =
+    on_flash HasLooked _ (g.F.Flash.device c.new-store.result.flash.now) _ c.new-store.result.storage.now _ (g.F.Flash.device c.found_in.new.nodes.flash.now) _ c.found_in.new.nodes.storage.now
+    (ap (λ b. g.F.Flash.device b.now) c.new-store.ensures.flash) (ap (λ b. b.now) c.new-store.ensures.storage) (search rules) (search rules)
+    (store_looked g.F.Flash.device c.new-store.result c.found_in.new.nodes c.found_in.ensures.looks.came c.found_in.ensures.looks.same_writes)
+
+pub returns-clause-damaged : goal.returns-clause-damaged
+returns-clause-damaged g c =
+    subst (λ (d : Device). IsErrOf c.found_in.result Damaged → place_in (node_of d) c.args.name.now c.args.block ≡ Err Damaged)
+    (ap (λ b. g.F.Flash.device b.now) c.new-store.ensures.flash) c.found_in.ensures.damaged

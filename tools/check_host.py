@@ -126,7 +126,8 @@ def fifos(program, folder):
         told = f"uffs: cannot write {name}\n".encode()
         want(run(program, ["run", name], SCRIPT), (1, b"", told))
         want(run(program, ["format", name]), (1, b"", told))
-        want(run(program, ["check", name]), (1, b"", f"uffs: cannot read {name}\n".encode()))
+        told = f"uffs: cannot read {name}: it is neither a folder nor a plain file\n".encode()
+        want(run(program, ["check", name]), (1, b"", told))
 
 
 def in_use(program, folder):

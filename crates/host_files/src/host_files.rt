@@ -9,7 +9,7 @@ mod replaced;
 mod replacing;
 
 use crate::channels::Channels;
-use crate::image_files::{FileFault, ImageFiles, MOST_BYTES};
+use crate::image_files::{FileFault, ImageFiles, MOST_BYTES, UnreadCause};
 use crate::parts::Parts;
 use crate::source::{Source, Sources};
 use claims::Claim;
@@ -69,6 +69,10 @@ impl<R: Files<File = File>> ImageFiles for HostFiles<'_, R> {
             Ok(replaced) => Ok(is_among(self.rt, replaced, other)),
             Err(error) => Err(fault_of(&error)),
         }
+    }
+
+    fn unread_cause(&self, name: &str) -> Option<UnreadCause> {
+        unread_cause(self.rt, name)
     }
 
     fn replace(&mut self, alloc: Global, name: &str, bytes: &[u8]) -> Result<(), FileFault> {
@@ -166,6 +170,27 @@ fn read_opened<F: Read + OpenFile + Drop>(alloc: Global, file: F) -> io::Result<
     let opened = file.metadata()?;
     refuse_special(&opened)?;
     read_front(alloc, file, opened.len())
+}
+
+/// Why a name gives no bytes, if it gives none.
+fn unread_cause<R: Files>(rt: &R, name: &str) -> Option<UnreadCause> {
+    match fs::metadata(rt, name) {
+        Ok(found) if found.is_dir() => Some(UnreadCause::Folder),
+        Ok(found) if !found.is_file() => Some(UnreadCause::Special),
+        Ok(_) => match fs::open(rt, name) {
+            Ok(_) => None,
+            Err(error) => cause_of(&error),
+        },
+        Err(error) => cause_of(&error),
+    }
+}
+
+fn cause_of(error: &io::Error) -> Option<UnreadCause> {
+    match error.kind() {
+        ErrorKind::NotFound | ErrorKind::NotADirectory => Some(UnreadCause::Missing),
+        ErrorKind::PermissionDenied => Some(UnreadCause::Denied),
+        _ => None,
+    }
 }
 
 /// Refused where it is no plain file.

@@ -2,9 +2,9 @@
 use std::alloc::Global;
 use thiserror::Error;
 
-/// So many bytes of a file are read at most: one more than the longest image has, which is that of
-/// a flash of 16,384 blocks of 16 pages of 256 bytes, all of them with data.
-pub const MOST_BYTES: u64 = 67_387_413;
+/// So many bytes of a file are read at most: one more than the bytes of the largest serial NOR part, of
+/// 16,384 blocks, which are twice those of the flash on it. No image is as long.
+pub const MOST_BYTES: u64 = 134_217_729;
 
 /// Why a file was not claimed, read or replaced.
 #[derive(Clone, Copy, Debug, PartialEq, Eq, Error)]
@@ -18,6 +18,23 @@ pub enum FileFault {
     /// Memory could not be had.
     #[error("out of memory")]
     Memory,
+}
+
+/// Why a file cannot be read.
+#[derive(Clone, Copy, Debug, PartialEq, Eq, Error)]
+pub enum UnreadCause {
+    /// Nothing stands at its name.
+    #[error("it is missing")]
+    Missing,
+    /// The host does not allow it.
+    #[error("it may not be read")]
+    Denied,
+    /// It is a folder.
+    #[error("it is a folder")]
+    Folder,
+    /// It is a fifo, a device or the like.
+    #[error("it is neither a folder nor a plain file")]
+    Special,
 }
 
 /// Files, by their names.
@@ -58,6 +75,12 @@ pub trait ImageFiles {
     /// names lead to one file, or the other leads to what stands where the new file is made. No clause
     /// says what it answers.
     fn takes_away(&self, alloc: Global, name: &str, other: &str) -> Result<bool, FileFault>;
+
+    /// Why the file of a name cannot be read, as a look at it tells now; none where that tells nothing. No
+    /// clause says what it answers.
+    fn unread_cause(&self, _name: &str) -> Option<UnreadCause> {
+        None
+    }
 
     /// Puts a file of these bytes in the place of the one of this name, which is claimed, if there is
     /// one. Where that fails the file of this name stays as it was; where it is `Unsynced` it is the

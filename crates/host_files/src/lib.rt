@@ -14,7 +14,7 @@ mod source;
 pub use backing::Backing;
 pub use channels::Channels;
 pub use host_files::{HostFiles, HostPart};
-pub use image_files::{FileFault, ImageFiles, MOST_BYTES};
+pub use image_files::{FileFault, ImageFiles, MOST_BYTES, UnreadCause};
 pub use limits::read_limit_law;
 pub use names::takes_away;
 pub use parts::Parts;

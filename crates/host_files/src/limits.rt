@@ -5,5 +5,5 @@ use crate::image_files::MOST_BYTES;
 
 /// The limit as its number.
 pub fn read_limit_law()
-    ensures { MOST_BYTES ≡ 67387413 }
+    ensures { MOST_BYTES ≡ 134217729 }
 {}

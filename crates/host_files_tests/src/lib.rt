@@ -6,6 +6,8 @@ mod gets;
 #[cfg(test)]
 mod images;
 #[cfg(test)]
+mod mirrors;
+#[cfg(test)]
 mod parts;
 #[cfg(test)]
 mod puts;

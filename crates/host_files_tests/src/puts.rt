@@ -9,7 +9,7 @@ use std::rt::Files;
 use std::test::Fail;
 
 /// A new folder with a folder `new` in it, and the names of both and of an image beside that.
-fn begun(rt: &HostRuntime, word: &str) -> Result<(String, String, String), Fail> {
+pub(crate) fn begun(rt: &HostRuntime, word: &str) -> Result<(String, String, String), Fail> {
     let alloc = rt.alloc();
     let folder = folder_of(rt, word)?;
     let image = name_in(alloc, folder.as_str(), "image")?;
@@ -51,14 +51,15 @@ fn assert_put<R: Abort + Files<File = File> + AllocGlobal>(
     )
 }
 
-/// Asserts that a folder or file is not put, since what stands at a name cannot be read.
+/// Asserts that a folder or file is not put, since what stands at a name cannot be read, with a reason.
 fn assert_unread<R: Abort + Files<File = File> + AllocGlobal>(
     rt: &R,
     image: &str,
     source: &str,
     name: &str,
+    reason: &str,
 ) -> Result<(), Fail> {
-    let told = format!(in rt.alloc(); "uffs: cannot read {name}\n")?;
+    let told = format!(in rt.alloc(); "uffs: cannot read {name}: {reason}\n")?;
     assert_given(rt, &["put", image, source, "/"], "", (1, "", told.as_str()))
 }
 
@@ -263,18 +264,20 @@ fn what_may_not_be_read_is_told(rt: HostRuntime) -> Result<(), Fail> {
     fs::set_permissions(&rt, secret, Permissions::from_mode(0))?;
     // Who may read all files reads this one too.
     if fs::read(&rt, secret).is_err() {
-        assert_unread(&rt, image, source, secret)?;
+        assert_unread(&rt, image, source, secret, "it may not be read")?;
     }
     fs::remove_file(&rt, secret)?;
     fs::create_dir(&rt, secret)?;
     fs::set_permissions(&rt, secret, Permissions::from_mode(0))?;
     // Who may list all folders lists this one too.
     if fs::read_dir(&&rt, secret).is_err() {
-        assert_unread(&rt, image, source, secret)?;
+        let listed = "it may not be listed, or a name in it is not UTF-8";
+        assert_unread(&rt, image, source, secret, listed)?;
     }
     fs::remove_dir(&rt, secret)?;
     let missing = name_in(alloc, source, "missing")?;
-    assert_unread(&rt, image, missing.as_str(), missing.as_str())?;
+    let missing = missing.as_str();
+    assert_unread(&rt, image, missing, missing, "it is missing")?;
     fs::remove_dir_all(&rt, folder.as_str())?;
     Ok(())
 }

@@ -37,15 +37,16 @@ pub(crate) fn assert_calls<R: Abort + AllocGlobal, F: ImageFiles + Sources + Cha
 }
 
 /// Asserts that the words that ask something of an image have it told as one that cannot be read, or
-/// cannot be written.
+/// cannot be written, with this after its name.
 fn assert_cannot<R: Abort + AllocGlobal, F: ImageFiles + Sources + Channels + Parts>(
     rt: &R,
     files: &mut F,
     what: &str,
     verb: &str,
     name: &str,
+    reason: &str,
 ) -> Result<(), Fail> {
-    let text = format!(in rt.alloc(); "uffs: cannot {what} {name}\n")?;
+    let text = format!(in rt.alloc(); "uffs: cannot {what} {name}{reason}\n")?;
     let wanted = (1, "", text.as_str());
     assert_calls(rt, files, &[(&[verb, name], "", wanted)])
 }
@@ -56,7 +57,7 @@ fn assert_unwritten<R: Abort + AllocGlobal, F: ImageFiles + Sources + Channels +
     files: &mut F,
     name: &str,
 ) -> Result<(), Fail> {
-    assert_cannot(rt, files, "write", "format", name)
+    assert_cannot(rt, files, "write", "format", name, "")
 }
 
 /// Asserts that a name is formatted.
@@ -98,18 +99,21 @@ fn assert_missing<R: Abort + Files + AllocGlobal>(
 fn assert_refused<R: Abort + Files<File = File> + AllocGlobal>(
     rt: &R,
     name: &str,
+    reason: &str,
 ) -> Result<(), Fail> {
     let mut files = HostFiles::new(rt);
-    assert_cannot(rt, &mut files, "write", "format", name)?;
-    assert_cannot(rt, &mut files, "write", "run", name)?;
-    assert_cannot(rt, &mut files, "read", "check", name)
+    assert_cannot(rt, &mut files, "write", "format", name, "")?;
+    assert_cannot(rt, &mut files, "write", "run", name, "")?;
+    assert_cannot(rt, &mut files, "read", "check", name, reason)
 }
 
 #[test]
 fn a_file_is_replaced_whole(rt: HostRuntime) -> Result<(), Fail> {
     let folder = folder_of(&rt, "whole")?;
     let name = name_in(rt.alloc(), folder.as_str(), "x")?;
-    assert_cannot(&rt, &mut HostFiles::new(&rt), "read", "run", name.as_str())?;
+    let mut files = HostFiles::new(&rt);
+    let missing = ": it is missing";
+    assert_cannot(&rt, &mut files, "read", "run", name.as_str(), missing)?;
     assert_formatted(&rt, name.as_str())?;
     assert_missing(&rt, name.as_str(), ".new")?;
     let fresh = fresh_image(rt.alloc())?;
@@ -200,7 +204,9 @@ fn a_link_means_the_file_that_it_names(rt: HostRuntime) -> Result<(), Fail> {
     let first = name_in(rt.alloc(), folder.as_str(), "link")?;
     symlink(&rt, "x", second.as_str())?;
     symlink(&rt, "below/link", first.as_str())?;
-    assert_cannot(&rt, &mut HostFiles::new(&rt), "read", "run", first.as_str())?;
+    let mut files = HostFiles::new(&rt);
+    let missing = ": it is missing";
+    assert_cannot(&rt, &mut files, "read", "run", first.as_str(), missing)?;
     assert_formatted(&rt, first.as_str())?;
     assert_changed(&rt, first.as_str())?;
     for link in [first.as_str(), second.as_str()] {
@@ -228,7 +234,7 @@ fn many_links_are_followed(rt: HostRuntime) -> Result<(), Fail> {
     assert_changed(&rt, last.as_str())?;
     let more = name_in(alloc, folder, "link41")?;
     symlink(&rt, "link40", more.as_str())?;
-    assert_refused(&rt, more.as_str())?;
+    assert_refused(&rt, more.as_str(), "")?;
     fs::remove_dir_all(&rt, folder)?;
     Ok(())
 }
@@ -240,15 +246,17 @@ fn what_is_no_plain_file_is_refused(rt: HostRuntime) -> Result<(), Fail> {
     let link = name_in(rt.alloc(), folder.as_str(), "link")?;
     fs::create_dir(&rt, below.as_str())?;
     symlink(&rt, "below", link.as_str())?;
-    for name in [below.as_str(), link.as_str(), "/dev/null"] {
-        assert_refused(&rt, name)?;
+    for name in [below.as_str(), link.as_str()] {
+        assert_refused(&rt, name, ": it is a folder")?;
     }
+    let special = ": it is neither a folder nor a plain file";
+    assert_refused(&rt, "/dev/null", special)?;
     assert_missing(&rt, below.as_str(), ".new")?;
     let missing = name_in(rt.alloc(), folder.as_str(), "none/x")?;
     assert_unwritten(&rt, &mut HostFiles::new(&rt), missing.as_str())?;
     let own = name_in(rt.alloc(), folder.as_str(), "own")?;
     symlink(&rt, "own", own.as_str())?;
-    assert_refused(&rt, own.as_str())?;
+    assert_refused(&rt, own.as_str(), "")?;
     fs::remove_dir_all(&rt, folder.as_str())?;
     Ok(())
 }
@@ -282,7 +290,7 @@ fn an_image_in_use_is_not_run_or_replaced(rt: HostRuntime) -> Result<(), Fail> {
     assert!(rt; first.claim(rt.alloc(), link.as_str()).is_ok());
     let mut files = HostFiles::new(&rt);
     assert_unwritten(&rt, &mut files, name.as_str())?;
-    assert_cannot(&rt, &mut files, "write", "run", name.as_str())?;
+    assert_cannot(&rt, &mut files, "write", "run", name.as_str(), "")?;
     let check = ["check", name.as_str()];
     let calls: [Wanted<'_>; 1] = [(&check, "", (0, "ok\n", ""))];
     assert_calls(&rt, &mut files, &calls)?;

@@ -35,7 +35,8 @@ of_part PartFault.Read = Failure.CannotRead
 of_part PartFault.Memory = Failure.Memory
 of_part fault = Failure.Part fault
 
--- 3 where the image, the part, a format or a mount was refused, but 1 where a page of a part cannot be read; 4 where a call or a line of a script was, 5 where trees differ, else 1
+-- 3 where the image, the part, a format or a mount was refused, but 1 where a page of a part cannot be read; 4 where a call or a
+-- line of a script was, 5 where trees differ, 2 where the words want a folder, else 1
 abbrev pub failure_status : Failure → ℕ
 failure_status (Failure.Image fault) = 3
 failure_status (Failure.Part (PartFault.Page page)) = 1
@@ -45,6 +46,7 @@ failure_status (Failure.Refused refusal) = 4
 failure_status Failure.TooManyLines = 4
 failure_status (Failure.Stopped at) = 4
 failure_status Failure.Differs = 5
+failure_status Failure.NoFolder = 2
 failure_status _ = 1
 
 -- 0 where a job ran to its end

@@ -2,6 +2,7 @@
 use crate::source_fault::SourceFault;
 use flash_image::ImageFault;
 use fs_types::Fault;
+use host_files::UnreadCause;
 use part_file::PartFault;
 use script_runs::{Refusal, ScriptFault, Stop};
 use std::io;
@@ -45,6 +46,9 @@ pub enum Failure {
     /// Something of the host is not put into an image. It was told with its name.
     #[error("not put: {0}")]
     Source(SourceFault),
+    /// What is to be put is no folder, which the words want.
+    #[error("not a folder")]
+    NoFolder,
     /// What was asked for was refused.
     #[error("refused")]
     Refused(Refusal),
@@ -117,7 +121,7 @@ impl Failure {
     }
 
     /// The status of the program: 3 where the image, the part, a format or a mount was refused, 4 where a
-    /// call or a line of a script was, 5 where trees differ, else 1.
+    /// call or a line of a script was, 5 where trees differ, 2 where the words want a folder, else 1.
     pub fn status(self) -> u8
         ensures { result ≡ failure_status self }
     {
@@ -126,14 +130,22 @@ impl Failure {
             Failure::Image(_) | Failure::Part(_) | Failure::System(_) => 3,
             Failure::Refused(_) | Failure::TooManyLines | Failure::Stopped(_) => 4,
             Failure::Differs => 5,
+            Failure::NoFolder => 2,
             _ => 1,
         }
     }
 
-    /// Writes the line that says why, with the name of what was to be read, or of what was to be written.
-    pub fn explain<E: Write>(self, read: &str, written: &str, err: &mut E) {
+    /// Writes the line that says why, with the name of what was to be read, and why it was not where that
+    /// is known, or with the name of what was to be written.
+    pub fn explain<E: Write>(
+        self,
+        read: &str,
+        unread: Option<UnreadCause>,
+        written: &str,
+        err: &mut E,
+    ) {
         let _ = match self {
-            Failure::CannotRead => writeln!(err, "uffs: cannot read {read}"),
+            Failure::CannotRead => explain_unread(read, unread, err),
             Failure::Unavailable | Failure::CannotWrite | Failure::Unsynced => {
                 writeln!(err, "uffs: cannot write {written}")
             }
@@ -142,9 +154,10 @@ impl Failure {
             Failure::Memory => writeln!(err, "uffs: ENOMEM 25"),
             Failure::Image(fault) => writeln!(err, "uffs: image {fault}"),
             Failure::Part(fault) => explain_part(fault, read, err),
-            Failure::System(fault) => explain_fault(fault, err),
+            Failure::System(fault) => explain_refusal(Refusal::Fault(fault), None, err),
             Failure::Source(_) | Failure::Differs => Ok(()),
-            Failure::Refused(refusal) => explain_refusal(refusal, err),
+            Failure::Refused(refusal) => explain_refusal(refusal, None, err),
+            Failure::NoFolder => writeln!(err, "uffs: --mirror and --skip-links want a folder"),
             Failure::TooManyLines => writeln!(err, "uffs: TOOMANYLINES"),
             Failure::Stopped(stop) => explain_stop(stop, err),
         };
@@ -159,19 +172,41 @@ fn explain_part<E: Write>(fault: PartFault, read: &str, err: &mut E) -> io::Resu
     }
 }
 
-/// Writes the line of a refused system.
-fn explain_fault<E: Write>(fault: Fault, err: &mut E) -> io::Result<()> {
-    let word = fault.word();
-    let number = fault.number();
-    writeln!(err, "uffs: {word} {number}")
+/// Writes the line of what cannot be read, with why where that is known.
+pub fn explain_unread<E: Write>(
+    name: &str,
+    cause: Option<UnreadCause>,
+    err: &mut E,
+) -> io::Result<()> {
+    match cause {
+        Some(cause) => writeln!(err, "uffs: cannot read {name}: {cause}"),
+        None => writeln!(err, "uffs: cannot read {name}"),
+    }
 }
 
-/// Writes the line of what was refused.
-fn explain_refusal<E: Write>(refusal: Refusal, err: &mut E) -> io::Result<()> {
+/// Writes the line of what was refused, with what it was where that is named.
+pub fn explain_refusal<E: Write>(
+    refusal: Refusal,
+    what: Option<&str>,
+    err: &mut E,
+) -> io::Result<()> {
+    write_refusal(refusal, err)?;
+    match what {
+        Some(what) => writeln!(err, ": {what}"),
+        None => writeln!(err),
+    }
+}
+
+/// Writes the word of what was refused.
+fn write_refusal<E: Write>(refusal: Refusal, err: &mut E) -> io::Result<()> {
     match refusal {
-        Refusal::Fault(fault) => explain_fault(fault, err),
-        Refusal::Syntax => writeln!(err, "uffs: SYNTAX"),
-        Refusal::Unmounted => writeln!(err, "uffs: unmounted"),
+        Refusal::Fault(fault) => {
+            let word = fault.word();
+            let number = fault.number();
+            write!(err, "uffs: {word} {number}")
+        }
+        Refusal::Syntax => write!(err, "uffs: SYNTAX"),
+        Refusal::Unmounted => write!(err, "uffs: unmounted"),
     }
 }
 

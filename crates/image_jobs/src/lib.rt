@@ -10,7 +10,7 @@ mod laws;
 mod saved_bytes;
 mod source_fault;
 
-pub use failure::Failure;
+pub use failure::{Failure, explain_refusal, explain_unread};
 pub use image_bytes::{claim, take_image, write_image};
 pub use images::{
     check_image, flash_of, format_image, formatted_flash, load, look_at_image, run_image,

@@ -12,7 +12,7 @@ ghost use Rattle.inquiries.specs.Readings.{shown, IsUnchanged, Fails};
 ghost use Rattle.undofs.specs.Systems.{flash_name};
 
 use crate::differences::tell_differences;
-use crate::items::items_of;
+use crate::items::{Item, items_of};
 use crate::printing::lines_of;
 use crate::reading::{read_file, size_of_tree};
 use crate::tell_fault::{MAX_LINES, TellFault};
@@ -86,11 +86,27 @@ fn tell_tree<F: Flash>(alloc: Global, fs: &mut Fs<'_, F>, view: &View) -> Result
     ensures ok { IfOk result (IsTold (F.device fs.old.flash.now) fs.old.system.state (Inquiry.Tree view.now)) }
     ensures err { IfErr result (Untold (Inquiry.Tree view.now) fs.old fs.new) }
 {
+    let items = few_items(alloc, fs, view)?;
+    Ok(Bytes::from_vec(lines_of(alloc, &items)?))
+}
+
+/// All that stands in a view's tree, where that is not too much to be told.
+pub(crate) fn few_items<F: Flash>(
+    alloc: Global,
+    fs: &mut Fs<'_, F>,
+    view: &View,
+) -> Result<Vec<Item>, TellFault>
+    ensures same { IsUnchanged fs.old fs.new }
+    ensures accepted { IfOk result (λ _. inquiry_refusal (shown fs.old) (Inquiry.Tree view.now) ≡ None) }
+    ensures few { IfOk result (λ _. HasFewLines (shown fs.old) (Inquiry.Tree view.now)) }
+    ensures ok { IfOk result (λ items. items.items ≡ items_of (view_tree (shown fs.old) view.now)) }
+    ensures err { IfErr result (Untold (Inquiry.Tree view.now) fs.old fs.new) }
+{
     let size = size_of_tree(alloc, fs, view)?;
     if !is_few(size) {
         return Err(TellFault::TooManyLines);
     }
-    Ok(list_tree(alloc, fs, view)?)
+    Ok(items_of(alloc, fs, view)?)
 }
 
 /// Whether a tree has no more lines than may be told.
@@ -101,15 +117,4 @@ fn is_few(size: TreeSize) -> bool
         Some(entries) => entries <= MAX_LINES,
         None => false,
     }
-}
-
-/// The lines of a view's tree.
-fn list_tree<F: Flash>(alloc: Global, fs: &mut Fs<'_, F>, view: &View) -> Result<Bytes, Fault>
-    ensures same { IsUnchanged fs.old fs.new }
-    ensures accepted { IfOk result (λ _. view_refusal (shown fs.old).history view.now ≡ None) }
-    ensures ok { IfOk result (λ bytes. bytes ≡ tree_lines (view_tree (shown fs.old) view.now)) }
-    ensures err { IfErr result (Fails (view_refusal (shown fs.old).history view.now) fs.old fs.new) }
-{
-    let items = items_of(alloc, fs, view)?;
-    Ok(Bytes::from_vec(lines_of(alloc, &items)?))
 }

@@ -43,7 +43,7 @@ abbrev pub run_app : App
 run_app = with_rule (image_app (codes "run")) (flag_rule (codes "stop"))
 
 abbrev pub put_app : App
-put_app = with_rule (with_rule (with_rule (image_app (codes "put")) (word_rule (codes "FILE"))) (word_rule (codes "PATH"))) (flag_rule (codes "progress"))
+put_app = with_rule (with_rule (with_rule (with_rule (with_rule (image_app (codes "put")) (word_rule (codes "FILE"))) (word_rule (codes "PATH"))) (flag_rule (codes "progress"))) (flag_rule (codes "mirror"))) (flag_rule (codes "skip-links"))
 
 -- steps in the history of an image, one where no word says how many
 abbrev pub steps_app : Text → App
@@ -78,6 +78,13 @@ to_part_app = with_rule (image_app (codes "to-part")) (word_rule (codes "FILE"))
 
 abbrev pub from_part_app : App
 from_part_app = with_rule (with_rule (new_app (codes "from-part")) (word_rule (codes "FILE"))) (word_rule (codes "IMAGE"))
+
+-- an image as the bytes of a serial NOR part, and back, with the sizes of its pages and blocks
+abbrev pub raw_app : App
+raw_app = with_rule (image_app (codes "raw")) (word_rule (codes "FILE"))
+
+abbrev pub from_raw_app : App
+from_raw_app = with_rule (with_rule (with_rule (with_rule (new_app (codes "from-raw")) (word_rule (codes "FILE"))) (word_rule (codes "IMAGE"))) (number_rule (codes "page"))) (number_rule (codes "pages"))
 
 abbrev pub explain_app : App
 explain_app = with_rule (new_app (codes "explain")) (word_rule (codes "REFUSAL"))
@@ -118,10 +125,14 @@ with_image_apps app = with_subcommand (with_subcommand (with_subcommand (with_su
 abbrev pub with_part_apps : App → App
 with_part_apps app = with_subcommand (with_subcommand app to_part_app.top) from_part_app.top
 
+-- a program with the subcommands more that make the bytes of a serial NOR part of an image, and back
+abbrev pub with_raw_apps : App → App
+with_raw_apps app = with_subcommand (with_subcommand app raw_app.top) from_raw_app.top
+
 -- a program with the subcommands more that tell of the program itself
 abbrev pub with_about_apps : App → App
 with_about_apps app = with_subcommand (with_subcommand (with_subcommand app explain_app.top) (new_app (codes "help")).top) (new_app (codes "version")).top
 
 -- the program
 abbrev pub uffs : App
-uffs = with_about_apps (with_part_apps (with_subcommand (with_subcommand (with_image_apps (with_reading_apps (with_history_apps changing_app))) (new_app (codes "memory")).top) serve_app.top))
+uffs = with_about_apps (with_raw_apps (with_part_apps (with_subcommand (with_subcommand (with_image_apps (with_reading_apps (with_history_apps changing_app))) (new_app (codes "memory")).top) serve_app.top)))

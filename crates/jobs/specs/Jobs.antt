@@ -37,6 +37,8 @@ task_named name = if bytes_eq name (codes "format") then Some Task.Format
     else if bytes_eq name (codes "serve") then Some Task.Serve
     else if bytes_eq name (codes "to-part") then Some Task.ToPart
     else if bytes_eq name (codes "from-part") then Some Task.FromPart
+    else if bytes_eq name (codes "raw") then Some Task.ToRaw
+    else if bytes_eq name (codes "from-raw") then Some Task.FromRaw
     else if bytes_eq name (codes "explain") then Some Task.Explain
     else if bytes_eq name (codes "help") then Some Task.Help
     else if bytes_eq name (codes "version") then Some Task.Version
@@ -144,6 +146,8 @@ pub record IsJobOf (name : Text) (rows : List Row) (job : Job) : Type 0 where
   pub view : word_text job.view ≡ first_of (codes "VIEW") rows
   pub other : word_text job.other ≡ first_of (codes "OTHER") rows
   pub progress : job.progress ≡ flag_of (first_of (codes "progress") rows)
+  pub mirror : job.mirror ≡ flag_of (first_of (codes "mirror") rows)
+  pub skip_links : job.skip_links ≡ flag_of (first_of (codes "skip-links") rows)
 
 -- the job is what a subcommand says, where one was named
 abbrev pub SaysJob : Option (Text × List Row) → Job → Type 0

@@ -8,6 +8,7 @@ ghost use Rattle.jobs.specs.Grammar.{formatted_app, named_rule, with_part_apps, 
 use crate::about_commands::with_about_commands;
 use crate::history_commands::with_history_commands;
 use crate::part_commands::with_part_commands;
+use crate::raw_commands::with_raw_commands;
 use clap::{Arg, ArgAction, Command, value_parser};
 use std::alloc::{AllocError, Global};
 
@@ -71,15 +72,18 @@ words; 3 IMAGE holds no image, or its mount was refused; 4 a line was refused, w
 Example: printf 'mkdir /a\\nsync\\n' | uffs run disk.image --stop";
 
 const PUT_HELP: &str =
-    "FILE is a file of the host, or a folder with all that is below it. Files that are there are replaced,
-and other entries of a directory stay. All of it is one version, which is synced: `undo` takes it
-back, and where power goes the tree is the old one. Where anything is refused IMAGE stays as it was.
-PATH is spelled as in a script.
+    "FILE is a file of the host, or a folder with all that is below it; - is standard input, as a file.
+Files that are there are replaced, and other entries of a directory stay, but with --mirror: then what
+stands below PATH and not in the folder FILE is removed, and what a link in FILE stands for stays, which
+--skip-links leaves out. All of it is one version, which is synced: `undo` takes it back, and where power
+goes the tree is the old one. Where anything is refused IMAGE stays as it was. PATH is spelled as in a
+script.
 
-Status: 0 it is there; 1 IMAGE or FILE cannot be read, IMAGE cannot be written, or memory; 2 the
-words; 3 IMAGE holds no image, or its mount was refused; 4 it was refused, told as uffs: ENOENT 1.
+Status: 0 it is there; 1 IMAGE, FILE or the input cannot be read, IMAGE cannot be written, or memory; 2
+the words, or FILE is no folder and --mirror or --skip-links is given; 3 IMAGE holds no image, or its
+mount was refused; 4 it was refused, told as uffs: ENOENT 1: /site.
 
-Example: uffs put disk.image ./site /site --progress";
+Example: uffs put disk.image ./site /site --mirror --progress";
 
 const GET_HELP: &str =
     "The file at PATH of the image is written to FILE, whole or not at all: it is written as FILE.new,
@@ -190,6 +194,7 @@ pub(crate) fn program<'a>(alloc: Global) -> Result<Command<'a>, AllocError>
     let program = program.subcommand(memory_command(alloc))?;
     let program = program.subcommand(serve_command(alloc)?)?;
     let program = with_part_commands(alloc, program)?;
+    let program = with_raw_commands(alloc, program)?;
     with_about_commands(alloc, program)
 }
 
@@ -299,7 +304,7 @@ fn format_command<'a>(alloc: Global) -> Result<Command<'a>, AllocError>
         command,
         "blocks",
         "N",
-        "Blocks, 16 to 65536, in at most 67108864 bytes [default: 32]",
+        "Blocks, 16 to 16384, in at most 67108864 bytes [default: 32]",
     )?;
     with_number(
         alloc,
@@ -355,11 +360,23 @@ fn put_command<'a>(alloc: Global) -> Result<Command<'a>, AllocError>
     )?;
     let command = with_word(alloc, command, FILE, "The file or the folder of the host")?;
     let command = with_word(alloc, command, PATH, "Its path in the image")?;
-    with_flag(
+    let command = with_flag(
         alloc,
         command,
         "progress",
         "Tells how far it is, on standard error",
+    )?;
+    let command = with_flag(
+        alloc,
+        command,
+        "mirror",
+        "Removes below PATH what is not in the folder FILE",
+    )?;
+    with_flag(
+        alloc,
+        command,
+        "skip-links",
+        "Leaves links in the folder FILE out, and tells each",
     )
 }
 

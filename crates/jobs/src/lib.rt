@@ -6,6 +6,7 @@ mod about_commands;
 mod grammar;
 mod history_commands;
 mod part_commands;
+mod raw_commands;
 mod tasks;
 mod words;
 

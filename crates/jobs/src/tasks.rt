@@ -58,6 +58,10 @@ pub enum Task {
     ToPart,
     /// A part in a flat file is written as an image.
     FromPart,
+    /// An image is written as the bytes of a serial NOR part.
+    ToRaw,
+    /// The bytes of a serial NOR part are written as an image.
+    FromRaw,
     /// What refusals mean is told.
     Explain,
     /// What can be asked for is told.
@@ -101,8 +105,8 @@ pub struct Job<'a> {
     pub stop: bool,
     /// The path in the image; none where none is named.
     pub path: Option<&'a str>,
-    /// The file of the host, or that of a part which is made of an image or becomes one; none where none
-    /// is named.
+    /// The file of the host, or that of a part which is made of an image or becomes one, or of its bytes;
+    /// none where none is named.
     pub file: Option<&'a str>,
     /// The view of the image; none where none is named.
     pub view: Option<&'a str>,
@@ -110,4 +114,8 @@ pub struct Job<'a> {
     pub other: Option<&'a str>,
     /// Whether progress is told.
     pub progress: bool,
+    /// Whether what stands below the path and is not put is removed.
+    pub mirror: bool,
+    /// Whether links are left out.
+    pub skip_links: bool,
 }

@@ -119,6 +119,8 @@ fn said<'a>(matches: &ArgMatches<'a>) -> Option<Job<'a>>
         view: word(given, VIEW),
         other: word(given, OTHER),
         progress: has_flag(given, "progress"),
+        mirror: has_flag(given, "mirror"),
+        skip_links: has_flag(given, "skip-links"),
     })
 }
 
@@ -207,6 +209,8 @@ fn task_named(name: &str) -> Option<Task>
         "serve" => Some(Task::Serve),
         "to-part" => Some(Task::ToPart),
         "from-part" => Some(Task::FromPart),
+        "raw" => Some(Task::ToRaw),
+        "from-raw" => Some(Task::FromRaw),
         "explain" => Some(Task::Explain),
         "help" => Some(Task::Help),
         "version" => Some(Task::Version),

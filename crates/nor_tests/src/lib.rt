@@ -4,4 +4,6 @@
 #[cfg(test)]
 mod cleaned;
 #[cfg(test)]
+mod raws;
+#[cfg(test)]
 mod sessions;

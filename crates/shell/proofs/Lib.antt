@@ -1,6 +1,9 @@
 pub mod AskLemmas
+pub mod BatchLemmas
 pub mod ExplainLemmas
 pub mod GetLemmas
+pub mod InputLemmas
+pub mod MirrorLemmas
 pub mod MemoryWords
 pub mod PutLemmas
 pub mod SourceLemmas

@@ -1,5 +1,5 @@
 -- Events of a put, one after the other, and what comes of them.
-use Rattle.std.proofs.Common.{◌≡◌, ◌<◌, ◌+◌, ◌≤◌, ℕ, List, [], ◌∷◌, ◌++◌, take, drop, map, length, get_or, Option, Some, None, Result, Ok, Err, Bool, true, false, if◌then◌else◌, IfSome, IfErr, OnOk, ◌⊎◌, inl, inr, refl, sym, ap, ◌∙◌, subst, append_assoc, append-nil, take_all, take-append-drop}
+use Rattle.std.proofs.Common.{◌≡◌, ◌<◌, ◌+◌, ◌≤◌, ℕ, List, [], ◌∷◌, ◌++◌, take, drop, map, length, get_or, Option, Some, None, Result, Ok, Err, Bool, true, false, if◌then◌else◌, IfSome, IfOk, IfErr, OnOk, ◌⊎◌, inl, inr, refl, sym, ap, ◌∙◌, subst, append_assoc, append-nil, take_all, take-append-drop}
 use Rattle.std.specs.List.{flat_map, Contains}
 use Rattle.std.proofs.lemmas.List.{take_more, map_more, map-append}
 use Rattle.std.proofs.lemmas.List.Concat.{flat_map-append}
@@ -21,12 +21,14 @@ use Rattle.undofs.specs.Sessions.{Stands, world}
 use Rattle.undofs.proofs.SessionSteps.{mount_begins, serve_law}
 use Rattle.image_jobs.specs.Failures.{of_refusal}
 use Rattle.host_files.specs.Files.{Held, AreBytesRead, takes_away}
-use Rattle.shell.specs.Puts.{thing_events, group_start, group_events, group_end, is_due, stop_of, GoOn, StopLast, IsThingBy, IsThing, AreThings, Puts, StopsWithin, StopsAtEnd, IsUnput, PlaceCause, PutsBy, PutCause, GatherCause, SpellingCause, path_spelled}
+use Rattle.shell.specs.Puts.{thing_events, group_start, put_events, group_events, group_end, is_due, stop_of, GoOn, StopLast, IsThingBy, IsThing, AreThings, Carries, StopsWithin, StopsAtEnd, IsUnput, PutsBy, PutCause, FoundCause, GatherCause, SpellingCause, path_spelled}
 use Rattle.shell.specs.Served.{Place, place, Turns, ServesAll, Halts, ServesPut, PutsOne, PutsEach, PutsGroup, EndsGroup, PutsAll}
 use Rattle.host_files.specs.Sources.{Found, source_found}
 use Rattle.shell.specs.Places.{put_place, way_fault, kind_fault, either_fault, source_fault, Unplaced, AreOthers}
 use Rattle.script_runs.specs.Flashes.{IsDecoded}
 use Rattle.image_jobs.specs.Images.{DecodeCause, IsUnclaimed, IsUnread, IsSpelledFlash, LoadCause, SavesChange, ChangeUnsaved}
+use Rattle.put_removals.specs.declared.kept.Kept.{Kept}
+use Rattle.shell.specs.Mirrors.{AreRemoved, UnlistedBy, PutsOver, OverCause}
 use Rattle.shell.specs.Tools.{SourcesEnd}
 use Rattle.image_jobs.specs.declared.failure.Failure.{Failure}
 use Rattle.shell.specs.declared.put.Mounted.{Mounted}
@@ -147,21 +149,31 @@ puts_broken held base sources i source p q r failure below is (things, are, pass
 
 -- ---- the change group
 
--- it does not begin
-pub unbegun : (held : Held) (base : Path) (all : List Found) (p q : Place) (refusal : Refusal) (failure : Failure) → ServesPut p group_start (Err refusal) q → failure ≡ of_refusal refusal
-    → PutsGroup held base all p (Err failure) q
-unbegun held base all p q refusal failure (made, rest, begins, halts) why =
-    inr (inr ([], all, [], made, rest, refusal, refl, tt, begins, halts, why))
+-- it begins, and events are served in it
+pub served_in : (p mid q : Place) (events : List Event) (result : Result (Unit {0}) Refusal) → ServesAll p group_start mid → ServesPut mid events result q → ServesPut p (group_start ++ events) result q
+served_in p mid q events (Ok done) begun rest = passes_more p mid q group_start events begun rest
+served_in p mid q events (Err refusal) begun (made, rest, is, halts) =
+    (group_start ++ made, rest, ap (λ (x : List Event). group_start ++ x) is ∙ sym (append_assoc group_start made rest), halts_more p mid q group_start made refusal begun halts)
+
+-- it does not
+pub served_without : (p q : Place) (events : List Event) (refusal : Refusal) → ServesPut p group_start (Err refusal) q → ServesPut p (group_start ++ events) (Err refusal) q
+served_without p q events refusal (made, rest, is, halts) = (made, rest ++ events, ap (λ (x : List Event). x ++ events) is ∙ append_assoc made rest events, halts)
+
+-- it does not begin, or what is removed first is refused
+pub unbegun : (removed : List Event) (held : Held) (base : Path) (all : List Found) (p q : Place) (refusal : Refusal) (failure : Failure) → ServesPut p (group_start ++ removed) (Err refusal) q
+    → failure ≡ of_refusal refusal → PutsGroup removed held base all p (Err failure) q
+unbegun removed held base all p q refusal failure (made, rest, begins, halts) why =
+    inr (inr ([], all, [], made, rest, refusal, refl, tt, ap (λ (x : List Event). group_start ++ x) (append-nil removed) ∙ begins, halts, why))
 
 -- it begins, and sources are put in it
-pub grouped : (held : Held) (base : Path) (all : List Found) (p q r : Place) (result : Result (Unit {0}) Failure) → ServesAll p group_start q → PutsEach held base all q result r
-    → PutsGroup held base all p result r
-grouped held base all p q r (Ok done) begun (things, are, passes) = (things, are, passes_more p q r group_start (flat_map thing_events things) begun passes)
-grouped held base all p q r (Err failure) begun (inl memory) = inl memory
-grouped held base all p q r (Err failure) begun (inr (inl cause)) = inr (inl cause)
-grouped held base all p q r (Err failure) begun (inr (inr (first, later, things, made, rest, refusal, parts, are, begins, halts, why))) =
-    let is : group_events things ≡ (group_start ++ made) ++ rest = ap (λ (x : List Event). group_start ++ x) begins ∙ sym (append_assoc group_start made rest) in
-    inr (inr (first, later, things, group_start ++ made, rest, refusal, parts, are, is, halts_more p q r group_start made refusal begun halts, why))
+pub grouped : (removed : List Event) (held : Held) (base : Path) (all : List Found) (p q r : Place) (result : Result (Unit {0}) Failure) → ServesAll p (group_start ++ removed) q
+    → PutsEach held base all q result r → PutsGroup removed held base all p result r
+grouped removed held base all p q r (Ok done) begun (things, are, passes) = (things, are, passes_more p q r (group_start ++ removed) (flat_map thing_events things) begun passes)
+grouped removed held base all p q r (Err failure) begun (inl memory) = inl memory
+grouped removed held base all p q r (Err failure) begun (inr (inl cause)) = inr (inl cause)
+grouped removed held base all p q r (Err failure) begun (inr (inr (first, later, things, made, rest, refusal, parts, are, begins, halts, why))) =
+    let is : group_events removed things ≡ ((group_start ++ removed) ++ made) ++ rest = ap (λ (x : List Event). (group_start ++ removed) ++ x) begins ∙ sym (append_assoc (group_start ++ removed) made rest) in
+    inr (inr (first, later, things, (group_start ++ removed) ++ made, rest, refusal, parts, are, is, halts_more p q r (group_start ++ removed) made refusal begun halts, why))
 
 -- so many events end it
 pub ended_by : (p q : Place) (result : Result (Unit {0}) Refusal) (due : Bool) (count : ℕ) → due ≡ is_due p.system → count ≡ (if due then 2 else 1) → ServesPut p (take count (group_end true)) result q
@@ -200,11 +212,11 @@ stop_last (e ∷ []) (a ∷ []) event answer refusal h is = (h.0, is)
 stop_last (e ∷ []) (a ∷ other ∷ answers) event answer refusal h is = absurd h.1
 stop_last (e ∷ next ∷ events) (a ∷ answers) event answer refusal h is = (h.0, stop_last (next ∷ events) answers event answer refusal h.1 is)
 
-pub put_session : (start mid : SimFlash) (m : System) (inside : Place) (end : Mounted) (things : List Thing) → OnlyReads (device_of start) (device_of mid) → IsMountOf (device_of start) (device_of mid) m
-    → IsSystem (device_of mid) m → ServesAll (record { device = device_of mid; system = Some m }) (group_events things) inside → EndsGroup inside (Ok tt) (place end) → Puts start things end.flash
-put_session start mid m inside end things reads begins system passes ended =
+pub put_session : (start mid : SimFlash) (m : System) (inside : Place) (end : Mounted) (events : List Event) → OnlyReads (device_of start) (device_of mid) → IsMountOf (device_of start) (device_of mid) m
+    → IsSystem (device_of mid) m → ServesAll (record { device = device_of mid; system = Some m }) (group_start ++ events) inside → EndsGroup inside (Ok tt) (place end) → Carries start events end.flash
+put_session start mid m inside end events reads begins system passes ended =
     let first = mount_begins (device_of start) (device_of mid) m reads begins system in
-    let all = passes_run (record { device = device_of mid; system = Some m }) inside (group_events things) passes (first.0 ∷ []) first.3 in
+    let all = passes_run (record { device = device_of mid; system = Some m }) inside (group_start ++ events) passes (first.0 ∷ []) first.3 in
     let last = passes_run inside (place end) (group_end (is_due inside.system)) ended all.0 all.4 in
     let u : World = world (device_of mid) (Some m) (first.0 ∷ []) in
     let w : World = world inside.device inside.system all.0 in (
@@ -231,20 +243,20 @@ halted_run p q made refusal found stands h =
     let last : StopLast made answers refusal = subst (λ (x : List Event). StopLast x answers refusal) (sym h.are) (stop_last h.earlier all.1 h.last h.answer refusal all.3 h.stops) in
     (w, answers, run, last)
 
-pub stopped_session : (start mid : SimFlash) (m : System) (q : Place) (things : List Thing) (made rest : List Event) (refusal : Refusal) → OnlyReads (device_of start) (device_of mid)
-    → IsMountOf (device_of start) (device_of mid) m → IsSystem (device_of mid) m → group_events things ≡ made ++ rest → Halts (record { device = device_of mid; system = Some m }) made refusal q
-    → StopsWithin start things refusal
-stopped_session start mid m q things made rest refusal reads begins system is h =
+pub stopped_session : (start mid : SimFlash) (m : System) (q : Place) (events : List Event) (made rest : List Event) (refusal : Refusal) → OnlyReads (device_of start) (device_of mid)
+    → IsMountOf (device_of start) (device_of mid) m → IsSystem (device_of mid) m → group_start ++ events ≡ made ++ rest → Halts (record { device = device_of mid; system = Some m }) made refusal q
+    → StopsWithin start events refusal
+stopped_session start mid m q events made rest refusal reads begins system is h =
     let first = mount_begins (device_of start) (device_of mid) m reads begins system in
     let all = halted_run (record { device = device_of mid; system = Some m }) q made refusal (first.0 ∷ []) first.3 h in
     let u : World = world (device_of mid) (Some m) (first.0 ∷ []) in
     (made, rest, all.1, all.0, is, (first.0, u, first.1, first.2, all.2), all.3)
 
-pub unended_session : (start mid : SimFlash) (m : System) (inside q : Place) (things : List Thing) (refusal : Refusal) → OnlyReads (device_of start) (device_of mid) → IsMountOf (device_of start) (device_of mid) m
-    → IsSystem (device_of mid) m → ServesAll (record { device = device_of mid; system = Some m }) (group_events things) inside → EndsGroup inside (Err refusal) q → StopsAtEnd start things refusal
-unended_session start mid m inside q things refusal reads begins system passes (made, rest, is, h) =
+pub unended_session : (start mid : SimFlash) (m : System) (inside q : Place) (events : List Event) (refusal : Refusal) → OnlyReads (device_of start) (device_of mid) → IsMountOf (device_of start) (device_of mid) m
+    → IsSystem (device_of mid) m → ServesAll (record { device = device_of mid; system = Some m }) (group_start ++ events) inside → EndsGroup inside (Err refusal) q → StopsAtEnd start events refusal
+unended_session start mid m inside q events refusal reads begins system passes (made, rest, is, h) =
     let first = mount_begins (device_of start) (device_of mid) m reads begins system in
-    let all = passes_run (record { device = device_of mid; system = Some m }) inside (group_events things) passes (first.0 ∷ []) first.3 in
+    let all = passes_run (record { device = device_of mid; system = Some m }) inside (group_start ++ events) passes (first.0 ∷ []) first.3 in
     let last = halted_run inside q made refusal all.0 all.4 h in
     let u : World = world (device_of mid) (Some m) (first.0 ∷ []) in
     let w : World = world inside.device inside.system all.0 in
@@ -286,92 +298,126 @@ one_stopped held base found thing events lent p q refusal failure is same are (m
 
 -- ---- on what is mounted
 
-pub all_put : (IsThere : SimFlash → Type 0) (held : Held) (base : Path) (all : List Found) (start mid : SimFlash) (m : System) (end : Mounted) → IsThere start
+pub all_put : (IsThere : SimFlash → Type 0) (removed : List Event) (held : Held) (base : Path) (all : List Found) (start mid : SimFlash) (m : System) (end : Mounted) → IsThere start
     → OnlyReads (device_of start) (device_of mid) → IsMountOf (device_of start) (device_of mid) m → IsSystem (device_of mid) m
-    → PutsAll held base all (record { device = device_of mid; system = Some m }) (Ok tt) (place end) → PutsBy IsThere held base all start end.flash
-all_put IsThere held base all start mid m end there reads begins system (inside, (things, are, passes), ended) =
-    (things, there, are, put_session start mid m inside end things reads begins system passes ended)
+    → PutsAll removed held base all (record { device = device_of mid; system = Some m }) (Ok tt) (place end) → PutsBy IsThere removed held base all start end.flash
+all_put IsThere removed held base all start mid m end there reads begins system (inside, (things, are, passes), ended) =
+    (things, there, are, put_session start mid m inside end (put_events removed things) reads begins system passes ended)
 
-pub not_put : (IsThere : SimFlash → Type 0) (Cause : Failure → Type 0) (held : Held) (base : Path) (all : List Found) (start mid : SimFlash) (m : System) (q : Place) (failure : Failure) → IsThere start
+pub not_put : (IsThere : SimFlash → Type 0) (Cause : Failure → Type 0) (removed : List Event) (held : Held) (base : Path) (all : List Found) (start mid : SimFlash) (m : System) (q : Place) (failure : Failure) → IsThere start
     → OnlyReads (device_of start) (device_of mid) → IsMountOf (device_of start) (device_of mid) m → IsSystem (device_of mid) m
-    → PutsAll held base all (record { device = device_of mid; system = Some m }) (Err failure) q → PutCause IsThere Cause held base all failure
-not_put IsThere Cause held base all start mid m q failure there reads begins system (inl (inl memory)) = inr (inl memory)
-not_put IsThere Cause held base all start mid m q failure there reads begins system (inl (inr (inl cause))) = inr (inr (inl cause))
-not_put IsThere Cause held base all start mid m q failure there reads begins system (inl (inr (inr (first, later, things, made, rest, refusal, parts, are, is, halts, why)))) =
-    inr (inr (inr (inr (start, first, later, things, refusal, there, parts, are, inl (stopped_session start mid m q things made rest refusal reads begins system is halts), why))))
-not_put IsThere Cause held base all start mid m q failure there reads begins system (inr (inside, refusal, (things, are, passes), ended, why)) =
-    inr (inr (inr (inr (start, all, [], things, refusal, there, sym (append-nil all), are, inr (unended_session start mid m inside q things refusal reads begins system passes ended), why))))
+    → PutsAll removed held base all (record { device = device_of mid; system = Some m }) (Err failure) q → PutCause IsThere Cause removed held base all failure
+not_put IsThere Cause removed held base all start mid m q failure there reads begins system (inl (inl memory)) = inr (inl memory)
+not_put IsThere Cause removed held base all start mid m q failure there reads begins system (inl (inr (inl cause))) = inr (inr (inl cause))
+not_put IsThere Cause removed held base all start mid m q failure there reads begins system (inl (inr (inr (first, later, things, made, rest, refusal, parts, are, is, halts, why)))) =
+    inr (inr (inr (inr (start, first, later, things, refusal, there, parts, are, inl (stopped_session start mid m q (put_events removed things) made rest refusal reads begins system is halts), why))))
+not_put IsThere Cause removed held base all start mid m q failure there reads begins system (inr (inside, refusal, (things, are, passes), ended, why)) =
+    inr (inr (inr (inr (start, all, [], things, refusal, there, sym (append-nil all), are, inr (unended_session start mid m inside q (put_events removed things) refusal reads begins system passes ended), why))))
+
+-- what is removed first is known
+pub over_done : (IsThere : SimFlash → Type 0) (held : Held) (base : Path) (kept : Option (List Kept)) (all : List Found) (removed lent : List Event) (result : Result SimFlash Failure) → lent ≡ removed
+    → AreRemoved IsThere base kept removed → IfOk result (λ end. (start : SimFlash) × PutsBy IsThere lent held base all start end) → IfOk result (λ end. (start : SimFlash) × PutsOver IsThere held base kept all start end)
+over_done IsThere held base kept all removed lent (Ok end) same are (start, puts) = (start, (lent, subst (AreRemoved IsThere base kept) (sym same) are, puts))
+over_done IsThere held base kept all removed lent (Err failure) same are puts = tt
+
+pub over_undone : (IsThere : SimFlash → Type 0) (Cause : Failure → Type 0) (held : Held) (base : Path) (kept : Option (List Kept)) (all : List Found) (removed lent : List Event) (result : Result SimFlash Failure) → lent ≡ removed
+    → AreRemoved IsThere base kept removed → IfErr result (PutCause IsThere Cause lent held base all) → IfErr result (OverCause IsThere Cause held base kept all)
+over_undone IsThere Cause held base kept all removed lent (Ok end) same are cause = tt
+over_undone IsThere Cause held base kept all removed lent (Err failure) same are cause = inr (lent, subst (AreRemoved IsThere base kept) (sym same) are, cause)
 
 -- ---- the image
 
-puts_front : (held : Held) (name bytes : List ℕ) → AreBytesRead (held name) bytes → (base : Path) (all : List Found) (start end : SimFlash) → PutsBy (IsDecoded bytes) held base all start end
-    → PutsBy (IsSpelledFlash (held name)) held base all start end
-puts_front held name bytes front base all start end (things, there, are, puts) = (things, loaded_front (held name) bytes front start there, are, puts)
+puts_front : (held : Held) (name bytes : List ℕ) → AreBytesRead (held name) bytes → (removed : List Event) (base : Path) (all : List Found) (start end : SimFlash) → PutsBy (IsDecoded bytes) removed held base all start end
+    → PutsBy (IsSpelledFlash (held name)) removed held base all start end
+puts_front held name bytes front removed base all start end (things, there, are, puts) = (things, loaded_front (held name) bytes front start there, are, puts)
 
-put_cause : (held : Held) (name bytes : List ℕ) → AreBytesRead (held name) bytes → (base : Path) (all : List Found) (failure : Failure) → PutCause (IsDecoded bytes) (DecodeCause bytes) held base all failure
-    → PutCause (IsSpelledFlash (held name)) (LoadCause (held name)) held base all failure
-put_cause held name bytes front base all failure (inl cause) = inl (cause_front (held name) bytes front failure cause)
-put_cause held name bytes front base all failure (inr (inl memory)) = inr (inl memory)
-put_cause held name bytes front base all failure (inr (inr (inl cause))) = inr (inr (inl cause))
-put_cause held name bytes front base all failure (inr (inr (inr (inl (start, end, fault, there, unmounted, why))))) =
+put_cause : (held : Held) (name bytes : List ℕ) → AreBytesRead (held name) bytes → (removed : List Event) (base : Path) (all : List Found) (failure : Failure)
+    → PutCause (IsDecoded bytes) (DecodeCause bytes) removed held base all failure → PutCause (IsSpelledFlash (held name)) (LoadCause (held name)) removed held base all failure
+put_cause held name bytes front removed base all failure (inl cause) = inl (cause_front (held name) bytes front failure cause)
+put_cause held name bytes front removed base all failure (inr (inl memory)) = inr (inl memory)
+put_cause held name bytes front removed base all failure (inr (inr (inl cause))) = inr (inr (inl cause))
+put_cause held name bytes front removed base all failure (inr (inr (inr (inl (start, end, fault, there, unmounted, why))))) =
     inr (inr (inr (inl (start, end, fault, loaded_front (held name) bytes front start there, unmounted, why))))
-put_cause held name bytes front base all failure (inr (inr (inr (inr (start, first, later, things, refusal, there, parts, are, stops, why))))) =
+put_cause held name bytes front removed base all failure (inr (inr (inr (inr (start, first, later, things, refusal, there, parts, are, stops, why))))) =
     inr (inr (inr (inr (start, first, later, things, refusal, loaded_front (held name) bytes front start there, parts, are, stops, why))))
 
+removed_front : (held : Held) (name bytes : List ℕ) → AreBytesRead (held name) bytes → (base : Path) (kept : Option (List Kept)) (removed : List Event)
+    → AreRemoved (IsDecoded bytes) base kept removed → AreRemoved (IsSpelledFlash (held name)) base kept removed
+removed_front held name bytes front base None removed none = none
+removed_front held name bytes front base (Some kept) removed (items, (first, there, lists), is) = (items, (first, loaded_front (held name) bytes front first there, lists), is)
+
+unlisted_front : (held : Held) (name bytes : List ℕ) → AreBytesRead (held name) bytes → (kept : Option (List Kept)) (failure : Failure)
+    → UnlistedBy (IsDecoded bytes) (DecodeCause bytes) kept failure → UnlistedBy (IsSpelledFlash (held name)) (LoadCause (held name)) kept failure
+unlisted_front held name bytes front None failure cause = absurd cause
+unlisted_front held name bytes front (Some kept) failure (inl cause) = inl (cause_front (held name) bytes front failure cause)
+unlisted_front held name bytes front (Some kept) failure (inr (start, end, fault, there, asked, why)) = inr (start, end, fault, loaded_front (held name) bytes front start there, asked, why)
+
 -- sources are put so whatever the files hold that were claimed, since a claim changes none
-once_claimed : (name : List ℕ) (IsClaimed : List ℕ → Type 0) (base : Path) (all : List Found) (held claimed saved : Held) (result : Result (Unit {0}) Failure) → claimed ≡ held → SourcesEnd name IsClaimed base all claimed saved result
-    → SourcesEnd name IsClaimed base all held saved result
-once_claimed name IsClaimed base all held claimed saved result same ends = subst (λ (h : Held). SourcesEnd name IsClaimed base all h saved result) same ends
+once_claimed : (name : List ℕ) (IsClaimed : List ℕ → Type 0) (base : Path) (kept : Option (List Kept)) (all : List Found) (held claimed saved : Held) (result : Result (Unit {0}) Failure) → claimed ≡ held
+    → SourcesEnd name IsClaimed base kept all claimed saved result → SourcesEnd name IsClaimed base kept all held saved result
+once_claimed name IsClaimed base kept all held claimed saved result same ends = subst (λ (h : Held). SourcesEnd name IsClaimed base kept all h saved result) same ends
 
-sources_unclaimed : (name : List ℕ) (IsClaimed : List ℕ → Type 0) (base : Path) (all : List Found) (held claimed : Held) (failure : Failure) → claimed ≡ held → IsUnclaimed failure
-    → SourcesEnd name IsClaimed base all held claimed (Err failure)
-sources_unclaimed name IsClaimed base all held claimed failure same cause = inl (inl cause, same)
+sources_unclaimed : (name : List ℕ) (IsClaimed : List ℕ → Type 0) (base : Path) (kept : Option (List Kept)) (all : List Found) (held claimed : Held) (failure : Failure) → claimed ≡ held → IsUnclaimed failure
+    → SourcesEnd name IsClaimed base kept all held claimed (Err failure)
+sources_unclaimed name IsClaimed base kept all held claimed failure same cause = inl (inl cause, same)
 
-sources_unread : (name : List ℕ) (IsClaimed : List ℕ → Type 0) (base : Path) (all : List Found) (held claimed : Held) (failure : Failure) → claimed ≡ held → IsUnread (claimed name) failure
-    → SourcesEnd name IsClaimed base all held claimed (Err failure)
-sources_unread name IsClaimed base all held claimed failure same unread =
-    once_claimed name IsClaimed base all held claimed claimed (Err failure) same (inl (inr (inl (cause_unread (claimed name) failure unread)), refl))
+sources_unread : (name : List ℕ) (IsClaimed : List ℕ → Type 0) (base : Path) (kept : Option (List Kept)) (all : List Found) (held claimed : Held) (failure : Failure) → claimed ≡ held → IsUnread (claimed name) failure
+    → SourcesEnd name IsClaimed base kept all held claimed (Err failure)
+sources_unread name IsClaimed base kept all held claimed failure same unread =
+    once_claimed name IsClaimed base kept all held claimed claimed (Err failure) same (inl (inr (inl (cause_unread (claimed name) failure unread)), refl))
 
-pub sources_untaken : (name : List ℕ) (IsClaimed : List ℕ → Type 0) (base : Path) (all : List Found) (held claimed : Held) (failure : Failure) → claimed ≡ held
-    → IsUnclaimed failure ⊎ IsUnread (claimed name) failure → SourcesEnd name IsClaimed base all held claimed (Err failure)
-sources_untaken name IsClaimed base all held claimed failure same (inl unclaimed) = sources_unclaimed name IsClaimed base all held claimed failure same unclaimed
-sources_untaken name IsClaimed base all held claimed failure same (inr unread) = sources_unread name IsClaimed base all held claimed failure same unread
+pub sources_untaken : (name : List ℕ) (IsClaimed : List ℕ → Type 0) (base : Path) (kept : Option (List Kept)) (all : List Found) (held claimed : Held) (failure : Failure) → claimed ≡ held
+    → IsUnclaimed failure ⊎ IsUnread (claimed name) failure → SourcesEnd name IsClaimed base kept all held claimed (Err failure)
+sources_untaken name IsClaimed base kept all held claimed failure same (inl unclaimed) = sources_unclaimed name IsClaimed base kept all held claimed failure same unclaimed
+sources_untaken name IsClaimed base kept all held claimed failure same (inr unread) = sources_unread name IsClaimed base kept all held claimed failure same unread
 
-pub sources_unput : (name : List ℕ) (IsClaimed : List ℕ → Type 0) (base : Path) (all : List Found) (held claimed : Held) (bytes : List ℕ) (failure : Failure) → claimed ≡ held → AreBytesRead (claimed name) bytes
-    → PutCause (IsDecoded bytes) (DecodeCause bytes) claimed base all failure → SourcesEnd name IsClaimed base all held claimed (Err failure)
-sources_unput name IsClaimed base all held claimed bytes failure same front cause =
-    once_claimed name IsClaimed base all held claimed claimed (Err failure) same (inl (inr (put_cause claimed name bytes front base all failure cause), refl))
+over_front : (held : Held) (name bytes : List ℕ) → AreBytesRead (held name) bytes → (base : Path) (kept : Option (List Kept)) (all : List Found) (start end : SimFlash) → PutsOver (IsDecoded bytes) held base kept all start end
+    → PutsOver (IsSpelledFlash (held name)) held base kept all start end
+over_front held name bytes front base kept all start end (removed, are, puts) =
+    (removed, removed_front held name bytes front base kept removed are, puts_front held name bytes front removed base all start end puts)
 
-pub sources_saved : (name : List ℕ) (IsClaimed : List ℕ → Type 0) (base : Path) (all : List Found) (held claimed saved : Held) (bytes kept : List ℕ) (start end : SimFlash) (result : Result (Unit {0}) Failure) → claimed ≡ held
-    → IsClaimed bytes → AreBytesRead (claimed name) bytes → PutsBy (IsDecoded bytes) claimed base all start end → kept ≡ bytes → OnOk result (SavesChange name claimed saved kept (image_of (device_of end)))
-    → IfErr result (ChangeUnsaved name claimed saved kept (image_of (device_of end))) → SourcesEnd name IsClaimed base all held saved result
-sources_saved name IsClaimed base all held claimed saved bytes kept start end (Ok done) same held_so front puts is ok err =
-    once_claimed name IsClaimed base all held claimed saved (Ok done) same (
+over_cause : (held : Held) (name bytes : List ℕ) → AreBytesRead (held name) bytes → (base : Path) (kept : Option (List Kept)) (all : List Found) (failure : Failure)
+    → OverCause (IsDecoded bytes) (DecodeCause bytes) held base kept all failure → OverCause (IsSpelledFlash (held name)) (LoadCause (held name)) held base kept all failure
+over_cause held name bytes front base kept all failure (inl cause) = inl (unlisted_front held name bytes front kept failure cause)
+over_cause held name bytes front base kept all failure (inr (removed, are, cause)) =
+    inr (removed, removed_front held name bytes front base kept removed are, put_cause held name bytes front removed base all failure cause)
+
+pub sources_unput : (name : List ℕ) (IsClaimed : List ℕ → Type 0) (base : Path) (kept : Option (List Kept)) (all : List Found) (held claimed : Held) (bytes : List ℕ) (failure : Failure) → claimed ≡ held
+    → AreBytesRead (claimed name) bytes → OverCause (IsDecoded bytes) (DecodeCause bytes) claimed base kept all failure → SourcesEnd name IsClaimed base kept all held claimed (Err failure)
+sources_unput name IsClaimed base kept all held claimed bytes failure same front cause =
+    once_claimed name IsClaimed base kept all held claimed claimed (Err failure) same (inl (inr (inr (over_cause claimed name bytes front base kept all failure cause)), refl))
+
+pub sources_saved : (name : List ℕ) (IsClaimed : List ℕ → Type 0) (base : Path) (kept : Option (List Kept)) (all : List Found) (held claimed saved : Held) (bytes lent : List ℕ) (start end : SimFlash)
+    (result : Result (Unit {0}) Failure) → claimed ≡ held → IsClaimed bytes → AreBytesRead (claimed name) bytes → PutsOver (IsDecoded bytes) claimed base kept all start end
+    → lent ≡ bytes → OnOk result (SavesChange name claimed saved lent (image_of (device_of end)))
+    → IfErr result (ChangeUnsaved name claimed saved lent (image_of (device_of end))) → SourcesEnd name IsClaimed base kept all held saved result
+sources_saved name IsClaimed base kept all held claimed saved bytes lent start end (Ok done) same held_so front puts is ok err =
+    let spelled : bytes ≡ image_of (device_of start) = puts.2.1.spelled in
+    once_claimed name IsClaimed base kept all held claimed saved (Ok done) same (
       start,
       end,
-      subst IsClaimed puts.1.spelled held_so,
-      puts_front claimed name bytes front base all start end puts,
-      subst (λ (was : List ℕ). SavesChange name claimed saved was (image_of (device_of end))) (is ∙ puts.1.spelled) ok,
+      (subst IsClaimed spelled held_so, over_front claimed name bytes front base kept all start end puts),
+      subst (λ (was : List ℕ). SavesChange name claimed saved was (image_of (device_of end))) (is ∙ spelled) ok,
     )
-sources_saved name IsClaimed base all held claimed saved bytes kept start end (Err failure) same held_so front puts is ok err =
-    once_claimed name IsClaimed base all held claimed saved (Err failure) same (inr (
+sources_saved name IsClaimed base kept all held claimed saved bytes lent start end (Err failure) same held_so front puts is ok err =
+    let spelled : bytes ≡ image_of (device_of start) = puts.2.1.spelled in
+    once_claimed name IsClaimed base kept all held claimed saved (Err failure) same (inr (
       start,
       end,
-      subst IsClaimed puts.1.spelled held_so,
-      puts_front claimed name bytes front base all start end puts,
-      subst (λ (was : List ℕ). ChangeUnsaved name claimed saved was (image_of (device_of end)) failure) (is ∙ puts.1.spelled) err,
+      (subst IsClaimed spelled held_so, over_front claimed name bytes front base kept all start end puts),
+      subst (λ (was : List ℕ). ChangeUnsaved name claimed saved was (image_of (device_of end)) failure) (is ∙ spelled) err,
     ))
 
 -- ---- the words
 
-pub unspelled : (image : List ℕ) (gathered : Option (List Found)) (word : List ℕ) (failure : Failure) → SpellingCause word failure → GatherCause image gathered word failure
-unspelled image gathered word failure (inl memory) = inl memory
-unspelled image gathered word failure (inr refused) = inr (inl refused)
+pub unspelled : (is_wanted skips : Bool) (image : List ℕ) (gathered : Option (List Found)) (word : List ℕ) (failure : Failure) → SpellingCause word failure → GatherCause is_wanted skips image gathered word failure
+unspelled is_wanted skips image gathered word failure (inl memory) = inl memory
+unspelled is_wanted skips image gathered word failure (inr refused) = inr (inl refused)
 
-pub unplaced : (image : List ℕ) (gathered : Option (List Found)) (word : List ℕ) (base : Path) (failure : Failure) → path_spelled word ≡ Ok base
-    → (failure ≡ Failure.Memory) ⊎ ((all : List Found) × IfSome gathered (λ found. all ≡ found) × PlaceCause image base all failure) → GatherCause image gathered word failure
-unplaced image gathered word base failure spelled (inl memory) = inl memory
-unplaced image gathered word base failure spelled (inr (all, known, cause)) = inr (inr (base, all, record { spelled = spelled; known = known }, cause))
+pub unplaced : (is_wanted skips : Bool) (image : List ℕ) (gathered : Option (List Found)) (word : List ℕ) (base : Path) (failure : Failure) → path_spelled word ≡ Ok base
+    → (failure ≡ Failure.Memory) ⊎ ((all : List Found) × IfSome gathered (λ found. all ≡ found) × FoundCause is_wanted skips image base all failure) → GatherCause is_wanted skips image gathered word failure
+unplaced is_wanted skips image gathered word base failure spelled (inl memory) = inl memory
+unplaced is_wanted skips image gathered word base failure spelled (inr (all, known, cause)) = inr (inr (base, all, record { spelled = spelled; known = known }, cause))
 
 -- the first sources are not the image's own, and nor is the next one
 pub others_next : (image : List ℕ) (sources : List Source) (i : ℕ) (source : Source) → i < length sources → source ≡ get_or sources i source

@@ -76,6 +76,8 @@ memory_job = record {
   view = None;
   other = None;
   progress = false;
+  mirror = false;
+  skip_links = false;
 }
 
 memory_says : SaysJob (Some (codes "memory", [])) memory_job
@@ -101,6 +103,8 @@ memory_says = record {
   view = refl;
   other = refl;
   progress = refl;
+  mirror = refl;
+  skip_links = refl;
 }
 
 no_image : (image : Option (Bor (List ℕ))) → option_map (λ (s : Bor (List ℕ)). s.now) image ≡ None → image ≡ None

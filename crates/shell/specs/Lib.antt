@@ -1,5 +1,8 @@
 pub mod Asking
+pub mod Batches
 pub mod Explained
+pub mod Inputs
+pub mod Mirrors
 pub mod Places
 pub mod Puts
 pub mod Served

@@ -1,5 +1,5 @@
 -- Files of the host that are put into an image, all in one change group.
-use Rattle.std.specs.Prelude.{◌≡◌, ◌⊎◌, ℕ, Bool, true, false, Option, Some, None, is_some, Result, Ok, Err, IfSome, List, [], ◌∷◌, ◌++◌, codes, Contains, if◌then◌else◌}
+use Rattle.std.specs.Prelude.{◌≡◌, ◌⊎◌, ℕ, Bool, true, false, Option, Some, None, is_some, Result, Ok, Err, IfSome, List, [], ◌∷◌, ◌++◌, codes, Contains, if◌then◌else◌, ◌&&◌, ◌||◌}
 use Rattle.std.specs.List.{flat_map}
 use Rattle.std.specs.Option.{option_and_then}
 use Rattle.history_machine.specs.History.{due_root}
@@ -38,8 +38,12 @@ thing_events (Thing.File path bytes) = Event.Call (Call.WriteFile path bytes) �
 abbrev pub group_start : List Event
 group_start = Event.Call Call.Begin ∷ []
 
-abbrev pub group_events : List Thing → List Event
-group_events things = group_start ++ flat_map thing_events things
+-- things are put after what is removed first
+abbrev pub put_events : List Event → List Thing → List Event
+put_events removed things = removed ++ flat_map thing_events things
+
+abbrev pub group_events : List Event → List Thing → List Event
+group_events removed things = group_start ++ put_events removed things
 
 -- whether a version is due in the group that is open, if one is
 abbrev pub is_due : Option System → Bool
@@ -57,6 +61,15 @@ makes_directory _ = false
 abbrev pub is_mkdir : Event → Bool
 is_mkdir (Event.Call call) = makes_directory call
 is_mkdir _ = false
+
+-- the kinds of a plain file and of a link
+abbrev pub is_file : SourceKind → Bool
+is_file (SourceKind.File length) = true
+is_file _ = false
+
+abbrev pub is_link : SourceKind → Bool
+is_link SourceKind.Link = true
+is_link _ = false
 
 -- how an answer ends a put, if it does: an event is refused, but a directory that is to be made may be there already; or a file
 -- stands where a directory has to be
@@ -100,28 +113,28 @@ AreThings held base (found ∷ all) (thing ∷ things) = IsThing held base found
 AreThings held base _ _ = ⊥
 
 -- what is mounted on a flash carries out the events of a group, and no answer ends the put; in this world a version is due or not
-pub record IsGrouped (start : SimFlash) (things : List Thing) (w : World) : Type 0 where
+pub record IsGrouped (start : SimFlash) (events : List Event) (w : World) : Type 0 where
   pub answers : List Answer
-  pub run : Session (device_of start) (group_events things) (Answer.Mounted ∷ answers) w
-  pub goes : GoOn (group_events things) answers
+  pub run : Session (device_of start) (group_start ++ events) (Answer.Mounted ∷ answers) w
+  pub goes : GoOn (group_start ++ events) answers
 
--- it carries out all events of a put, and no answer ends it
-abbrev pub Puts : SimFlash → List Thing → SimFlash → Type 0
-Puts start things end = (w : World) × (v : World) × (answers : List Answer) × IsGrouped start things w × Run w (group_end (is_due w.system)) answers v
+-- it carries out events in one change group, and no answer ends the put
+abbrev pub Carries : SimFlash → List Event → SimFlash → Type 0
+Carries start events end = (w : World) × (v : World) × (answers : List Answer) × IsGrouped start events w × Run w (group_end (is_due w.system)) answers v
     × (v.device ≡ device_of end) × GoOn (group_end (is_due w.system)) answers
 
 -- it carries out the first events of the group, and the answer to the last of them ends the put
-abbrev pub StopsWithin : SimFlash → List Thing → Refusal → Type 0
-StopsWithin start things refusal = (made : List Event) × (rest : List Event) × (answers : List Answer) × (v : World) × (group_events things ≡ made ++ rest)
+abbrev pub StopsWithin : SimFlash → List Event → Refusal → Type 0
+StopsWithin start events refusal = (made : List Event) × (rest : List Event) × (answers : List Answer) × (v : World) × (group_start ++ events ≡ made ++ rest)
     × Session (device_of start) made (Answer.Mounted ∷ answers) v × StopLast made answers refusal
 
 -- or it carries out all of them, and the end of the group is refused, or its sync
-abbrev pub StopsAtEnd : SimFlash → List Thing → Refusal → Type 0
-StopsAtEnd start things refusal = (w : World) × (v : World) × (made : List Event) × (rest : List Event) × (answers : List Answer) × IsGrouped start things w
+abbrev pub StopsAtEnd : SimFlash → List Event → Refusal → Type 0
+StopsAtEnd start events refusal = (w : World) × (v : World) × (made : List Event) × (rest : List Event) × (answers : List Answer) × IsGrouped start events w
     × (group_end (is_due w.system) ≡ made ++ rest) × Run w made answers v × StopLast made answers refusal
 
-abbrev pub Stops : SimFlash → List Thing → Refusal → Type 0
-Stops start things refusal = StopsWithin start things refusal ⊎ StopsAtEnd start things refusal
+abbrev pub Breaks : SimFlash → List Event → Refusal → Type 0
+Breaks start events refusal = StopsWithin start events refusal ⊎ StopsAtEnd start events refusal
 
 -- the path that a line `mkdir` names, or how the line is refused
 abbrev pub path_of_call : Call → Result Path Failure
@@ -155,14 +168,14 @@ PlaceCause image base all failure = (found : Found) × Contains all found × IsM
 abbrev pub SourceCause : Held → Path → List Found → Failure → Type 0
 SourceCause held base all failure = (found : Found) × Contains all found × IsUnput held base found failure
 
--- all sources are put below a path, on a flash that is found so, which gives the flash as it is left
-abbrev pub PutsBy : (SimFlash → Type 0) → Held → Path → List Found → SimFlash → SimFlash → Type 0
-PutsBy IsThere held base all start end = (things : List Thing) × IsThere start × AreThings held base all things × Puts start things end
+-- all sources are put below a path, after what is removed first, on a flash that is found so, which gives the flash as it is left
+abbrev pub PutsBy : (SimFlash → Type 0) → List Event → Held → Path → List Found → SimFlash → SimFlash → Type 0
+PutsBy IsThere removed held base all start end = (things : List Thing) × IsThere start × AreThings held base all things × Carries start (put_events removed things) end
 
 -- the first of them are put, and then an event is refused
-abbrev pub StopsBy : (SimFlash → Type 0) → Held → Path → List Found → Failure → Type 0
-StopsBy IsThere held base all failure = (start : SimFlash) × (first : List Found) × (later : List Found) × (things : List Thing) × (refusal : Refusal)
-    × IsThere start × (all ≡ first ++ later) × AreThings held base first things × Stops start things refusal × (failure ≡ of_refusal refusal)
+abbrev pub StopsBy : (SimFlash → Type 0) → List Event → Held → Path → List Found → Failure → Type 0
+StopsBy IsThere removed held base all failure = (start : SimFlash) × (first : List Found) × (later : List Found) × (things : List Thing) × (refusal : Refusal)
+    × IsThere start × (all ≡ first ++ later) × AreThings held base first things × Breaks start (put_events removed things) refusal × (failure ≡ of_refusal refusal)
 
 -- a flash that is found so is not mounted
 abbrev pub UnmountedBy : (SimFlash → Type 0) → Failure → Type 0
@@ -170,14 +183,36 @@ UnmountedBy IsThere failure = (start : SimFlash) × (end : SimFlash) × (fault :
 
 -- why they are not put: there is no flash for its cause, or memory was wanted; one of them is not put; no system is mounted; or an
 -- event is refused
-abbrev pub PutCause : (SimFlash → Type 0) → (Failure → Type 0) → Held → Path → List Found → Failure → Type 0
-PutCause IsThere Cause held base all failure = Cause failure ⊎ ((failure ≡ Failure.Memory) ⊎ (SourceCause held base all failure ⊎ (UnmountedBy IsThere failure ⊎ StopsBy IsThere held base all failure)))
+abbrev pub PutCause : (SimFlash → Type 0) → (Failure → Type 0) → List Event → Held → Path → List Found → Failure → Type 0
+PutCause IsThere Cause removed held base all failure =
+    Cause failure ⊎ ((failure ≡ Failure.Memory) ⊎ (SourceCause held base all failure ⊎ (UnmountedBy IsThere failure ⊎ StopsBy IsThere removed held base all failure)))
 
 -- a word of the program spells this path, and all of this stands at a name of the host, where that is known
 pub record IsAsked (gathered : Option (List Found)) (word : List ℕ) (base : Path) (all : List Found) : Type 0 where
   pub spelled : path_spelled word ≡ Ok base
   pub known : IfSome gathered (λ found. all ≡ found)
 
--- why nothing is asked for that is to be put: memory was wanted, the word spells no path, or a source is not to be put
-abbrev pub GatherCause : List ℕ → Option (List Found) → List ℕ → Failure → Type 0
-GatherCause image gathered word failure = (failure ≡ Failure.Memory) ⊎ ((path_spelled word ≡ Err failure) ⊎ ((base : Path) × (all : List Found) × IsAsked gathered word base all × PlaceCause image base all failure))
+-- a folder is wanted, and what stands at the name is a plain file or a link
+abbrev pub begins_with_other : List Found → Bool
+begins_with_other [] = false
+begins_with_other (found ∷ all) = is_file found.kind || is_link found.kind
+
+abbrev pub is_no_folder : Bool → List Found → Bool
+is_no_folder is_wanted all = is_wanted && begins_with_other all
+
+-- what is left out, where links are
+abbrev pub is_left_out : Bool → Found → Bool
+is_left_out skips found = skips && is_link found.kind
+
+abbrev pub left_in : Bool → List Found → List Found
+left_in skips all = flat_map (λ found. if is_left_out skips found then [] else found ∷ []) all
+
+-- what is refused of what stands at a name of the host: it is no folder where one is wanted, or a source is not to be put
+abbrev pub FoundCause : Bool → Bool → List ℕ → Path → List Found → Failure → Type 0
+FoundCause is_wanted skips image base all failure =
+    ((failure ≡ Failure.NoFolder) × (is_no_folder is_wanted all ≡ true)) ⊎ PlaceCause image base (left_in skips all) failure
+
+-- why nothing is asked for that is to be put: memory was wanted, the word spells no path, or what stands there is refused
+abbrev pub GatherCause : Bool → Bool → List ℕ → Option (List Found) → List ℕ → Failure → Type 0
+GatherCause is_wanted skips image gathered word failure =
+    (failure ≡ Failure.Memory) ⊎ ((path_spelled word ≡ Err failure) ⊎ ((base : Path) × (all : List Found) × IsAsked gathered word base all × FoundCause is_wanted skips image base all failure))

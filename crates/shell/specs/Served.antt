@@ -64,19 +64,19 @@ PutsThrough events held base all p (Err failure) q = (failure ≡ Failure.Memory
     ⊎ ((first : List Found) × (later : List Found) × (things : List Thing) × (made : List Event) × (rest : List Event) × (refusal : Refusal) × (all ≡ first ++ later)
     × AreThings held base first things × (events things ≡ made ++ rest) × Halts p made refusal q × (failure ≡ of_refusal refusal)))
 
--- how all sources are put, and how they are in a change group that begins with them
+-- how all sources are put, and how they are in a change group that begins with what is removed first
 abbrev pub PutsEach : Held → Path → List Found → Place → Result (Unit {0}) Failure → Place → Type 0
 PutsEach = PutsThrough (λ things. flat_map thing_events things)
 
-abbrev pub PutsGroup : Held → Path → List Found → Place → Result (Unit {0}) Failure → Place → Type 0
-PutsGroup = PutsThrough group_events
+abbrev pub PutsGroup : List Event → Held → Path → List Found → Place → Result (Unit {0}) Failure → Place → Type 0
+PutsGroup removed = PutsThrough (group_events removed)
 
 -- the group that is open is ended, and synced where a version is due in it
 abbrev pub EndsGroup : Place → Result (Unit {0}) Refusal → Place → Type 0
 EndsGroup p result q = ServesPut p (group_end (is_due p.system)) result q
 
 -- how all sources are put in one change group, which is ended
-abbrev pub PutsAll : Held → Path → List Found → Place → Result (Unit {0}) Failure → Place → Type 0
-PutsAll held base all p (Ok done) q = (inside : Place) × PutsGroup held base all p (Ok tt) inside × EndsGroup inside (Ok tt) q
-PutsAll held base all p (Err failure) q = PutsGroup held base all p (Err failure) q
-    ⊎ ((inside : Place) × (refusal : Refusal) × PutsGroup held base all p (Ok tt) inside × EndsGroup inside (Err refusal) q × (failure ≡ of_refusal refusal))
+abbrev pub PutsAll : List Event → Held → Path → List Found → Place → Result (Unit {0}) Failure → Place → Type 0
+PutsAll removed held base all p (Ok done) q = (inside : Place) × PutsGroup removed held base all p (Ok tt) inside × EndsGroup inside (Ok tt) q
+PutsAll removed held base all p (Err failure) q = PutsGroup removed held base all p (Err failure) q
+    ⊎ ((inside : Place) × (refusal : Refusal) × PutsGroup removed held base all p (Ok tt) inside × EndsGroup inside (Err refusal) q × (failure ≡ of_refusal refusal))

@@ -21,7 +21,10 @@ use Rattle.image_jobs.specs.Failures.{of_image, of_script, of_system, job_status
 use Rattle.image_jobs.specs.Images.{IsSpelledFlash, LoadCause, IsUnclaimed, Unsaved, SavesChange, ChangeUnsaved, FormatEnds, Host, streams_of, RunEnds, LookEnds, CheckEnds}
 use Rattle.host_files.specs.Files.{Held, KeepsOthers, takes_away}
 use Rattle.script_runs.specs.Memory.{memory_sizes, EndsInMemory}
-use Rattle.shell.specs.Puts.{PutsBy, PutCause, IsAsked, GatherCause}
+use Rattle.shell.specs.Inputs.{InputEnds}
+use Rattle.shell.specs.Mirrors.{wants_folder, kept_asked, PutsOver, OverCause}
+use Rattle.shell.specs.Puts.{IsAsked, GatherCause, is_no_folder, left_in}
+use Rattle.put_removals.specs.declared.kept.Kept.{Kept}
 use Rattle.script_runs.specs.Scripts.{Streams}
 use Rattle.host_files.specs.Sources.{Found, Gathered}
 use Rattle.host_files.specs.Streams.{Written}
@@ -29,27 +32,38 @@ use Rattle.shell.specs.Places.{AreOthers}
 use Rattle.history_jobs.specs.Histories.{HistoryEnds, history_spelled}
 use Rattle.part_jobs.specs.Making.{FormatPartEnds, ToPartEnds, FromPartEnds}
 use Rattle.part_jobs.specs.Serving.{ServePartEnds}
+use Rattle.raw_jobs.specs.Making.{RawEnds, FromRawEnds}
 use Rattle.image_jobs.specs.declared.failure.Failure.{Failure}
 use Rattle.script_runs.specs.declared.scripts.ScriptFault.{ScriptFault}
 use Rattle.told_flash.specs.declared.start.StartFault.{StartFault}
 use Rattle.told_sessions.specs.Sessions.{SessionEnds}
 use Rattle.told_sessions.specs.declared.session_fault.SessionFault.{SessionFault}
 
--- sources are put into an image, of which the bytes are those of the claimed file, and which is written then. Else no file changes,
--- or the image that is left is not written, or not for good
-abbrev pub SourcesEnd : List ℕ → (List ℕ → Type 0) → Path → List Found → Held → Held → Result (Unit {0}) Failure → Type 0
-SourcesEnd name IsClaimed base all held saved (Ok done) = (start : SimFlash) × (end : SimFlash) × IsClaimed (image_of (device_of start))
-    × PutsBy (IsSpelledFlash (held name)) held base all start end × SavesChange name held saved (image_of (device_of start)) (image_of (device_of end))
-SourcesEnd name IsClaimed base all held saved (Err failure) = ((IsUnclaimed failure ⊎ PutCause (IsSpelledFlash (held name)) (LoadCause (held name)) held base all failure) × (saved ≡ held))
-    ⊎ ((start : SimFlash) × (end : SimFlash) × IsClaimed (image_of (device_of start)) × PutsBy (IsSpelledFlash (held name)) held base all start end
+-- sources are put into an image, of which the bytes are those of the claimed file, on a flash of them that gives the flash as it is
+-- left; what is removed first is that of the image's tree
+abbrev pub PutsInto : List ℕ → (List ℕ → Type 0) → Path → Option (List Kept) → List Found → Held → SimFlash → SimFlash → Type 0
+PutsInto name IsClaimed base kept all held start end = IsClaimed (image_of (device_of start)) × PutsOver (IsSpelledFlash (held name)) held base kept all start end
+
+-- why they are not: the image is not claimed, or not had, or its cause has what is put
+abbrev pub UnputCause : List ℕ → Path → Option (List Kept) → List Found → Held → Failure → Type 0
+UnputCause name base kept all held failure = IsUnclaimed failure ⊎ (LoadCause (held name) failure ⊎ OverCause (IsSpelledFlash (held name)) (LoadCause (held name)) held base kept all failure)
+
+-- sources are put into an image, which is written then. Else no file changes, or the image that is left is not written, or not for
+-- good
+abbrev pub SourcesEnd : List ℕ → (List ℕ → Type 0) → Path → Option (List Kept) → List Found → Held → Held → Result (Unit {0}) Failure → Type 0
+SourcesEnd name IsClaimed base kept all held saved (Ok done) = (start : SimFlash) × (end : SimFlash) × PutsInto name IsClaimed base kept all held start end
+    × SavesChange name held saved (image_of (device_of start)) (image_of (device_of end))
+SourcesEnd name IsClaimed base kept all held saved (Err failure) = (UnputCause name base kept all held failure × (saved ≡ held))
+    ⊎ ((start : SimFlash) × (end : SimFlash) × PutsInto name IsClaimed base kept all held start end
     × ChangeUnsaved name held saved (image_of (device_of start)) (image_of (device_of end)) failure)
 
--- all that stands at a name of the host is put into an image, below the path that a word spells; none of it is the image or its
--- new file, by their names
-abbrev pub PutEnds : List ℕ → List ℕ → (List ℕ → Type 0) → Held → Held → Option (List Found) → Result (Unit {0}) Failure → Type 0
-PutEnds name word IsClaimed held saved gathered result =
-    ((base : Path) × (all : List Found) × IsAsked gathered word base all × AreOthers name all × SourcesEnd name IsClaimed base all held saved result)
-    ⊎ ((failure : Failure) × (result ≡ Err failure) × GatherCause name gathered word failure × (saved ≡ held))
+-- all that stands at a name of the host is put into an image, below the path that a word spells, but for what is left out; none of
+-- it is the image or its new file, by their names
+abbrev pub PutEnds : Bool → Bool → List ℕ → List ℕ → (List ℕ → Type 0) → Held → Held → Option (List Found) → Result (Unit {0}) Failure → Type 0
+PutEnds mirror skips name word IsClaimed held saved gathered result =
+    ((base : Path) × (all : List Found) × IsAsked gathered word base all × (is_no_folder (wants_folder mirror skips) all ≡ false) × AreOthers name (left_in skips all)
+    × SourcesEnd name IsClaimed base (kept_asked mirror all) (left_in skips all) held saved result)
+    ⊎ ((failure : Failure) × (result ≡ Err failure) × GatherCause (wants_folder mirror skips) skips name gathered word failure × (saved ≡ held))
 
 -- these bytes are told of an image, or why nothing is
 abbrev pub IsTold : Option (List ℕ) → Inquiry → List ℕ → Type 0
@@ -159,6 +173,17 @@ GetsTo true job name before result after = TellEnds (file_spelled (word_given jo
 GetsTo false job name before result after = GetEnds (file_spelled (word_given job.path) job.view) name (word_given job.file) before.files after.files result
     × KeepsOthers (word_given job.file) before.files after.files × OnlyWrites before after
 
+-- the input is put into an image; it is refused where a folder is wanted
+abbrev pub StreamEnds : Bool → List ℕ → List ℕ → (List ℕ → Type 0) → Host → Result (Unit {0}) Failure → Host → Type 0
+StreamEnds true path name IsClaimed before result after = (result ≡ Err Failure.NoFolder) × (after ≡ before)
+StreamEnds false path name IsClaimed before result after = InputEnds name path IsClaimed before result after × KeepsOthers name before.files after.files × (after.out ≡ before.out)
+
+-- what stands at a name of the host is put into an image, or the input
+abbrev pub PutsFrom : Bool → Bool → Bool → List ℕ → List ℕ → (List ℕ → Type 0) → Option (List Found) → Host → Result (Unit {0}) Failure → Host → Type 0
+PutsFrom true mirror skips path name IsClaimed gathered before result after = StreamEnds (wants_folder mirror skips) path name IsClaimed before result after
+PutsFrom false mirror skips path name IsClaimed gathered before result after = PutEnds mirror skips name path IsClaimed before.files after.files gathered result
+    × KeepsOthers name before.files after.files × OnlyWrites before after
+
 -- the bytes that the file of each name may have where it is claimed
 abbrev pub Claimed : Type 1
 Claimed = List ℕ → List ℕ → Type 0
@@ -190,7 +215,7 @@ abbrev pub EndsOn : Job → List ℕ → Known → Host → Result (Unit {0}) Fa
 EndsOn job name known before result after = elim (job.command) as (λ task. Type 0) [
   | Task.Format ↦ FormatEnds (sizes_of job) job.history (before.files name) (after.files name) result × KeepsOthers name before.files after.files × OnlyWrites before after
   | Task.Run ↦ RunEnds job.stop name (known.claimed name) before result after × KeepsOthers name before.files after.files
-  | Task.Put ↦ PutEnds name (word_given job.path) (known.claimed name) before.files after.files (known.gathered (word_given job.file) name) result × KeepsOthers name before.files after.files × OnlyWrites before after
+  | Task.Put ↦ PutsFrom (is_stream (word_given job.file)) job.mirror job.skip_links (word_given job.path) name (known.claimed name) (known.gathered (word_given job.file) name) before result after
   | Task.History call ↦ HistoryEnds (history_spelled call (word_given job.checkpoint) job.count) name (known.claimed name) before.files result after.files × KeepsOthers name before.files after.files × OnlyWrites before after
   | Task.Get ↦ GetsTo (is_stream (word_given job.file)) job name before result after
   | Task.Cat ↦ TellEnds (file_spelled (word_given job.path) job.view) (before.files name) result before.out after.out × OnlyPrints before after
@@ -202,6 +227,8 @@ EndsOn job name known before result after = elim (job.command) as (λ task. Type
   | Task.Df ↦ LookEnds (codes "df\n") (before.files name) result before.out after.out × OnlyPrints before after
   | Task.ToPart ↦ ToPartEnds name (word_given job.file) before.files after.files result × KeepsOthers (word_given job.file) before.files after.files × OnlyWrites before after
   | Task.FromPart ↦ FromPartEnds (word_given job.file) name (known.placed (word_given job.file)) before.files after.files result × KeepsOthers name before.files after.files × OnlyWrites before after
+  | Task.ToRaw ↦ RawEnds name (word_given job.file) before.files after.files result × KeepsOthers (word_given job.file) before.files after.files × OnlyWrites before after
+  | Task.FromRaw ↦ FromRawEnds job.page job.pages (word_given job.file) name before.files after.files result × KeepsOthers name before.files after.files × OnlyWrites before after
   | Task.Memory ↦ EndsAlone Task.Memory job known before result after
   | Task.Serve ↦ EndsAlone Task.Serve job known before result after
   | Task.ServePart ↦ EndsAlone Task.ServePart job known before result after

@@ -225,7 +225,7 @@ fn ask_image<F: ImageFiles>(
 }
 
 /// By why nothing is told.
-fn of_ask(fault: AskFault) -> Failure
+pub(crate) fn of_ask(fault: AskFault) -> Failure
     ensures { result ≡ of_ask fault }
 {
     match fault {

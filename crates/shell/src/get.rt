@@ -31,7 +31,7 @@ pub(crate) fn get_to<F: ImageFiles, W: Write>(
 }
 
 /// Whether a word means a standard stream in the place of a file.
-fn is_stream(file: &str) -> bool
+pub(crate) fn is_stream(file: &str) -> bool
     ensures { result ≡ is_stream file.now }
 {
     file == "-"

@@ -3,13 +3,18 @@
 
 mod about;
 mod asking;
+mod batch;
 mod explanations;
 mod get;
+mod input;
+mod mirror;
 mod path_word;
 mod place;
 mod process;
 mod program;
 mod put;
+mod put_from;
+mod put_input;
 mod serving;
 mod streams;
 mod thing;

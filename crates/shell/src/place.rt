@@ -8,7 +8,6 @@ use fs_types::{Fault, MAX_FILE_BYTES, MAX_NAMES, Name, Path};
 use host_files::{Source, SourceKind};
 use image_jobs::{Failure, SourceFault};
 use std::alloc::{AllocError, Global};
-use std::io::Write;
 
 /// Where a source is put, if it is put below a path.
 pub(crate) fn place_of(alloc: Global, base: &Path, source: &Source) -> Result<Path, Failure>
@@ -77,13 +76,4 @@ fn append_names(names: &mut Vec<Name>, more: &[Name]) -> Result<(), AllocError>
         names.push(name.clone()?)?;
     }
     Ok(())
-}
-
-/// Tells why a source is not put, with its name.
-pub(crate) fn tell_unput<E: Write>(failure: Failure, name: &str, err: &mut E) {
-    let _ = match failure {
-        Failure::Source(SourceFault::Unreadable) => writeln!(err, "uffs: cannot read {name}"),
-        Failure::Source(fault) => writeln!(err, "uffs: cannot put {name}: {fault}"),
-        _ => Ok(()),
-    };
 }

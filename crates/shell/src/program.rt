@@ -10,7 +10,8 @@ use crate::about::{tell_help, tell_version};
 use crate::asking::{tell_differences, tell_file, tell_tree, tell_versions};
 use crate::explanations::explain;
 use crate::get::get_to;
-use crate::put::{Order, put_into_image};
+use crate::put::Order;
+use crate::put_from::put_from;
 use crate::serving::{history_given, serve_part};
 use clap::Error;
 use clap::error::ErrorKind;
@@ -18,8 +19,10 @@ use flash_model::Geometry;
 use history_jobs::change_history;
 use host_files::{Channels, ImageFiles, Parts, Sources};
 use image_jobs::{Failure, check_image, format_image, look_at_image, run_image};
+use job_messages::tell_failure;
 use jobs::{Job, Task, job};
 use part_jobs::{format_part, image_to_part, part_to_image, serve_part_file};
+use raw_jobs::{image_to_raw, raw_to_image};
 use script_runs::run_in_memory;
 use std::alloc::Global;
 use std::io::{Read, Write};
@@ -28,9 +31,10 @@ use std::io::{Read, Write};
 ///
 /// The subcommands, what each reads and writes, and the lines on `err` are those of docs/program.md.
 /// Status 0: the job ran to its end, whatever the replies to a script. 1: the image, the part, the input,
-/// the output or memory failed. 2: the words were refused, or help was asked for. 3: the image, the part, a
-/// format or a mount was refused. 4: what was asked for was refused, or a line of a script that is to stop
-/// there. 5: trees differ, where the status is to tell it. Where it is 1 to 4, `err` says why.
+/// the output or memory failed. 2: the words were refused, also where they want a folder and what is put
+/// is none, or help was asked for. 3: the image, the part, a format or a mount was refused. 4: what was
+/// asked for was refused, or a line of a script that is to stop there. 5: trees differ, where the status
+/// is to tell it. Where it is 1 to 4, `err` says why.
 pub fn tool<F: ImageFiles + Sources + Channels + Parts, R: Read, W: Write, E: Write>(
     files: &mut F,
     alloc: Global,
@@ -50,29 +54,9 @@ pub fn tool<F: ImageFiles + Sources + Channels + Parts, R: Read, W: Write, E: Wr
     match carry_out(files, alloc, job, reader, out, err) {
         Ok(()) => 0,
         Err(failure) => {
-            failure.explain(read_by(job), written_by(job), err);
+            tell_failure(files, alloc, job, failure, err);
             failure.status()
         }
-    }
-}
-
-/// The name of what a job reads.
-fn read_by(job: Job<'_>) -> &str {
-    match job.command {
-        Task::Serve => word_given(job.answers),
-        Task::ServePart => word_given(job.part),
-        Task::FromPart => word_given(job.file),
-        _ => word_given(job.image),
-    }
-}
-
-/// The name of what a job writes.
-fn written_by(job: Job<'_>) -> &str {
-    match job.command {
-        Task::Get | Task::ToPart => word_given(job.file),
-        Task::Serve => word_given(job.orders),
-        Task::ServePart | Task::FormatPart => word_given(job.part),
-        _ => word_given(job.image),
     }
 }
 
@@ -82,7 +66,7 @@ fn refuse<E: Write>(error: &Error, err: &mut E) -> u8
 {
     match error.kind() {
         ErrorKind::OutOfMemory => {
-            Failure::Memory.explain("", "", err);
+            Failure::Memory.explain("", None, "", err);
             1
         }
         _ => {
@@ -151,7 +135,7 @@ fn do_task<F: ImageFiles + Sources + Channels + Parts, R: Read, W: Write, E: Wri
     match job.command {
         Task::Format => format_image(files, alloc, name, sizes_of(job), job.history),
         Task::Run => run_image(files, alloc, name, job.stop, reader, out),
-        Task::Put => put_into_image(files, alloc, name, order_of(job), err),
+        Task::Put => put_from(files, alloc, name, order_of(job), reader, err),
         Task::History(call) => {
             let checkpoint = word_given(job.checkpoint);
             change_history(files, alloc, name, call, checkpoint, job.count)
@@ -169,6 +153,8 @@ fn do_task<F: ImageFiles + Sources + Channels + Parts, R: Read, W: Write, E: Wri
         Task::Df => look_at_image(files, alloc, name, b"df\n", out),
         Task::ToPart => image_to_part(files, alloc, name, word_given(job.file)),
         Task::FromPart => part_to_image(files, alloc, word_given(job.file), name),
+        Task::ToRaw => image_to_raw(files, alloc, name, word_given(job.file)),
+        Task::FromRaw => raw_to_image(files, alloc, word_given(job.file), name, sizes_of(job)),
         Task::Memory | Task::Serve | Task::ServePart | Task::FormatPart => {
             do_alone(files, alloc, job, reader, out)
         }
@@ -179,10 +165,14 @@ fn do_task<F: ImageFiles + Sources + Channels + Parts, R: Read, W: Write, E: Wri
 fn order_of(job: Job<'_>) -> Order<'_>
     ensures file { result.file.now ≡ word_given job.entry.file }
     ensures path { result.path.now ≡ word_given job.entry.path }
+    ensures mirror { result.mirror ≡ job.entry.mirror }
+    ensures skips { result.skip_links ≡ job.entry.skip_links }
 {
     Order {
         file: word_given(job.file),
         path: word_given(job.path),
+        mirror: job.mirror,
+        skip_links: job.skip_links,
         progress: job.progress,
     }
 }

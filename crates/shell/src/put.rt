@@ -1,24 +1,29 @@
 //! Files of the host are put into an image.
-ghost use Rattle.std.specs.Prelude.{◌≡◌, ◌⊎◌, false, List, IfSome, IfOk, OnOk, IfErr, map};
+ghost use Rattle.std.specs.Prelude.{◌≡◌, ◌⊎◌, ◌++◌, false, List, IfSome, IfOk, OnOk, IfErr, map};
 ghost use Rattle.flash_model.specs.Simulation.{device_of};
 ghost use Rattle.flash_model.specs.declared.sim_flash.SimFlash.{SimFlash};
 ghost use Rattle.system.specs.Systems.{IsSystem};
 ghost use Rattle.host_files.specs.Files.{KeepsOthers, ReadsClaimed, takes_away};
-ghost use Rattle.shell.specs.Puts.{stop_of, stop_of_reply, refused_by, is_mkdir, makes_directory, is_due, PutsBy, PutCause, PlaceCause};
+ghost use Rattle.shell.specs.Puts.{stop_of, stop_of_reply, refused_by, is_mkdir, makes_directory, is_due, group_start, path_spelled, PutsBy, PutCause, PlaceCause, FoundCause, SpellingCause};
 ghost use Rattle.shell.specs.Served.{place, ServesPut, PutsOne, PutsEach, PutsGroup, EndsGroup, PutsAll};
 ghost use Rattle.host_files.specs.Sources.{Found, source_found};
 ghost use Rattle.shell.specs.Places.{AreOthers, IsMisplaced};
 ghost use Rattle.script_runs.specs.Flashes.{IsDecoded};
 ghost use Rattle.image_jobs.specs.Images.{DecodeCause};
+ghost use Rattle.shell.specs.Batches.{IsBatch, kept_in};
+ghost use Rattle.shell.specs.Mirrors.{wants_folder, PutsOver, OverCause};
 ghost use Rattle.shell.specs.Tools.{SourcesEnd, PutEnds};
 
+use crate::batch::{Batch, batch_of};
+use crate::mirror::removed_from;
 use crate::path_word::path_of_word;
-use crate::place::{place_of, tell_unput};
+use crate::place::place_of;
 use crate::thing::{events_of, thing_of};
-use flash_model::SimFlash;
+use flash_model::{Flash, SimFlash};
 use fs_types::{Answer, Call, Event, Fault, Path, Reply, Stat};
 use host_files::{ImageFiles, Source, Sources, takes_away};
 use image_jobs::{Failure, SourceFault, flash_of, save_changed, take_image};
+use job_messages::{tell_misplaced, tell_refusal, tell_unput};
 use script_runs::Refusal;
 use std::alloc::Global;
 use std::io::Write;
@@ -34,6 +39,10 @@ pub(crate) struct Order<'a> {
     pub file: &'a str,
     /// The word that spells the path.
     pub path: &'a str,
+    /// Whether what stands below the path and is not put is removed.
+    pub mirror: bool,
+    /// Whether links are left out.
+    pub skip_links: bool,
     /// Whether progress is told.
     pub progress: bool,
 }
@@ -41,12 +50,12 @@ pub(crate) struct Order<'a> {
 /// A flash with the system that is mounted on it, if one is.
 #[derive(Drop)]
 pub(crate) struct Mounted {
-    flash: SimFlash,
-    system: Option<System>,
+    pub(crate) flash: SimFlash,
+    pub(crate) system: Option<System>,
 }
 
-/// Puts all that stands at a name of the host into an image, which is claimed then, as one version.
-/// The image is written back where all of it was put.
+/// Puts all that stands at a name of the host into an image, which is claimed then, as one version, but
+/// for what is left out. The image is written back where all of it was put.
 pub(crate) fn put_into_image<F: ImageFiles + Sources, E: Write>(
     files: &mut F,
     alloc: Global,
@@ -54,46 +63,73 @@ pub(crate) fn put_into_image<F: ImageFiles + Sources, E: Write>(
     order: Order<'_>,
     err: &mut E,
 ) -> Result<(), Failure>
-    ensures ends { PutEnds name.now order.entry.path.now (ReadsClaimed F.claims F.reads name.now) (F.held files.old) (F.held files.new) (F.gathered files.old order.entry.file.now name.now) result }
+    ensures ends { PutEnds order.entry.mirror order.entry.skip_links name.now order.entry.path.now (ReadsClaimed F.claims F.reads name.now) (F.held files.old) (F.held files.new) (F.gathered files.old order.entry.file.now name.now) result }
     ensures others { KeepsOthers name.now (F.held files.old) (F.held files.new) }
 {
-    let base = match path_of_word(alloc, order.path) {
+    let base = match told_path(alloc, order.path, err) {
         Ok(base) => base,
         Err(failure) => return Err(failure),
     };
-    let sources = match gather(files, alloc, name, &base, order.file, err) {
-        Ok(sources) => sources,
+    let batch = match gather(files, alloc, name, base, order, err) {
+        Ok(batch) => batch,
         Err(failure) => return Err(failure),
     };
-    put_sources(files, alloc, name, &base, &sources, order.progress, err)
+    put_sources(files, alloc, name, &batch, order.progress, err)
 }
 
-/// All that stands at a name of the host, where each has a place below a path.
-fn gather<F: Sources, E: Write>(
+/// The path that a word spells. A refused one is told.
+pub(crate) fn told_path<E: Write>(alloc: Global, word: &str, err: &mut E) -> Result<Path, Failure>
+    ensures ok { IfOk result (λ path. path_spelled word.now ≡ Ok path) }
+    ensures err { IfErr result (SpellingCause word.now) }
+{
+    match path_of_word(alloc, word) {
+        Ok(path) => Ok(path),
+        Err(failure) => {
+            tell_path(failure, word, err);
+            Err(failure)
+        }
+    }
+}
+
+/// Tells that a word is refused that is to spell a path.
+fn tell_path<E: Write>(failure: Failure, word: &str, err: &mut E) {
+    if let Failure::Refused(refusal) = failure {
+        tell_refusal(refusal, word, err);
+    }
+}
+
+/// All that stands at a name of the host, but for what is left out, where each has a place below a path.
+fn gather<F: ImageFiles + Sources, E: Write>(
     files: &F,
     alloc: Global,
     image: &str,
-    base: &Path,
-    file: &str,
+    base: Path,
+    order: Order<'_>,
     err: &mut E,
-) -> Result<Vec<Source>, Failure>
-    ensures ok { IfOk result (λ sources. IfSome (F.gathered files.now file.now image.now) (λ all. map source_found sources.items ≡ all)) }
-    ensures others { IfOk result (λ sources. AreOthers image.now (map source_found sources.items)) }
-    ensures err { IfErr result (λ failure. (failure ≡ Failure.Memory) ⊎ ((all : List Found) × IfSome (F.gathered files.now file.now image.now) (λ found. all ≡ found) × PlaceCause image.now base.now all failure)) }
+) -> Result<Batch, Failure>
+    ensures ok { IfOk result (λ batch. (all : List Found) × IfSome (F.gathered files.now order.entry.file.now image.now) (λ found. all ≡ found) × IsBatch order.entry.mirror order.entry.skip_links base all batch) }
+    ensures others { IfOk result (λ batch. AreOthers image.now (map source_found batch.sources.items)) }
+    ensures err { IfErr result (λ failure. (failure ≡ Failure.Memory) ⊎ ((all : List Found) × IfSome (F.gathered files.now order.entry.file.now image.now) (λ found. all ≡ found)
+        × FoundCause (wants_folder order.entry.mirror order.entry.skip_links) order.entry.skip_links image.now base all failure)) }
 {
-    let sources = match files.gather(alloc, file, image) {
-        Ok(sources) => sources,
+    let found = match files.gather(alloc, order.file, image) {
+        Ok(found) => found,
         Err(_) => return Err(Failure::Memory),
     };
-    match check_places(alloc, image, base, &sources, err) {
-        Ok(()) => Ok(sources),
+    let batch = match batch_of(alloc, base, order, found, err) {
+        Ok(batch) => batch,
+        Err(failure) => return Err(failure),
+    };
+    match check_places(files, alloc, image, &batch.base, &batch.sources, err) {
+        Ok(()) => Ok(batch),
         Err(failure) => Err(failure),
     }
 }
 
 /// Whether each source has a place below a path and is not the image's own. Which one has none, or is,
 /// is told.
-fn check_places<E: Write>(
+fn check_places<F: ImageFiles, E: Write>(
+    files: &F,
     alloc: Global,
     image: &str,
     base: &Path,
@@ -107,7 +143,7 @@ fn check_places<E: Write>(
         match check_place(alloc, image, base, source) {
             Ok(()) => {}
             Err(failure) => {
-                tell_unput(failure, &source.name, err);
+                tell_misplaced(files, failure, source, err);
                 return Err(failure);
             }
         }
@@ -136,36 +172,55 @@ fn put_sources<F: ImageFiles, E: Write>(
     files: &mut F,
     alloc: Global,
     name: &str,
-    base: &Path,
-    sources: &[Source],
+    batch: &Batch,
     progress: bool,
     err: &mut E,
 ) -> Result<(), Failure>
-    ensures ends { SourcesEnd name.now (ReadsClaimed F.claims F.reads name.now) base.now (map source_found sources.now) (F.held files.old) (F.held files.new) result }
+    ensures ends { SourcesEnd name.now (ReadsClaimed F.claims F.reads name.now) batch.now.base (kept_in batch.now) (map source_found batch.now.sources.items) (F.held files.old) (F.held files.new) result }
     ensures others { KeepsOthers name.now (F.held files.old) (F.held files.new) }
 {
     let bytes = match take_image(files, alloc, name) {
         Ok(bytes) => bytes,
         Err(failure) => return Err(failure),
     };
-    match put_on(files, alloc, &bytes, base, sources, progress, err) {
+    match put_on_image(files, alloc, &bytes, batch, progress, err) {
         Ok(flash) => save_changed(files, alloc, name, &bytes, &flash),
         Err(failure) => Err(failure),
     }
 }
 
-/// Puts sources on the flash that bytes spell, and gives the flash as it is left.
+/// Puts sources on the flash that an image spells, after what is removed of its tree, and gives the flash as
+/// it is left.
+fn put_on_image<F: ImageFiles, E: Write>(
+    files: &F,
+    alloc: Global,
+    image: &[u8],
+    batch: &Batch,
+    progress: bool,
+    err: &mut E,
+) -> Result<SimFlash, Failure>
+    ensures ok { IfOk result (λ end. (start : SimFlash) × PutsOver (IsDecoded image.now) (F.held files.now) batch.now.base (kept_in batch.now) (map source_found batch.now.sources.items) start end) }
+    ensures err { IfErr result (OverCause (IsDecoded image.now) (DecodeCause image.now) (F.held files.now) batch.now.base (kept_in batch.now) (map source_found batch.now.sources.items)) }
+{
+    let removed = match removed_from(alloc, image, batch) {
+        Ok(removed) => removed,
+        Err(failure) => return Err(failure),
+    };
+    put_on(files, alloc, image, &removed, batch, progress, err)
+}
+
+/// Removes and puts sources on the flash that bytes spell, and gives the flash as it is left.
 fn put_on<F: ImageFiles, E: Write>(
     files: &F,
     alloc: Global,
     bytes: &[u8],
-    base: &Path,
-    sources: &[Source],
+    removed: &[Event],
+    batch: &Batch,
     progress: bool,
     err: &mut E,
 ) -> Result<SimFlash, Failure>
-    ensures ok { IfOk result (λ end. (start : SimFlash) × PutsBy (IsDecoded bytes.now) (F.held files.now) base.now (map source_found sources.now) start end) }
-    ensures err { IfErr result (PutCause (IsDecoded bytes.now) (DecodeCause bytes.now) (F.held files.now) base.now (map source_found sources.now)) }
+    ensures ok { IfOk result (λ end. (start : SimFlash) × PutsBy (IsDecoded bytes.now) removed.now (F.held files.now) batch.now.base (map source_found batch.now.sources.items) start end) }
+    ensures err { IfErr result (PutCause (IsDecoded bytes.now) (DecodeCause bytes.now) removed.now (F.held files.now) batch.now.base (map source_found batch.now.sources.items)) }
 {
     let mut flash = match flash_of(alloc, bytes) {
         Ok(flash) => flash,
@@ -176,58 +231,88 @@ fn put_on<F: ImageFiles, E: Write>(
         Err(fault) => return Err(Failure::of_system(fault)),
     };
     let mut mounted = Mounted { flash, system };
-    match put_all(files, alloc, base, sources, &mut mounted, progress, err) {
+    match put_all(files, alloc, removed, batch, &mut mounted, progress, err) {
         Ok(()) => Ok(mounted.flash),
         Err(failure) => Err(failure),
     }
 }
 
-/// Puts sources in one change group, and brings it to the flash where it makes a version.
+/// Removes and puts sources in one change group, and brings it to the flash where it makes a version.
 fn put_all<F: ImageFiles, E: Write>(
     files: &F,
     alloc: Global,
-    base: &Path,
-    sources: &[Source],
+    removed: &[Event],
+    batch: &Batch,
     mounted: &mut Mounted,
     progress: bool,
     err: &mut E,
 ) -> Result<(), Failure>
     requires { IfSome mounted.old.system (IsSystem (device_of mounted.old.flash)) }
-    ensures { PutsAll (F.held files.now) base.now (map source_found sources.now) (place mounted.old) result (place mounted.new) }
+    ensures { PutsAll removed.now (F.held files.now) batch.now.base (map source_found batch.now.sources.items) (place mounted.old) result (place mounted.new) }
 {
-    match put_group(files, alloc, base, sources, mounted, progress, err) {
+    match put_group(files, alloc, removed, batch, mounted, progress, err) {
         Ok(()) => {}
         Err(failure) => return Err(failure),
     }
     match end_group(alloc, mounted) {
         Ok(()) => Ok(()),
-        Err(refusal) => Err(Failure::of_refusal(refusal)),
+        Err(refusal) => {
+            tell_refusal(refusal, "", err);
+            Err(Failure::of_refusal(refusal))
+        }
     }
 }
 
-/// Begins a change group, and puts sources in it.
+/// Begins a change group, and removes and puts sources in it.
 fn put_group<F: ImageFiles, E: Write>(
     files: &F,
     alloc: Global,
-    base: &Path,
-    sources: &[Source],
+    removed: &[Event],
+    batch: &Batch,
     mounted: &mut Mounted,
     progress: bool,
     err: &mut E,
 ) -> Result<(), Failure>
     requires { IfSome mounted.old.system (IsSystem (device_of mounted.old.flash)) }
     ensures mounted { IfSome mounted.new.system (IsSystem (device_of mounted.new.flash)) }
-    ensures ends { PutsGroup (F.held files.now) base.now (map source_found sources.now) (place mounted.old) result (place mounted.new) }
+    ensures ends { PutsGroup removed.now (F.held files.now) batch.now.base (map source_found batch.now.sources.items) (place mounted.old) result (place mounted.new) }
+{
+    match begin_group(alloc, removed, mounted) {
+        Ok(()) => put_each(
+            files,
+            alloc,
+            &batch.base,
+            &batch.sources,
+            mounted,
+            progress,
+            err,
+        ),
+        Err(refusal) => {
+            tell_refusal(refusal, "", err);
+            Err(Failure::of_refusal(refusal))
+        }
+    }
+}
+
+/// Begins a change group, and carries out events in it.
+pub(crate) fn begin_group(
+    alloc: Global,
+    events: &[Event],
+    mounted: &mut Mounted,
+) -> Result<(), Refusal>
+    requires { IfSome mounted.old.system (IsSystem (device_of mounted.old.flash)) }
+    ensures mounted { IfSome mounted.new.system (IsSystem (device_of mounted.new.flash)) }
+    ensures asks { ServesPut (place mounted.old) (group_start ++ events.now) result (place mounted.new) }
 {
     let start = [Event::Call(Call::Begin)];
     match ask_all(alloc, mounted, &start) {
-        Ok(()) => put_each(files, alloc, base, sources, mounted, progress, err),
-        Err(refusal) => Err(Failure::of_refusal(refusal)),
+        Ok(()) => ask_all(alloc, mounted, events),
+        Err(refusal) => Err(refusal),
     }
 }
 
 /// Ends the change group, and syncs where it makes a version: nothing is written where it makes none.
-fn end_group(alloc: Global, mounted: &mut Mounted) -> Result<(), Refusal>
+pub(crate) fn end_group(alloc: Global, mounted: &mut Mounted) -> Result<(), Refusal>
     requires { IfSome mounted.old.system (IsSystem (device_of mounted.old.flash)) }
     ensures { EndsGroup (place mounted.old) result (place mounted.new) }
 {
@@ -267,7 +352,9 @@ fn put_each<F: ImageFiles, E: Write>(
         match put_one(files, alloc, base, source, mounted) {
             Ok(()) => {}
             Err(failure) => {
-                tell_unput(failure, &source.name, err);
+                let place = place_of(alloc, base, source).ok();
+                let sizes = mounted.flash.geometry();
+                tell_unput(files, alloc, failure, source, place, sizes, err);
                 return Err(failure);
             }
         }
@@ -312,7 +399,7 @@ fn put_one<F: ImageFiles>(
 }
 
 /// Carries out events in order, until an answer ends the put.
-fn ask_all(alloc: Global, mounted: &mut Mounted, events: &[Event]) -> Result<(), Refusal>
+pub(crate) fn ask_all(alloc: Global, mounted: &mut Mounted, events: &[Event]) -> Result<(), Refusal>
     requires { IfSome mounted.old.system (IsSystem (device_of mounted.old.flash)) }
     ensures mounted { IfSome mounted.new.system (IsSystem (device_of mounted.new.flash)) }
     ensures asks { ServesPut (place mounted.old) events.now result (place mounted.new) }

@@ -317,14 +317,11 @@ fn a_refused_format_leaves_the_image(rt: HostRuntime) -> Result<(), Fail> {
     let alloc = rt.alloc();
     let mut files = OneFile::new(alloc);
     files.bytes = fresh_image(alloc)?;
-    let sizes = (3, "", "uffs: BADGEOMETRY 28\n");
-    let limit = (3, "", "uffs: EINVAL 7\n");
-    let calls: [Wanted<'_>; 5] = [
-        (&["format", "x", "--blocks", "15"], "", sizes),
-        (&["format", "x", "--pages", "4294967295"], "", sizes),
-        (&["format", "x", "--history", "1"], "", limit),
-        (&["format", "x", "--history", "129"], "", limit),
-        (&["format", "x", "--history", "4294967295"], "", limit),
+    let blocks = "uffs: BADGEOMETRY 28: --blocks 15 is not 16 to 16384 for these blocks\n";
+    let limit = "uffs: EINVAL 7: --history 129 is not 2 to 128\n";
+    let calls: [Wanted<'_>; 2] = [
+        (&["format", "x", "--blocks", "15"], "", (3, "", blocks)),
+        (&["format", "x", "--history", "129"], "", (3, "", limit)),
     ];
     assert_calls(&rt, &mut files, alloc, &calls)?;
     files.is_full = true;
@@ -595,14 +592,22 @@ fn a_refused_put_leaves_the_image(rt: HostRuntime) -> Result<(), Fail> {
     let mut files = OneFile::new(alloc);
     files.bytes = fresh_image(alloc)?;
     let calls: [Wanted<'_>; 5] = [
-        (&["put", "x", "y", "f"], "", (4, "", "uffs: EINVAL 7\n")),
-        (&["put", "x", "y", "/a b"], "", (4, "", "uffs: SYNTAX\n")),
-        (&["put", "x", "y", "/d/f"], "", (4, "", "uffs: ENOENT 1\n")),
-        (&["put", "x", "y", "/"], "", (4, "", "uffs: EISDIR 3\n")),
+        (&["put", "x", "y", "f"], "", (4, "", "uffs: EINVAL 7: f\n")),
+        (
+            &["put", "x", "y", "/a b"],
+            "",
+            (4, "", "uffs: SYNTAX: /a b\n"),
+        ),
+        (
+            &["put", "x", "y", "/d/f"],
+            "",
+            (4, "", "uffs: ENOENT 1: /d/f\n"),
+        ),
+        (&["put", "x", "y", "/"], "", (4, "", "uffs: EISDIR 3: /\n")),
         (
             &["put", "x", "folder", "/d/f"],
             "",
-            (4, "", "uffs: ENOENT 1\n"),
+            (4, "", "uffs: ENOENT 1: /d/f\n"),
         ),
     ];
     assert_calls(&rt, &mut files, alloc, &calls)?;

@@ -1,7 +1,7 @@
 use Rattle.std.proofs.Common.{◌∙◌, ap, ap₂}
 use Rattle.std.proofs.lemmas.Result.{IfOk-weaker}
 use Rattle.clap.specs.Words.{App, with_subcommand}
-use Rattle.jobs.specs.Grammar.{with_about_apps, with_history_apps, with_reading_apps, with_image_apps, with_part_apps}
+use Rattle.jobs.specs.Grammar.{with_about_apps, with_history_apps, with_reading_apps, with_image_apps, with_part_apps, with_raw_apps}
 use Rattle.jobs.proofs.grammar.program.Goals as goal
 
 pub returns : goal.returns
@@ -12,4 +12,5 @@ returns c =
     let memory = c.in_ok-program-4.ensures.shape c.memory_command.ensures.local ∙ ap₂ with_subcommand images (ap (λ (a : App). a.top) c.memory_command.ensures.app) in
     let serve = c.in_ok-program-5.ensures.shape c.in_ok-serve_command.ensures.local ∙ ap₂ with_subcommand memory (ap (λ (a : App). a.top) c.in_ok-serve_command.ensures.app) in
     let parts = c.in_ok-program-6.ensures ∙ ap with_part_apps serve in
-    IfOk-weaker c.with_about_commands.result _ _ (λ command is. is ∙ ap with_about_apps parts) c.with_about_commands.ensures
+    let raw = c.in_ok-program-7.ensures ∙ ap with_raw_apps parts in
+    IfOk-weaker c.with_about_commands.result _ _ (λ command is. is ∙ ap with_about_apps raw) c.with_about_commands.ensures

@@ -8,8 +8,10 @@ pub returns-clause-app : goal.returns-clause-app
 returns-clause-app c =
     let file = c.in_ok-command-2.ensures.app ∙ ap (λ a. with_rule a (word_rule (codes "FILE"))) c.in_ok-command.ensures.app in
     let path = c.in_ok-command-3.ensures.app ∙ ap (λ a. with_rule a (word_rule (codes "PATH"))) file in
-    IfOk-weaker c.with_flag.result _ _ (λ more is. is ∙ ap (λ a. with_rule a (flag_rule (codes "progress"))) path) c.with_flag.ensures.app
+    let progress = c.in_ok-command-4.ensures.app ∙ ap (λ a. with_rule a (flag_rule (codes "progress"))) path in
+    let mirror = c.in_ok-command-5.ensures.app ∙ ap (λ a. with_rule a (flag_rule (codes "mirror"))) progress in
+    IfOk-weaker c.with_flag-3.result _ _ (λ more is. is ∙ ap (λ a. with_rule a (flag_rule (codes "skip-links"))) mirror) c.with_flag-3.ensures.app
 
 pub returns-clause-local : goal.returns-clause-local
 returns-clause-local c =
-    IfOk-weaker c.with_flag.result _ _ (λ more is. is ∙ c.in_ok-command-3.ensures.local ∙ c.in_ok-command-2.ensures.local ∙ c.in_ok-command.ensures.local) c.with_flag.ensures.local
+    IfOk-weaker c.with_flag-3.result _ _ (λ more is. is ∙ c.in_ok-command-5.ensures.local ∙ c.in_ok-command-4.ensures.local ∙ c.in_ok-command-3.ensures.local ∙ c.in_ok-command-2.ensures.local ∙ c.in_ok-command.ensures.local) c.with_flag-3.ensures.local

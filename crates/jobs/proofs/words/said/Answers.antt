@@ -37,4 +37,6 @@ returns-clause-some c =
       view = c.word-8.ensures;
       other = c.word-9.ensures;
       progress = c.has_flag-3.ensures;
+      mirror = c.has_flag-4.ensures;
+      skip_links = c.has_flag-5.ensures;
     })

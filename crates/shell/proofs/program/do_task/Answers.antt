@@ -4,8 +4,11 @@ use Rattle.image_jobs.specs.Images.{Host, host_at}
 use Rattle.image_jobs.specs.declared.failure.Failure.{Failure}
 use Rattle.jobs.specs.declared.tasks.Job.{Job}
 use Rattle.jobs.specs.declared.tasks.Task.{Task}
+use Rattle.flash_model.specs.declared.geometry.Geometry.{Geometry}
 use Rattle.part_jobs.specs.Making.{ToPartEnds, FromPartEnds}
-use Rattle.shell.specs.Tools.{EndsOn, Known, known_by}
+use Rattle.raw_jobs.specs.Making.{RawEnds, FromRawEnds}
+use Rattle.shell.proofs.BatchLemmas.{put_by}
+use Rattle.shell.specs.Tools.{EndsOn, Known, known_by, word_given}
 use Rattle.shell.proofs.program.do_task.Goals as goal
 
 -- a job ends by the task that it has
@@ -33,3 +36,36 @@ returns-in-FromPart g c =
     let known = known_by (ReadsClaimed g.F.ImageFiles.claims g.F.ImageFiles.reads) (g.F.Sources.gathered c.args.files.now) (g.F.Channels.written c.args.files.now) (g.F.Parts.placed c.args.files.now) in
     let ends = subst (λ (part : List ℕ). FromPartEnds part c.args.name.now (g.F.Parts.placed c.args.files.now part) old new c.part_to_image.result) c.word_given-in-FromPart.ensures c.part_to_image.ensures.ends in
     by_task Task.FromPart c.args.job c.args.name.now known (host_at old input out) c.part_to_image.result (host_at new input out) c.in-FromPart.is (ends, c.part_to_image.ensures.others, record { unread = refl; unprinted = refl })
+
+pub returns-in-Put : goal.returns-in-Put
+returns-in-Put g c =
+    let old = g.F.ImageFiles.held c.args.files.now in
+    let new = g.F.ImageFiles.held c.put_from.new.files in
+    let out = g.W.Write.contents c.args.out.now in
+    let before = host_at old (g.R.Read.remaining c.args.reader.now) out in
+    let after = host_at new (g.R.Read.remaining c.put_from.new.reader) out in
+    let known = known_by (ReadsClaimed g.F.ImageFiles.claims g.F.ImageFiles.reads) (g.F.Sources.gathered c.args.files.now) (g.F.Channels.written c.args.files.now) (g.F.Parts.placed c.args.files.now) in
+    let ends = put_by c.args.job c.order_of.result c.args.name.now known before c.put_from.result after c.order_of.ensures.file c.order_of.ensures.path c.order_of.ensures.mirror c.order_of.ensures.skips (c.put_from.ensures out) in
+    by_task Task.Put c.args.job c.args.name.now known before c.put_from.result after c.in-Put.is ends
+
+pub returns-in-ToRaw : goal.returns-in-ToRaw
+returns-in-ToRaw g c =
+    let old = g.F.ImageFiles.held c.args.files.now in
+    let new = g.F.ImageFiles.held c.image_to_raw.new.files in
+    let input = g.R.Read.remaining c.args.reader.now in
+    let out = g.W.Write.contents c.args.out.now in
+    let known = known_by (ReadsClaimed g.F.ImageFiles.claims g.F.ImageFiles.reads) (g.F.Sources.gathered c.args.files.now) (g.F.Channels.written c.args.files.now) (g.F.Parts.placed c.args.files.now) in
+    let ends = subst (λ (file : List ℕ). RawEnds c.args.name.now file old new c.image_to_raw.result) c.word_given-in-ToRaw.ensures c.image_to_raw.ensures.ends in
+    let others = subst (λ (file : List ℕ). KeepsOthers file old new) c.word_given-in-ToRaw.ensures c.image_to_raw.ensures.others in
+    by_task Task.ToRaw c.args.job c.args.name.now known (host_at old input out) c.image_to_raw.result (host_at new input out) c.in-ToRaw.is (ends, others, record { unread = refl; unprinted = refl })
+
+pub returns-in-FromRaw : goal.returns-in-FromRaw
+returns-in-FromRaw g c =
+    let old = g.F.ImageFiles.held c.args.files.now in
+    let new = g.F.ImageFiles.held c.raw_to_image.new.files in
+    let input = g.R.Read.remaining c.args.reader.now in
+    let out = g.W.Write.contents c.args.out.now in
+    let known = known_by (ReadsClaimed g.F.ImageFiles.claims g.F.ImageFiles.reads) (g.F.Sources.gathered c.args.files.now) (g.F.Channels.written c.args.files.now) (g.F.Parts.placed c.args.files.now) in
+    let at_file = subst (λ (raw : List ℕ). FromRawEnds c.sizes_of-in-FromRaw.result.page c.sizes_of-in-FromRaw.result.pages raw c.args.name.now old new c.raw_to_image.result) c.word_given-in-FromRaw.ensures c.raw_to_image.ensures.ends in
+    let ends = subst (λ (sizes : Geometry). FromRawEnds sizes.page sizes.pages (word_given c.args.job.file) c.args.name.now old new c.raw_to_image.result) c.sizes_of-in-FromRaw.ensures at_file in
+    by_task Task.FromRaw c.args.job c.args.name.now known (host_at old input out) c.raw_to_image.result (host_at new input out) c.in-FromRaw.is (ends, c.raw_to_image.ensures.others, record { unread = refl; unprinted = refl })

@@ -23,12 +23,12 @@ returns-in-Err-mount-clause-err g c =
 pub returns-in-Ok-put_all-clause-ok : goal.returns-in-Ok-put_all-clause-ok
 returns-in-Ok-put_all-clause-ok g c = (
   c.in-Ok.flash,
-  all_put (IsDecoded c.args.bytes.now) (g.F.ImageFiles.held c.args.files.now) c.args.base.now (map source_found c.args.sources.now) c.in-Ok.flash c.mount.new.flash c.in-Ok-mount.system c.put_all.new.mounted
+  all_put (IsDecoded c.args.bytes.now) c.args.removed.now (g.F.ImageFiles.held c.args.files.now) c.args.batch.now.base (map source_found c.args.batch.now.sources.items) c.in-Ok.flash c.mount.new.flash c.in-Ok-mount.system c.put_all.new.mounted
       c.in-Ok.ensures.ok c.mount.ensures.only_reads c.in-Ok-mount.ensures.ok c.in-Ok-mount.ensures.system c.in-Ok-put_all.ensures,
 )
 
 pub returns-in-Err-put_all-clause-err : goal.returns-in-Err-put_all-clause-err
 returns-in-Err-put_all-clause-err g c =
-    not_put (IsDecoded c.args.bytes.now) (DecodeCause c.args.bytes.now) (g.F.ImageFiles.held c.args.files.now) c.args.base.now (map source_found c.args.sources.now) c.in-Ok.flash c.mount.new.flash c.in-Ok-mount.system
+    not_put (IsDecoded c.args.bytes.now) (DecodeCause c.args.bytes.now) c.args.removed.now (g.F.ImageFiles.held c.args.files.now) c.args.batch.now.base (map source_found c.args.batch.now.sources.items) c.in-Ok.flash c.mount.new.flash c.in-Ok-mount.system
     (place c.put_all.new.mounted) c.in-Err-put_all.failure
     c.in-Ok.ensures.ok c.mount.ensures.only_reads c.in-Ok-mount.ensures.ok c.in-Ok-mount.ensures.system c.in-Err-put_all.ensures

@@ -7,7 +7,7 @@ use Rattle.inquiries.specs.Readings.{shown}
 use Rattle.inquiries.specs.declared.tell_fault.TheConstants.{MAX_LINES}
 use Rattle.inquiries.proofs.Readings.{fails-later}
 use Rattle.inquiries.proofs.Sizes.{many_tested}
-use Rattle.inquiries.proofs.inquiry.tell_tree.Goals as goal
+use Rattle.inquiries.proofs.inquiry.few_items.Goals as goal
 
 pub returns-in_err-size-clause-err : goal.returns-in_err-size-clause-err
 returns-in_err-size-clause-err g c =
@@ -19,7 +19,7 @@ returns-then-not-is_few-clause-err g c =
     let t = view_tree (shown c.args.fs.now) c.args.view.now in
     (c.in_ok-size.ensures.accepted, many_tested c.is_few.result (length (items_of t)) MAX_LINES c.if-not-is_few.true (c.is_few.ensures t c.in_ok-size.ensures.size))
 
-pub returns-in_err-list_tree-clause-err : goal.returns-in_err-list_tree-clause-err
-returns-in_err-list_tree-clause-err g c =
-    let p = err_from_is_err_and c.from_residual-in_err-list_tree.result c.from_residual-in_err-list_tree.ensures.1 in
-    rw (p.1, p.2) (fails-later (λ (m : Machine). view_refusal m.history c.args.view.now) c.args.fs.now c.size_of_tree.new.fs c.list_tree.new.fs c.in_err-list_tree.field-0.0 c.size_of_tree.ensures.same c.in_err-list_tree.ensures.err)
+pub returns-in_err-items_of-clause-err : goal.returns-in_err-items_of-clause-err
+returns-in_err-items_of-clause-err g c =
+    let p = err_from_is_err_and c.from_residual-in_err-items_of.result c.from_residual-in_err-items_of.ensures.1 in
+    rw (p.1, p.2) (fails-later (λ (m : Machine). view_refusal m.history c.args.view.now) c.args.fs.now c.size_of_tree.new.fs c.items_of.new.fs c.in_err-items_of.field-0.0 c.size_of_tree.ensures.same c.in_err-items_of.ensures.err)

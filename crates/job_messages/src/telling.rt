@@ -1,0 +1,279 @@
+//! What is told on standard error, where a job did not run to its end.
+ghost use Rattle.std.specs.Prelude.{◌<◌};
+
+use flash_model::Geometry;
+use fs_types::{Fault, MAX_VERSIONS, MIN_BLOCK_BYTES, MIN_VERSIONS, Path};
+use host_files::{ImageFiles, Source, SourceKind, UnreadCause};
+use image_jobs::{Failure, SourceFault, explain_refusal, explain_unread};
+use jobs::{Job, Task};
+use script::print_name;
+use script_runs::Refusal;
+use std::alloc::{AllocError, Global};
+use std::io;
+use std::io::Write;
+
+/// Bytes of the largest block.
+const MAX_BLOCK_BYTES: usize = 262_144;
+
+/// Bytes of a node of a file before its data.
+const NODE_HEADER: usize = 80;
+
+/// Bytes of the largest flash.
+const MAX_FLASH_BYTES: usize = 67_108_864;
+
+/// Tells why a job did not run to its end, unless that was told before: a put tells by itself what was
+/// refused.
+pub fn tell_failure<F: ImageFiles, E: Write>(
+    files: &F,
+    alloc: Global,
+    job: Job<'_>,
+    failure: Failure,
+    err: &mut E,
+) {
+    let _ = match (job.command, failure) {
+        (Task::Put, Failure::Refused(_)) => Ok(()),
+        (Task::Format | Task::FormatPart | Task::ToRaw | Task::FromRaw, Failure::System(fault)) =>
+            tell_refused_sizes(alloc, job, fault, err),
+        _ => {
+            let read = read_by(job);
+            failure.explain(read, unread_cause(files, job, read), written_by(job), err);
+            Ok(())
+        }
+    };
+}
+
+/// A word of a job; the empty one where it has none.
+fn word_given(word: Option<&str>) -> &str {
+    word.unwrap_or("")
+}
+
+/// The name of what a job reads.
+fn read_by(job: Job<'_>) -> &str {
+    match job.command {
+        Task::Serve => word_given(job.answers),
+        Task::ServePart => word_given(job.part),
+        Task::FromPart | Task::FromRaw => word_given(job.file),
+        _ => word_given(job.image),
+    }
+}
+
+/// The name of what a job writes.
+fn written_by(job: Job<'_>) -> &str {
+    match job.command {
+        Task::Get | Task::ToPart | Task::ToRaw => word_given(job.file),
+        Task::Serve => word_given(job.orders),
+        Task::ServePart | Task::FormatPart => word_given(job.part),
+        _ => word_given(job.image),
+    }
+}
+
+/// Why what a job reads cannot be read, where that is known: the answers of a driver are no file.
+fn unread_cause<F: ImageFiles>(files: &F, job: Job<'_>, name: &str) -> Option<UnreadCause> {
+    match job.command {
+        Task::Serve => None,
+        _ => files.unread_cause(name),
+    }
+}
+
+/// Tells why sizes are refused, with the number that they are refused for.
+fn tell_refused_sizes<E: Write>(
+    alloc: Global,
+    job: Job<'_>,
+    fault: Fault,
+    err: &mut E,
+) -> io::Result<()> {
+    let refusal = Refusal::Fault(fault);
+    match refused_number(alloc, job, fault) {
+        Ok(Some(number)) => explain_refusal(refusal, Some(number.as_str()), err),
+        _ => explain_refusal(refusal, None, err),
+    }
+}
+
+/// The number that a job is refused for, if it is one, with what it may be.
+fn refused_number(alloc: Global, job: Job<'_>, fault: Fault) -> Result<Option<String>, AllocError> {
+    let text = match (fault, job.command) {
+        (Fault::BadGeometry, Task::ToRaw) => {
+            String::from_str(alloc, "its pages are not 256 bytes, 16 in a block")?
+        }
+        (Fault::BadGeometry, Task::FromRaw) => refused_raw(alloc, job)?,
+        (Fault::BadGeometry, _) => refused_size(alloc, sizes_of(job))?,
+        (Fault::Invalid, _) => {
+            let history = job.history;
+            format!(in alloc; "--history {history} is not {MIN_VERSIONS} to {MAX_VERSIONS}")?
+        }
+        _ => return Ok(None),
+    };
+    Ok(Some(text))
+}
+
+fn sizes_of(job: Job<'_>) -> Geometry {
+    Geometry {
+        page: job.page,
+        pages: job.pages,
+        blocks: job.blocks,
+    }
+}
+
+/// The first of the sizes for the bytes of a part that is none, or that their length is.
+fn refused_raw(alloc: Global, job: Job<'_>) -> Result<String, AllocError> {
+    let page = job.page;
+    let pages = job.pages;
+    if page != 256 {
+        return format!(in alloc; "--page {page} is not 256");
+    }
+    if pages != 16 {
+        return format!(in alloc; "--pages {pages} is not 16");
+    }
+    String::from_str(
+        alloc,
+        "it has not 8192 bytes for each of 16 to 16384 blocks",
+    )
+}
+
+/// The first of the sizes that is none, with what it may be beside those before it.
+fn refused_size(alloc: Global, sizes: Geometry) -> Result<String, AllocError> {
+    let Geometry {
+        page,
+        pages,
+        blocks,
+    } = sizes;
+    if !matches!(page, 256 | 512 | 1024 | 2048 | 4096) {
+        return format!(in alloc; "--page {page} is not 256, 512, 1024, 2048 or 4096");
+    }
+    let bytes = sizes.block_bytes();
+    if bytes < MIN_BLOCK_BYTES || bytes > MAX_BLOCK_BYTES {
+        let least = MIN_BLOCK_BYTES / page as usize;
+        let most = MAX_BLOCK_BYTES / page as usize;
+        return format!(in alloc; "--pages {pages} is not {least} to {most} for this page");
+    }
+    let most = MAX_FLASH_BYTES / bytes;
+    format!(in alloc; "--blocks {blocks} is not 16 to {most} for these blocks")
+}
+
+/// Tells why a source is not put: with its name, or with its place in the image where that was refused on
+/// a flash of these sizes.
+pub fn tell_unput<F: ImageFiles, E: Write>(
+    files: &F,
+    alloc: Global,
+    failure: Failure,
+    source: &Source,
+    place: Option<Path>,
+    sizes: Geometry,
+    err: &mut E,
+) {
+    match (failure, place) {
+        (Failure::Refused(refusal), Some(place)) => {
+            tell_refused(alloc, refusal, &place, bytes_of(source), sizes, err);
+        }
+        (Failure::Refused(refusal), None) => tell_refusal(refusal, "", err),
+        _ => tell_misplaced(files, failure, source, err),
+    }
+}
+
+/// Tells why what stands at a name of the host is not put.
+pub fn tell_misplaced<F: ImageFiles, E: Write>(
+    files: &F,
+    failure: Failure,
+    source: &Source,
+    err: &mut E,
+) {
+    let name = source.name.as_str();
+    match failure {
+        Failure::Source(SourceFault::Unreadable) => {
+            tell_unread(name, files.unread_cause(name), err);
+        }
+        Failure::Source(fault) => tell_fault(fault, name, err),
+        _ => {}
+    }
+}
+
+/// Tells that what is to be put cannot be read, with why: a folder may be one.
+fn tell_unread<E: Write>(name: &str, cause: Option<UnreadCause>, err: &mut E) {
+    let _ = match cause {
+        Some(UnreadCause::Folder) => writeln!(
+            err,
+            "uffs: cannot read {name}: it may not be listed, or a name in it is not UTF-8"
+        ),
+        _ => explain_unread(name, cause, err),
+    };
+}
+
+/// Tells that a link is left out.
+pub fn tell_left_out<E: Write>(name: &str, err: &mut E) {
+    let _ = writeln!(err, "uffs: left out {name}: it is a link");
+}
+
+/// Tells why what has a name is not put.
+pub fn tell_fault<E: Write>(fault: SourceFault, name: &str, err: &mut E) {
+    let _ = writeln!(err, "uffs: cannot put {name}: {fault}");
+}
+
+/// Tells that something is refused, which is named so.
+pub fn tell_refusal<E: Write>(refusal: Refusal, what: &str, err: &mut E) {
+    let named = if what.is_empty() { None } else { Some(what) };
+    let _ = explain_refusal(refusal, named, err);
+}
+
+/// Tells that a file of so many bytes, or a directory, is refused at a path. Where the flash is full that
+/// says how many blocks the bytes take.
+pub fn tell_refused<E: Write>(
+    alloc: Global,
+    refusal: Refusal,
+    place: &Path,
+    bytes: u64,
+    sizes: Geometry,
+    err: &mut E,
+) {
+    match refused_text(alloc, refusal, place, bytes, sizes) {
+        Ok(text) => tell_refusal(refusal, text.as_str(), err),
+        Err(_) => tell_refusal(refusal, "", err),
+    }
+}
+
+/// What is told of a path that is refused.
+fn refused_text(
+    alloc: Global,
+    refusal: Refusal,
+    place: &Path,
+    bytes: u64,
+    sizes: Geometry,
+) -> Result<String, AllocError> {
+    let mut text = place_text(alloc, place)?;
+    if refusal == Refusal::Fault(Fault::FlashFull) && bytes > 0 {
+        let blocks = blocks_for(bytes, sizes);
+        write!(text, ", blocks for its bytes: {blocks}")?;
+    }
+    Ok(text)
+}
+
+/// How many bytes a source has; none for a folder.
+fn bytes_of(source: &Source) -> u64 {
+    match source.kind {
+        SourceKind::File(bytes) => bytes,
+        _ => 0,
+    }
+}
+
+/// How many blocks so many bytes of a file take.
+fn blocks_for(bytes: u64, sizes: Geometry) -> u64
+    requires { 0 < bytes }
+{
+    let room = sizes.block_bytes().saturating_sub(NODE_HEADER).max(1);
+    (bytes - 1) / room as u64 + 1
+}
+
+/// A path, spelled as in a script.
+fn place_text(alloc: Global, place: &Path) -> Result<String, AllocError> {
+    let mut bytes = Vec::new(alloc);
+    if place.names().is_empty() {
+        bytes.push(b'/')?;
+    }
+    for name in place.names() {
+        bytes.push(b'/')?;
+        print_name(&mut bytes, name.as_bytes())?;
+    }
+    match String::from_utf8(bytes) {
+        Ok(text) => Ok(text),
+        Err(_) => Ok(String::new(alloc)),
+    }
+}

@@ -1,0 +1,8 @@
+//! What is done with the bytes of a serial NOR part: they are made of an image, and become one.
+//!
+//! Their layout is that of `raw_part`, and the files are claimed by `host_files`.
+#![tactic(auto)]
+
+mod making;
+
+pub use making::{image_to_raw, raw_to_image};

@@ -4,8 +4,9 @@ use Rattle.host_files.specs.Files.{Held, KeepsOthers}
 use Rattle.image_jobs.specs.Images.{host_at}
 use Rattle.image_jobs.specs.declared.failure.Failure.{Failure}
 use Rattle.jobs.specs.declared.tasks.Job.{Job}
-use Rattle.shell.specs.Asking.{file_spelled}
-use Rattle.shell.specs.Tools.{GetEnds, GetsTo, TellEnds, is_stream, word_given}
+use Rattle.inquiry_jobs.specs.Asking.{file_spelled}
+use Rattle.inquiry_jobs.specs.Tellings.{GetEnds, TellEnds}
+use Rattle.shell.specs.Tools.{GetsTo, is_stream, word_given}
 
 -- to the output, where the word of the file is that of a stream
 pub told_to : (job : Job) (name path file : List ℕ) (held : Held) (result : Result (Unit {0}) Failure) (input old new : Option (List ℕ))

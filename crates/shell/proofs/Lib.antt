@@ -1,10 +1,5 @@
-pub mod AskLemmas
-pub mod BatchLemmas
 pub mod ExplainLemmas
 pub mod GetLemmas
-pub mod InputLemmas
-pub mod MirrorLemmas
 pub mod MemoryWords
-pub mod PutLemmas
-pub mod SourceLemmas
+pub mod PutFromLemmas
 pub mod ToolLemmas

@@ -1,9 +1,2 @@
-pub mod Asking
-pub mod Batches
 pub mod Explained
-pub mod Inputs
-pub mod Mirrors
-pub mod Places
-pub mod Puts
-pub mod Served
 pub mod Tools

@@ -1,34 +1,26 @@
 -- What the program does on the files of images, on its input and on its output, and its status, for each way it ends.
-use Rattle.std.specs.Prelude.{◌≡◌, ◌≢◌, ◌⊎◌, ℕ, Bool, true, false, if◌then◌else◌, Option, Some, None, Result, Ok, Err, IfSome, List, [], ◌∷◌, take, codes}
+use Rattle.std.specs.Prelude.{◌≡◌, ◌≢◌, ◌⊎◌, ℕ, Bool, true, false, if◌then◌else◌, Option, Some, None, Result, Ok, Err, IfSome, List, [], ◌∷◌, codes}
 use Rattle.std.specs.Borrow.{Bor}
 use Rattle.std.specs.Str.{bytes_eq}
-use Rattle.std.specs.Io.KnownBytes.{Appends}
 use Rattle.clap.specs.Words.{fault_of}
 use Rattle.clap.specs.declared.error.kind.ErrorKind.{ErrorKind}
-use Rattle.fs_types.specs.Names.{Path}
-use Rattle.flash_model.specs.Simulation.{device_of}
-use Rattle.flash_model.specs.declared.sim_flash.SimFlash.{SimFlash}
 use Rattle.flash_model.specs.declared.geometry.Geometry.{Geometry}
-use Rattle.flash_image.specs.Images.{image_of}
 use Rattle.jobs.specs.Grammar.{uffs}
 use Rattle.jobs.specs.Jobs.{AsksFor}
 use Rattle.jobs.specs.declared.tasks.Job.{Job}
 use Rattle.jobs.specs.declared.tasks.Task.{Task}
 use Rattle.inquiries.specs.declared.inquiry.Inquiry.{Inquiry}
 use Rattle.shell.specs.Explained.{ExplainEnds, HelpEnds, PrintEnds, version_line}
-use Rattle.shell.specs.Asking.{file_spelled, tree_spelled, differences_spelled, IsMisspelled, IsToldBy, UntoldBy}
+use Rattle.inquiry_jobs.specs.Asking.{file_spelled, tree_spelled, differences_spelled}
 use Rattle.image_jobs.specs.Failures.{of_image, of_script, of_system, job_status, status_of}
-use Rattle.image_jobs.specs.Images.{IsSpelledFlash, LoadCause, IsUnclaimed, Unsaved, SavesChange, ChangeUnsaved, FormatEnds, Host, streams_of, RunEnds, LookEnds, CheckEnds}
-use Rattle.host_files.specs.Files.{Held, KeepsOthers, takes_away}
+use Rattle.image_jobs.specs.Images.{FormatEnds, Host, streams_of, RunEnds, LookEnds, CheckEnds}
+use Rattle.host_files.specs.Files.{Held, KeepsOthers}
 use Rattle.script_runs.specs.Memory.{memory_sizes, EndsInMemory}
-use Rattle.shell.specs.Inputs.{InputEnds}
-use Rattle.shell.specs.Mirrors.{wants_folder, kept_asked, PutsOver, OverCause}
-use Rattle.shell.specs.Puts.{IsAsked, GatherCause, is_no_folder, left_in}
-use Rattle.put_removals.specs.declared.kept.Kept.{Kept}
+use Rattle.put_jobs.specs.Inputs.{InputEnds}
+use Rattle.put_jobs.specs.Mirrors.{wants_folder}
 use Rattle.script_runs.specs.Scripts.{Streams}
 use Rattle.host_files.specs.Sources.{Found, Gathered}
 use Rattle.host_files.specs.Streams.{Written}
-use Rattle.shell.specs.Places.{AreOthers}
 use Rattle.history_jobs.specs.Histories.{HistoryEnds, history_spelled}
 use Rattle.part_jobs.specs.Making.{FormatPartEnds, ToPartEnds, FromPartEnds}
 use Rattle.part_jobs.specs.Serving.{ServePartEnds}
@@ -38,77 +30,8 @@ use Rattle.script_runs.specs.declared.scripts.ScriptFault.{ScriptFault}
 use Rattle.told_flash.specs.declared.start.StartFault.{StartFault}
 use Rattle.told_sessions.specs.Sessions.{SessionEnds}
 use Rattle.told_sessions.specs.declared.session_fault.SessionFault.{SessionFault}
-
--- sources are put into an image, of which the bytes are those of the claimed file, on a flash of them that gives the flash as it is
--- left; what is removed first is that of the image's tree
-abbrev pub PutsInto : List ℕ → (List ℕ → Type 0) → Path → Option (List Kept) → List Found → Held → SimFlash → SimFlash → Type 0
-PutsInto name IsClaimed base kept all held start end = IsClaimed (image_of (device_of start)) × PutsOver (IsSpelledFlash (held name)) held base kept all start end
-
--- why they are not: the image is not claimed, or not had, or its cause has what is put
-abbrev pub UnputCause : List ℕ → Path → Option (List Kept) → List Found → Held → Failure → Type 0
-UnputCause name base kept all held failure = IsUnclaimed failure ⊎ (LoadCause (held name) failure ⊎ OverCause (IsSpelledFlash (held name)) (LoadCause (held name)) held base kept all failure)
-
--- sources are put into an image, which is written then. Else no file changes, or the image that is left is not written, or not for
--- good
-abbrev pub SourcesEnd : List ℕ → (List ℕ → Type 0) → Path → Option (List Kept) → List Found → Held → Held → Result (Unit {0}) Failure → Type 0
-SourcesEnd name IsClaimed base kept all held saved (Ok done) = (start : SimFlash) × (end : SimFlash) × PutsInto name IsClaimed base kept all held start end
-    × SavesChange name held saved (image_of (device_of start)) (image_of (device_of end))
-SourcesEnd name IsClaimed base kept all held saved (Err failure) = (UnputCause name base kept all held failure × (saved ≡ held))
-    ⊎ ((start : SimFlash) × (end : SimFlash) × PutsInto name IsClaimed base kept all held start end
-    × ChangeUnsaved name held saved (image_of (device_of start)) (image_of (device_of end)) failure)
-
--- all that stands at a name of the host is put into an image, below the path that a word spells, but for what is left out; none of
--- it is the image or its new file, by their names
-abbrev pub PutEnds : Bool → Bool → List ℕ → List ℕ → (List ℕ → Type 0) → Held → Held → Option (List Found) → Result (Unit {0}) Failure → Type 0
-PutEnds mirror skips name word IsClaimed held saved gathered result =
-    ((base : Path) × (all : List Found) × IsAsked gathered word base all × (is_no_folder (wants_folder mirror skips) all ≡ false) × AreOthers name (left_in skips all)
-    × SourcesEnd name IsClaimed base (kept_asked mirror all) (left_in skips all) held saved result)
-    ⊎ ((failure : Failure) × (result ≡ Err failure) × GatherCause (wants_folder mirror skips) skips name gathered word failure × (saved ≡ held))
-
--- these bytes are told of an image, or why nothing is
-abbrev pub IsTold : Option (List ℕ) → Inquiry → List ℕ → Type 0
-IsTold held = IsToldBy (IsSpelledFlash held)
-
-abbrev pub UntoldCause : Option (List ℕ) → Inquiry → Failure → Type 0
-UntoldCause held = UntoldBy (IsSpelledFlash held) (LoadCause held)
-
--- words spell an inquiry, and these bytes are told of an image
-pub record IsAnswer (spelled : Result Inquiry Failure) (held : Option (List ℕ)) (bytes : List ℕ) : Type 0 where
-  pub inquiry : Inquiry
-  pub is : spelled ≡ Ok inquiry
-  pub told : IsTold held inquiry bytes
-
--- why nothing is: the words spell none, or nothing is told
-abbrev pub IsUnanswered : Result Inquiry Failure → Option (List ℕ) → Failure → Type 0
-IsUnanswered spelled held failure = IsMisspelled spelled failure ⊎ ((inquiry : Inquiry) × (spelled ≡ Ok inquiry) × UntoldCause held inquiry failure)
-
--- what is told of an image is written; or nothing is told, and nothing is written; or the output fails
-abbrev pub TellEnds : Result Inquiry Failure → Option (List ℕ) → Result (Unit {0}) Failure → Option (List ℕ) → Option (List ℕ) → Type 0
-TellEnds spelled held (Ok done) old new = (bytes : List ℕ) × IsAnswer spelled held bytes × Appends old new bytes
-TellEnds spelled held (Err failure) old new = (IsUnanswered spelled held failure × (new ≡ old))
-    ⊎ ((bytes : List ℕ) × (n : ℕ) × IsAnswer spelled held bytes × (failure ≡ Failure.Output) × Appends old new (take n bytes))
-
--- the job fails where its status is to tell that trees differ, and something is told
-abbrev pub status_of_told : Bool → List ℕ → Result (Unit {0}) Failure
-status_of_told true (byte ∷ bytes) = Err Failure.Differs
-status_of_told _ _ = Ok tt
-
--- what differs between two trees of an image is written, with the status that it asks for; or it is not told, or not written
-abbrev pub DiffEnds : Bool → Result Inquiry Failure → Option (List ℕ) → Result (Unit {0}) Failure → Option (List ℕ) → Option (List ℕ) → Type 0
-DiffEnds exit_code spelled held result old new = ((bytes : List ℕ) × IsAnswer spelled held bytes × Appends old new bytes × (result ≡ status_of_told exit_code bytes))
-    ⊎ ((failure : Failure) × (result ≡ Err failure) × TellEnds spelled held (Err failure) old new)
-
--- what is told of an image is not had: the words spell nothing, or nothing is told, and no file changes; or it is told, and not
--- written to a file, or not for good
-abbrev pub NotGot : Result Inquiry Failure → List ℕ → List ℕ → Held → Held → Failure → Type 0
-NotGot spelled name file held saved failure = (IsUnanswered spelled (held name) failure × (saved ≡ held))
-    ⊎ ((bytes : List ℕ) × IsAnswer spelled (held name) bytes × Unsaved (held file) (saved file) bytes failure)
-
--- what is told of an image is a file of the host then. Else the file is not claimed, and no file changes, as where to replace it
--- takes the image away; or it is not had
-abbrev pub GetEnds : Result Inquiry Failure → List ℕ → List ℕ → Held → Held → Result (Unit {0}) Failure → Type 0
-GetEnds spelled name file held saved (Ok done) = (takes_away file name ≡ false) × ((bytes : List ℕ) × IsAnswer spelled (held name) bytes × IfSome (saved file) (λ all. all ≡ bytes))
-GetEnds spelled name file held saved (Err failure) = (IsUnclaimed failure × (saved ≡ held)) ⊎ ((takes_away file name ≡ false) × NotGot spelled name file held saved failure)
+use Rattle.inquiry_jobs.specs.Tellings.{TellEnds, DiffEnds, GetEnds}
+use Rattle.put_jobs.specs.Putting.{PutEnds}
 
 -- the word of a standard stream in the place of a file
 abbrev pub is_stream : List ℕ → Bool

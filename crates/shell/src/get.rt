@@ -3,10 +3,10 @@ ghost use Rattle.std.specs.Prelude.{◌≡◌, ℕ, Option, List};
 ghost use Rattle.image_jobs.specs.Images.{host_at};
 ghost use Rattle.shell.specs.Tools.{GetsTo, is_stream, word_given};
 
-use crate::asking::{get_file, tell_file};
 use crate::program::word_given;
 use host_files::ImageFiles;
 use image_jobs::Failure;
+use inquiry_jobs::{get_file, tell_file};
 use jobs::Job;
 use std::alloc::Global;
 use std::io::Write;

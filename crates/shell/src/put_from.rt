@@ -2,15 +2,13 @@
 ghost use Rattle.std.specs.Prelude.{◌≡◌, ℕ, Option, List};
 ghost use Rattle.host_files.specs.Files.{ReadsClaimed};
 ghost use Rattle.image_jobs.specs.Images.{host_at};
-ghost use Rattle.shell.specs.Mirrors.{wants_folder};
+ghost use Rattle.put_jobs.specs.Mirrors.{wants_folder};
 ghost use Rattle.shell.specs.Tools.{PutsFrom, StreamEnds, is_stream};
 
-use crate::batch::wants_folder;
 use crate::get::is_stream;
-use crate::put::{Order, put_into_image};
-use crate::put_input::put_input;
 use host_files::{ImageFiles, Sources};
 use image_jobs::Failure;
+use put_jobs::{Order, put_input, put_into_image, wants_folder};
 use std::alloc::Global;
 use std::io::{Read, Write};
 

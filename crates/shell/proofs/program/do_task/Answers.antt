@@ -7,7 +7,7 @@ use Rattle.jobs.specs.declared.tasks.Task.{Task}
 use Rattle.flash_model.specs.declared.geometry.Geometry.{Geometry}
 use Rattle.part_jobs.specs.Making.{ToPartEnds, FromPartEnds}
 use Rattle.raw_jobs.specs.Making.{RawEnds, FromRawEnds}
-use Rattle.shell.proofs.BatchLemmas.{put_by}
+use Rattle.shell.proofs.PutFromLemmas.{put_by}
 use Rattle.shell.specs.Tools.{EndsOn, Known, known_by, word_given}
 use Rattle.shell.proofs.program.do_task.Goals as goal
 

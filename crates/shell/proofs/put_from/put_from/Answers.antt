@@ -2,7 +2,7 @@ use Rattle.std.proofs.Common.{◌∙◌, sym}
 use Rattle.host_files.specs.Files.{ReadsClaimed}
 use Rattle.image_jobs.specs.Images.{host_at}
 use Rattle.shell.specs.Tools.{is_stream}
-use Rattle.shell.proofs.BatchLemmas.{put_files, put_streamed}
+use Rattle.shell.proofs.PutFromLemmas.{put_files, put_streamed}
 use Rattle.shell.proofs.put_from.put_from.Goals as goal
 
 pub returns-then-is_stream : goal.returns-then-is_stream

@@ -1,0 +1,10 @@
+//! What is told of an image: one of its files, its tree, what differs between two of its trees, and what
+//! its versions hold.
+#![tactic(auto)]
+
+mod asking;
+mod path_word;
+mod view_word;
+
+pub use asking::{get_file, of_ask, tell_differences, tell_file, tell_tree, tell_versions};
+pub use path_word::path_of_word;

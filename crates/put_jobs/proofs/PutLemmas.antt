@@ -1,0 +1,431 @@
+-- Events of a put, one after the other, and what comes of them.
+use Rattle.std.proofs.Common.{◌≡◌, ◌<◌, ◌+◌, ◌≤◌, ℕ, List, [], ◌∷◌, ◌++◌, take, drop, map, length, get_or, Option, Some, None, Result, Ok, Err, Bool, true, false, if◌then◌else◌, IfSome, IfOk, IfErr, OnOk, ◌⊎◌, inl, inr, refl, sym, ap, ◌∙◌, subst, append_assoc, append-nil, take_all, take-append-drop}
+use Rattle.std.specs.List.{flat_map, Contains}
+use Rattle.std.proofs.lemmas.List.{take_more, map_more, map-append}
+use Rattle.std.proofs.lemmas.List.Concat.{flat_map-append}
+use Rattle.std.proofs.lemmas.List.Elements.{All-push, Contains-push, Contains-append_left}
+use Rattle.history_machine.specs.History.{Past}
+use Rattle.plain_trees.specs.Trees.{Tree}
+use Rattle.fs_types.specs.Names.{Path, path_refusal}
+use Rattle.fs_types.specs.declared.event.Answer.{Answer}
+use Rattle.fs_types.specs.declared.event.Event.{Event}
+use Rattle.flash_model.specs.Reading.{OnlyReads}
+use Rattle.flash_model.specs.Simulation.{device_of}
+use Rattle.flash_model.specs.declared.sim_flash.SimFlash.{SimFlash}
+use Rattle.flash_image.specs.Images.{image_of}
+use Rattle.system.specs.Mounts.{IsMountOf}
+use Rattle.system.specs.Systems.{IsSystem}
+use Rattle.system.specs.declared.systems.System.{System}
+use Rattle.undofs.specs.Runs.{World, Happens, Run}
+use Rattle.undofs.specs.Sessions.{Stands, world}
+use Rattle.undofs.proofs.SessionSteps.{mount_begins, serve_law}
+use Rattle.image_jobs.specs.Failures.{of_refusal}
+use Rattle.host_files.specs.Files.{Held, AreBytesRead, takes_away}
+use Rattle.put_jobs.specs.Puts.{thing_events, group_start, put_events, group_events, group_end, is_due, stop_of, GoOn, StopLast, IsThingBy, IsThing, AreThings, Carries, StopsWithin, StopsAtEnd, IsUnput, PutsBy, PutCause, FoundCause, GatherCause}
+use Rattle.inquiry_jobs.specs.PathWords.{SpellingCause, path_spelled}
+use Rattle.put_jobs.specs.Served.{Place, place, Turns, ServesAll, Halts, ServesPut, PutsOne, PutsEach, PutsGroup, EndsGroup, PutsAll}
+use Rattle.host_files.specs.Sources.{Found, source_found}
+use Rattle.put_jobs.specs.Places.{put_place, way_fault, kind_fault, either_fault, source_fault, Unplaced, AreOthers}
+use Rattle.script_runs.specs.Flashes.{IsDecoded}
+use Rattle.image_jobs.specs.Images.{DecodeCause, IsUnclaimed, IsUnread, IsSpelledFlash, LoadCause, SavesChange, ChangeUnsaved}
+use Rattle.put_removals.specs.declared.kept.Kept.{Kept}
+use Rattle.put_jobs.specs.Mirrors.{AreRemoved, UnlistedBy, PutsOver, OverCause}
+use Rattle.put_jobs.specs.Putting.{SourcesEnd}
+use Rattle.image_jobs.specs.declared.failure.Failure.{Failure}
+use Rattle.put_jobs.specs.declared.put.Mounted.{Mounted}
+use Rattle.script_runs.specs.declared.scripts.Refusal.{Refusal}
+use Rattle.host_files.specs.declared.source.Source.{Source}
+use Rattle.host_files.specs.declared.source.SourceKind.{SourceKind}
+use Rattle.put_jobs.specs.declared.thing.Thing.{Thing}
+use Rattle.image_jobs.proofs.ImageLemmas.{loaded_front, cause_front, cause_unread}
+
+-- ---- events
+
+pub passes_more : (p q r : Place) (first second : List Event) → ServesAll p first q → ServesAll q second r → ServesAll p (first ++ second) r
+passes_more p q r [] second h rest = subst (λ (x : Place). ServesAll x second r) h rest
+passes_more p q r (event ∷ events) second (answer, between, turns, goes, passes) rest = (answer, between, turns, goes, passes_more between q r events second passes rest)
+
+pub halts_more : (p q r : Place) (first made : List Event) (refusal : Refusal) → ServesAll p first q → Halts q made refusal r → Halts p (first ++ made) refusal r
+halts_more p q r first made refusal passes h = record {
+  earlier = first ++ h.earlier;
+  last = h.last;
+  answer = h.answer;
+  between = h.between;
+  are = ap (λ (x : List Event). first ++ x) h.are ∙ sym (append_assoc first h.earlier (h.last ∷ []));
+  passes = passes_more p q h.between first h.earlier passes h.passes;
+  turns = h.turns;
+  stops = h.stops;
+}
+
+-- the next of some events is served
+pub asks_next : (events : List Event) (i : ℕ) (event : Event) (p q r : Place) (answer : Answer) → i < length events → event ≡ get_or events i event
+    → ServesAll p (take i events) q → Turns q event answer r → stop_of event answer ≡ None → ServesAll p (take (i + 1) events) r
+asks_next events i event p q r answer below is passes turns goes =
+    let one : ServesAll q (event ∷ []) r = (answer, r, turns, goes, refl) in
+    let all : ServesAll p (take i events ++ event ∷ []) r = passes_more p q r (take i events) (event ∷ []) passes one in
+    subst (λ (x : List Event). ServesAll p x r) (sym (take_more events i event below ∙ ap (λ (x : Event). take i events ++ x ∷ []) (sym is))) all
+
+pub asks_all : (events : List Event) (i : ℕ) (p q : Place) → length events ≤ i → ServesAll p (take i events) q → ServesAll p events q
+asks_all events i p q over passes = subst (λ (x : List Event). ServesAll p x q) (take_all i events over) passes
+
+pub asks_halted : (events : List Event) (i : ℕ) (event : Event) (p q r : Place) (answer : Answer) (refusal : Refusal) → i < length events → event ≡ get_or events i event
+    → ServesAll p (take i events) q → Turns q event answer r → stop_of event answer ≡ Some refusal → ServesPut p events (Err refusal) r
+asks_halted events i event p q r answer refusal below is passes turns stops =
+    let made : List Event = take i events ++ event ∷ [] in
+    let is_made : take (i + 1) events ≡ made = take_more events i event below ∙ ap (λ (x : Event). take i events ++ x ∷ []) (sym is) in (
+      made,
+      drop (i + 1) events,
+      sym (take-append-drop (i + 1) events) ∙ ap (λ (x : List Event). x ++ drop (i + 1) events) is_made,
+      record { earlier = take i events; last = event; answer = answer; between = q; are = refl; passes = passes; turns = turns; stops = stops },
+    )
+
+-- ---- sources
+
+things_more : (held : Held) (base : Path) (all : List Found) (things : List Thing) (found : Found) (thing : Thing)
+    → AreThings held base all things → IsThing held base found thing → AreThings held base (all ++ found ∷ []) (things ++ thing ∷ [])
+things_more held base [] [] found thing h is = (is, tt)
+things_more held base [] (other ∷ things) found thing h is = absurd h
+things_more held base (other ∷ all) [] found thing h is = absurd h
+things_more held base (one ∷ all) (other ∷ things) found thing h is = (h.0, things_more held base all things found thing h.1 is)
+
+events_more : (things : List Thing) (thing : Thing) → flat_map thing_events (things ++ thing ∷ []) ≡ flat_map thing_events things ++ thing_events thing
+events_more things thing = flat_map-append thing_events things (thing ∷ []) ∙ ap (λ (x : List Event). flat_map thing_events things ++ x) (append-nil (thing_events thing))
+
+-- so many sources were put so far
+abbrev pub HasPut : Held → Path → List Found → Place → Place → Type 0
+HasPut held base all p q = PutsEach held base all p (Ok tt) q
+
+pub none_put : (held : Held) (base : Path) (p : Place) → HasPut held base [] p p
+none_put held base p = ([], tt, refl)
+
+found_more : (sources : List Source) (i : ℕ) (source : Source) → i < length sources → source ≡ get_or sources i source
+    → map source_found (take (i + 1) sources) ≡ map source_found (take i sources) ++ source_found source ∷ []
+found_more sources i source below is = map_more source_found sources i source below ∙ ap (λ (x : Source). map source_found (take i sources) ++ source_found x ∷ []) (sym is)
+
+-- the sources up to one, and those after it
+parted : (sources : List Source) (i : ℕ) (source : Source) → i < length sources → source ≡ get_or sources i source
+    → map source_found sources ≡ (map source_found (take i sources) ++ source_found source ∷ []) ++ map source_found (drop (i + 1) sources)
+parted sources i source below is =
+    ap (map source_found) (sym (take-append-drop (i + 1) sources)) ∙ map-append source_found (take (i + 1) sources) (drop (i + 1) sources)
+    ∙ ap (λ (x : List Found). x ++ map source_found (drop (i + 1) sources)) (found_more sources i source below is)
+
+pub among : (sources : List Source) (i : ℕ) (source : Source) → i < length sources → source ≡ get_or sources i source → Contains (map source_found sources) (source_found source)
+among sources i source below is =
+    let first : List Found = map source_found (take i sources) in
+    subst (λ (x : List Found). Contains x (source_found source)) (sym (parted sources i source below is))
+    (Contains-append_left (first ++ source_found source ∷ []) (map source_found (drop (i + 1) sources)) (source_found source) (Contains-push first (source_found source)))
+
+pub puts_next : (held : Held) (base : Path) (sources : List Source) (i : ℕ) (source : Source) (p q r : Place) → i < length sources → source ≡ get_or sources i source
+    → HasPut held base (map source_found (take i sources)) p q → PutsOne held base (source_found source) q (Ok tt) r → HasPut held base (map source_found (take (i + 1) sources)) p r
+puts_next held base sources i source p q r below is (things, are, passes) (thing, one, more) =
+    let all : ServesAll p (flat_map thing_events things ++ thing_events thing) r = passes_more p q r (flat_map thing_events things) (thing_events thing) passes more in
+    subst (λ (x : List Found). HasPut held base x p r) (sym (found_more sources i source below is)) (
+      things ++ thing ∷ [],
+      things_more held base (map source_found (take i sources)) things (source_found source) thing are one,
+      subst (λ (x : List Event). ServesAll p x r) (sym (events_more things thing)) all,
+    )
+
+pub puts_all : (held : Held) (base : Path) (sources : List Source) (i : ℕ) (p q : Place) → length sources ≤ i → HasPut held base (map source_found (take i sources)) p q
+    → PutsEach held base (map source_found sources) p (Ok tt) q
+puts_all held base sources i p q over h = subst (λ (x : List Source). HasPut held base (map source_found x) p q) (take_all i sources over) h
+
+pub puts_broken : (held : Held) (base : Path) (sources : List Source) (i : ℕ) (source : Source) (p q r : Place) (failure : Failure) → i < length sources → source ≡ get_or sources i source
+    → HasPut held base (map source_found (take i sources)) p q → PutsOne held base (source_found source) q (Err failure) r → PutsEach held base (map source_found sources) p (Err failure) r
+puts_broken held base sources i source p q r failure below is h (inl unput) = inr (inl (source_found source, among sources i source below is, unput))
+puts_broken held base sources i source p q r failure below is (things, are, passes) (inr (thing, made, rest, refusal, one, begins, halts, why)) =
+    let earlier : List Event = flat_map thing_events things in
+    inr (inr (
+      map source_found (take i sources) ++ source_found source ∷ [],
+      map source_found (drop (i + 1) sources),
+      things ++ thing ∷ [],
+      earlier ++ made,
+      rest,
+      refusal,
+      parted sources i source below is,
+      things_more held base (map source_found (take i sources)) things (source_found source) thing are one,
+      events_more things thing ∙ ap (λ (x : List Event). earlier ++ x) begins ∙ sym (append_assoc earlier made rest),
+      halts_more p q r earlier made refusal passes halts,
+      why,
+    ))
+
+-- ---- the change group
+
+-- it begins, and events are served in it
+pub served_in : (p mid q : Place) (events : List Event) (result : Result (Unit {0}) Refusal) → ServesAll p group_start mid → ServesPut mid events result q → ServesPut p (group_start ++ events) result q
+served_in p mid q events (Ok done) begun rest = passes_more p mid q group_start events begun rest
+served_in p mid q events (Err refusal) begun (made, rest, is, halts) =
+    (group_start ++ made, rest, ap (λ (x : List Event). group_start ++ x) is ∙ sym (append_assoc group_start made rest), halts_more p mid q group_start made refusal begun halts)
+
+-- it does not
+pub served_without : (p q : Place) (events : List Event) (refusal : Refusal) → ServesPut p group_start (Err refusal) q → ServesPut p (group_start ++ events) (Err refusal) q
+served_without p q events refusal (made, rest, is, halts) = (made, rest ++ events, ap (λ (x : List Event). x ++ events) is ∙ append_assoc made rest events, halts)
+
+-- it does not begin, or what is removed first is refused
+pub unbegun : (removed : List Event) (held : Held) (base : Path) (all : List Found) (p q : Place) (refusal : Refusal) (failure : Failure) → ServesPut p (group_start ++ removed) (Err refusal) q
+    → failure ≡ of_refusal refusal → PutsGroup removed held base all p (Err failure) q
+unbegun removed held base all p q refusal failure (made, rest, begins, halts) why =
+    inr (inr ([], all, [], made, rest, refusal, refl, tt, ap (λ (x : List Event). group_start ++ x) (append-nil removed) ∙ begins, halts, why))
+
+-- it begins, and sources are put in it
+pub grouped : (removed : List Event) (held : Held) (base : Path) (all : List Found) (p q r : Place) (result : Result (Unit {0}) Failure) → ServesAll p (group_start ++ removed) q
+    → PutsEach held base all q result r → PutsGroup removed held base all p result r
+grouped removed held base all p q r (Ok done) begun (things, are, passes) = (things, are, passes_more p q r (group_start ++ removed) (flat_map thing_events things) begun passes)
+grouped removed held base all p q r (Err failure) begun (inl memory) = inl memory
+grouped removed held base all p q r (Err failure) begun (inr (inl cause)) = inr (inl cause)
+grouped removed held base all p q r (Err failure) begun (inr (inr (first, later, things, made, rest, refusal, parts, are, begins, halts, why))) =
+    let is : group_events removed things ≡ ((group_start ++ removed) ++ made) ++ rest = ap (λ (x : List Event). (group_start ++ removed) ++ x) begins ∙ sym (append_assoc (group_start ++ removed) made rest) in
+    inr (inr (first, later, things, (group_start ++ removed) ++ made, rest, refusal, parts, are, is, halts_more p q r (group_start ++ removed) made refusal begun halts, why))
+
+-- so many events end it
+pub ended_by : (p q : Place) (result : Result (Unit {0}) Refusal) (due : Bool) (count : ℕ) → due ≡ is_due p.system → count ≡ (if due then 2 else 1) → ServesPut p (take count (group_end true)) result q
+    → EndsGroup p result q
+ended_by p q result due count is so h = by due is (subst (λ (n : ℕ). ServesPut p (take n (group_end true)) result q) so h)
+  where
+    by : (due : Bool) → due ≡ is_due p.system → ServesPut p (take (if due then 2 else 1) (group_end true)) result q → EndsGroup p result q
+    by true is h = subst (λ (x : Bool). ServesPut p (group_end x) result q) is h
+    by false is h = subst (λ (x : Bool). ServesPut p (group_end x) result q) is h
+
+-- ---- sessions
+
+passes_run : (p q : Place) (events : List Event) → ServesAll p events q → (found : List (Past Tree)) → Stands (world p.device p.system found)
+    → (more : List (Past Tree)) × (answers : List Answer) × Run (world p.device p.system found) events answers (world q.device q.system more) × GoOn events answers × Stands (world q.device q.system more)
+passes_run p q [] h found stands =
+    let same : world q.device q.system found ≡ world p.device p.system found = ap (λ (x : Place). world x.device x.system found) h in
+    (found, [], same, tt, subst Stands (sym same) stands)
+passes_run p q (event ∷ events) (answer, between, turns, goes, rest) found stands =
+    let one = serve_law p.device between.device p.system between.system event answer found turns stands in
+    let all = passes_run between q events rest one.0 one.2 in
+    (all.0, answer ∷ all.1, (world between.device between.system one.0, one.1, all.2), (goes, all.3), all.4)
+
+run_more : (u v w : World) (events : List Event) (answers : List Answer) (event : Event) (answer : Answer) → Run u events answers v → Happens v event answer w
+    → Run u (events ++ event ∷ []) (answers ++ answer ∷ []) w
+run_more u v w [] [] event answer h one = (w, subst (λ (x : World). Happens x event answer w) h one, refl)
+run_more u v w [] (other ∷ answers) event answer h one = absurd h
+run_more u v w (other ∷ events) [] event answer h one = absurd h
+run_more u v w (e ∷ events) (a ∷ answers) event answer h one = (h.0, h.1, run_more h.0 v w events answers event answer h.2 one)
+
+stop_last : (events : List Event) (answers : List Answer) (event : Event) (answer : Answer) (refusal : Refusal) → GoOn events answers → stop_of event answer ≡ Some refusal
+    → StopLast (events ++ event ∷ []) (answers ++ answer ∷ []) refusal
+stop_last [] [] event answer refusal h is = is
+stop_last [] (a ∷ answers) event answer refusal h is = absurd h
+stop_last (e ∷ events) [] event answer refusal h is = absurd h
+stop_last (e ∷ []) (a ∷ []) event answer refusal h is = (h.0, is)
+stop_last (e ∷ []) (a ∷ other ∷ answers) event answer refusal h is = absurd h.1
+stop_last (e ∷ next ∷ events) (a ∷ answers) event answer refusal h is = (h.0, stop_last (next ∷ events) answers event answer refusal h.1 is)
+
+pub put_session : (start mid : SimFlash) (m : System) (inside : Place) (end : Mounted) (events : List Event) → OnlyReads (device_of start) (device_of mid) → IsMountOf (device_of start) (device_of mid) m
+    → IsSystem (device_of mid) m → ServesAll (record { device = device_of mid; system = Some m }) (group_start ++ events) inside → EndsGroup inside (Ok tt) (place end) → Carries start events end.flash
+put_session start mid m inside end events reads begins system passes ended =
+    let first = mount_begins (device_of start) (device_of mid) m reads begins system in
+    let all = passes_run (record { device = device_of mid; system = Some m }) inside (group_start ++ events) passes (first.0 ∷ []) first.3 in
+    let last = passes_run inside (place end) (group_end (is_due inside.system)) ended all.0 all.4 in
+    let u : World = world (device_of mid) (Some m) (first.0 ∷ []) in
+    let w : World = world inside.device inside.system all.0 in (
+      w,
+      world (device_of end.flash) end.system last.0,
+      last.1,
+      record { answers = all.1; run = (first.0, u, first.1, first.2, all.2); goes = all.3 },
+      last.2,
+      refl,
+      last.3,
+    )
+
+-- from a world on, the first of some events are carried out, and the answer to the last of them ends the put
+halted_run : (p q : Place) (made : List Event) (refusal : Refusal) (found : List (Past Tree)) → Stands (world p.device p.system found) → Halts p made refusal q
+    → (w : World) × (answers : List Answer) × Run (world p.device p.system found) made answers w × StopLast made answers refusal
+halted_run p q made refusal found stands h =
+    let all = passes_run p h.between h.earlier h.passes found stands in
+    let one = serve_law h.between.device q.device h.between.system q.system h.last h.answer all.0 h.turns all.4 in
+    let u : World = world p.device p.system found in
+    let v : World = world h.between.device h.between.system all.0 in
+    let w : World = world q.device q.system one.0 in
+    let answers : List Answer = all.1 ++ h.answer ∷ [] in
+    let run : Run u made answers w = subst (λ (x : List Event). Run u x answers w) (sym h.are) (run_more u v w h.earlier all.1 h.last h.answer all.2 one.1) in
+    let last : StopLast made answers refusal = subst (λ (x : List Event). StopLast x answers refusal) (sym h.are) (stop_last h.earlier all.1 h.last h.answer refusal all.3 h.stops) in
+    (w, answers, run, last)
+
+pub stopped_session : (start mid : SimFlash) (m : System) (q : Place) (events : List Event) (made rest : List Event) (refusal : Refusal) → OnlyReads (device_of start) (device_of mid)
+    → IsMountOf (device_of start) (device_of mid) m → IsSystem (device_of mid) m → group_start ++ events ≡ made ++ rest → Halts (record { device = device_of mid; system = Some m }) made refusal q
+    → StopsWithin start events refusal
+stopped_session start mid m q events made rest refusal reads begins system is h =
+    let first = mount_begins (device_of start) (device_of mid) m reads begins system in
+    let all = halted_run (record { device = device_of mid; system = Some m }) q made refusal (first.0 ∷ []) first.3 h in
+    let u : World = world (device_of mid) (Some m) (first.0 ∷ []) in
+    (made, rest, all.1, all.0, is, (first.0, u, first.1, first.2, all.2), all.3)
+
+pub unended_session : (start mid : SimFlash) (m : System) (inside q : Place) (events : List Event) (refusal : Refusal) → OnlyReads (device_of start) (device_of mid) → IsMountOf (device_of start) (device_of mid) m
+    → IsSystem (device_of mid) m → ServesAll (record { device = device_of mid; system = Some m }) (group_start ++ events) inside → EndsGroup inside (Err refusal) q → StopsAtEnd start events refusal
+unended_session start mid m inside q events refusal reads begins system passes (made, rest, is, h) =
+    let first = mount_begins (device_of start) (device_of mid) m reads begins system in
+    let all = passes_run (record { device = device_of mid; system = Some m }) inside (group_start ++ events) passes (first.0 ∷ []) first.3 in
+    let last = halted_run inside q made refusal all.0 all.4 h in
+    let u : World = world (device_of mid) (Some m) (first.0 ∷ []) in
+    let w : World = world inside.device inside.system all.0 in
+    (w, last.0, made, rest, last.1, record { answers = all.1; run = (first.0, u, first.1, first.2, all.2); goes = all.3 }, is, last.2, last.3)
+
+-- ---- one source
+
+-- what is not a folder and may be put is a file
+pub file_thing : (held : Held) (base : Path) (found : Found) (bytes : List ℕ) → source_fault base found ≡ None → (found.kind ≡ SourceKind.Folder → ⊥) → AreBytesRead (held found.name) bytes
+    → IsThing held base found (Thing.File (put_place base found) bytes)
+file_thing held base found bytes lawful other front = (lawful, by_kind found.kind lawful other)
+  where
+    by_kind : (kind : SourceKind) → either_fault (kind_fault kind) (way_fault (path_refusal found.way) (length (put_place base found))) ≡ None → (kind ≡ SourceKind.Folder → ⊥)
+        → IsThingBy held kind (put_place base found) found.name (Thing.File (put_place base found) bytes)
+    by_kind SourceKind.Folder h other = absurd (other refl)
+    by_kind (SourceKind.File n) h other = (bytes, refl, front)
+    by_kind SourceKind.Crowded h other = absurd cc
+    by_kind SourceKind.Link h other = absurd cc
+    by_kind SourceKind.Special h other = absurd cc
+    by_kind SourceKind.Image h other = absurd cc
+    by_kind SourceKind.Unreadable h other = absurd cc
+
+pub folder_thing : (held : Held) (base : Path) (found : Found) → source_fault base found ≡ None → found.kind ≡ SourceKind.Folder → IsThing held base found (Thing.Directory (put_place base found))
+folder_thing held base found lawful is =
+    (lawful, subst (λ (kind : SourceKind). IsThingBy held kind (put_place base found) found.name (Thing.Directory (put_place base found))) (sym is) refl)
+
+pub unput_unplaced : (held : Held) (base : Path) (found : Found) (failure : Failure) → Unplaced base found failure → IsUnput held base found failure
+unput_unplaced held base found Failure.Memory h = tt
+unput_unplaced held base found (Failure.Source fault) h = inl h
+unput_unplaced held base found failure h = absurd h
+
+pub one_put : (held : Held) (base : Path) (found : Found) (thing : Thing) (events lent : List Event) (p q : Place) → IsThing held base found thing → lent ≡ events → events ≡ thing_events thing
+    → ServesPut p lent (Ok tt) q → PutsOne held base found p (Ok tt) q
+one_put held base found thing events lent p q is same are h = (thing, is, subst (λ (x : List Event). ServesAll p x q) (same ∙ are) h)
+
+pub one_stopped : (held : Held) (base : Path) (found : Found) (thing : Thing) (events lent : List Event) (p q : Place) (refusal : Refusal) (failure : Failure) → IsThing held base found thing
+    → lent ≡ events → events ≡ thing_events thing → ServesPut p lent (Err refusal) q → failure ≡ of_refusal refusal → PutsOne held base found p (Err failure) q
+one_stopped held base found thing events lent p q refusal failure is same are (made, rest, begins, halts) why = inr (thing, made, rest, refusal, is, sym (same ∙ are) ∙ begins, halts, why)
+
+-- ---- on what is mounted
+
+pub all_put : (IsThere : SimFlash → Type 0) (removed : List Event) (held : Held) (base : Path) (all : List Found) (start mid : SimFlash) (m : System) (end : Mounted) → IsThere start
+    → OnlyReads (device_of start) (device_of mid) → IsMountOf (device_of start) (device_of mid) m → IsSystem (device_of mid) m
+    → PutsAll removed held base all (record { device = device_of mid; system = Some m }) (Ok tt) (place end) → PutsBy IsThere removed held base all start end.flash
+all_put IsThere removed held base all start mid m end there reads begins system (inside, (things, are, passes), ended) =
+    (things, there, are, put_session start mid m inside end (put_events removed things) reads begins system passes ended)
+
+pub not_put : (IsThere : SimFlash → Type 0) (Cause : Failure → Type 0) (removed : List Event) (held : Held) (base : Path) (all : List Found) (start mid : SimFlash) (m : System) (q : Place) (failure : Failure) → IsThere start
+    → OnlyReads (device_of start) (device_of mid) → IsMountOf (device_of start) (device_of mid) m → IsSystem (device_of mid) m
+    → PutsAll removed held base all (record { device = device_of mid; system = Some m }) (Err failure) q → PutCause IsThere Cause removed held base all failure
+not_put IsThere Cause removed held base all start mid m q failure there reads begins system (inl (inl memory)) = inr (inl memory)
+not_put IsThere Cause removed held base all start mid m q failure there reads begins system (inl (inr (inl cause))) = inr (inr (inl cause))
+not_put IsThere Cause removed held base all start mid m q failure there reads begins system (inl (inr (inr (first, later, things, made, rest, refusal, parts, are, is, halts, why)))) =
+    inr (inr (inr (inr (start, first, later, things, refusal, there, parts, are, inl (stopped_session start mid m q (put_events removed things) made rest refusal reads begins system is halts), why))))
+not_put IsThere Cause removed held base all start mid m q failure there reads begins system (inr (inside, refusal, (things, are, passes), ended, why)) =
+    inr (inr (inr (inr (start, all, [], things, refusal, there, sym (append-nil all), are, inr (unended_session start mid m inside q (put_events removed things) refusal reads begins system passes ended), why))))
+
+-- what is removed first is known
+pub over_done : (IsThere : SimFlash → Type 0) (held : Held) (base : Path) (kept : Option (List Kept)) (all : List Found) (removed lent : List Event) (result : Result SimFlash Failure) → lent ≡ removed
+    → AreRemoved IsThere base kept removed → IfOk result (λ end. (start : SimFlash) × PutsBy IsThere lent held base all start end) → IfOk result (λ end. (start : SimFlash) × PutsOver IsThere held base kept all start end)
+over_done IsThere held base kept all removed lent (Ok end) same are (start, puts) = (start, (lent, subst (AreRemoved IsThere base kept) (sym same) are, puts))
+over_done IsThere held base kept all removed lent (Err failure) same are puts = tt
+
+pub over_undone : (IsThere : SimFlash → Type 0) (Cause : Failure → Type 0) (held : Held) (base : Path) (kept : Option (List Kept)) (all : List Found) (removed lent : List Event) (result : Result SimFlash Failure) → lent ≡ removed
+    → AreRemoved IsThere base kept removed → IfErr result (PutCause IsThere Cause lent held base all) → IfErr result (OverCause IsThere Cause held base kept all)
+over_undone IsThere Cause held base kept all removed lent (Ok end) same are cause = tt
+over_undone IsThere Cause held base kept all removed lent (Err failure) same are cause = inr (lent, subst (AreRemoved IsThere base kept) (sym same) are, cause)
+
+-- ---- the image
+
+puts_front : (held : Held) (name bytes : List ℕ) → AreBytesRead (held name) bytes → (removed : List Event) (base : Path) (all : List Found) (start end : SimFlash) → PutsBy (IsDecoded bytes) removed held base all start end
+    → PutsBy (IsSpelledFlash (held name)) removed held base all start end
+puts_front held name bytes front removed base all start end (things, there, are, puts) = (things, loaded_front (held name) bytes front start there, are, puts)
+
+put_cause : (held : Held) (name bytes : List ℕ) → AreBytesRead (held name) bytes → (removed : List Event) (base : Path) (all : List Found) (failure : Failure)
+    → PutCause (IsDecoded bytes) (DecodeCause bytes) removed held base all failure → PutCause (IsSpelledFlash (held name)) (LoadCause (held name)) removed held base all failure
+put_cause held name bytes front removed base all failure (inl cause) = inl (cause_front (held name) bytes front failure cause)
+put_cause held name bytes front removed base all failure (inr (inl memory)) = inr (inl memory)
+put_cause held name bytes front removed base all failure (inr (inr (inl cause))) = inr (inr (inl cause))
+put_cause held name bytes front removed base all failure (inr (inr (inr (inl (start, end, fault, there, unmounted, why))))) =
+    inr (inr (inr (inl (start, end, fault, loaded_front (held name) bytes front start there, unmounted, why))))
+put_cause held name bytes front removed base all failure (inr (inr (inr (inr (start, first, later, things, refusal, there, parts, are, stops, why))))) =
+    inr (inr (inr (inr (start, first, later, things, refusal, loaded_front (held name) bytes front start there, parts, are, stops, why))))
+
+removed_front : (held : Held) (name bytes : List ℕ) → AreBytesRead (held name) bytes → (base : Path) (kept : Option (List Kept)) (removed : List Event)
+    → AreRemoved (IsDecoded bytes) base kept removed → AreRemoved (IsSpelledFlash (held name)) base kept removed
+removed_front held name bytes front base None removed none = none
+removed_front held name bytes front base (Some kept) removed (items, (first, there, lists), is) = (items, (first, loaded_front (held name) bytes front first there, lists), is)
+
+unlisted_front : (held : Held) (name bytes : List ℕ) → AreBytesRead (held name) bytes → (kept : Option (List Kept)) (failure : Failure)
+    → UnlistedBy (IsDecoded bytes) (DecodeCause bytes) kept failure → UnlistedBy (IsSpelledFlash (held name)) (LoadCause (held name)) kept failure
+unlisted_front held name bytes front None failure cause = absurd cause
+unlisted_front held name bytes front (Some kept) failure (inl cause) = inl (cause_front (held name) bytes front failure cause)
+unlisted_front held name bytes front (Some kept) failure (inr (start, end, fault, there, asked, why)) = inr (start, end, fault, loaded_front (held name) bytes front start there, asked, why)
+
+-- sources are put so whatever the files hold that were claimed, since a claim changes none
+once_claimed : (name : List ℕ) (IsClaimed : List ℕ → Type 0) (base : Path) (kept : Option (List Kept)) (all : List Found) (held claimed saved : Held) (result : Result (Unit {0}) Failure) → claimed ≡ held
+    → SourcesEnd name IsClaimed base kept all claimed saved result → SourcesEnd name IsClaimed base kept all held saved result
+once_claimed name IsClaimed base kept all held claimed saved result same ends = subst (λ (h : Held). SourcesEnd name IsClaimed base kept all h saved result) same ends
+
+sources_unclaimed : (name : List ℕ) (IsClaimed : List ℕ → Type 0) (base : Path) (kept : Option (List Kept)) (all : List Found) (held claimed : Held) (failure : Failure) → claimed ≡ held → IsUnclaimed failure
+    → SourcesEnd name IsClaimed base kept all held claimed (Err failure)
+sources_unclaimed name IsClaimed base kept all held claimed failure same cause = inl (inl cause, same)
+
+sources_unread : (name : List ℕ) (IsClaimed : List ℕ → Type 0) (base : Path) (kept : Option (List Kept)) (all : List Found) (held claimed : Held) (failure : Failure) → claimed ≡ held → IsUnread (claimed name) failure
+    → SourcesEnd name IsClaimed base kept all held claimed (Err failure)
+sources_unread name IsClaimed base kept all held claimed failure same unread =
+    once_claimed name IsClaimed base kept all held claimed claimed (Err failure) same (inl (inr (inl (cause_unread (claimed name) failure unread)), refl))
+
+pub sources_untaken : (name : List ℕ) (IsClaimed : List ℕ → Type 0) (base : Path) (kept : Option (List Kept)) (all : List Found) (held claimed : Held) (failure : Failure) → claimed ≡ held
+    → IsUnclaimed failure ⊎ IsUnread (claimed name) failure → SourcesEnd name IsClaimed base kept all held claimed (Err failure)
+sources_untaken name IsClaimed base kept all held claimed failure same (inl unclaimed) = sources_unclaimed name IsClaimed base kept all held claimed failure same unclaimed
+sources_untaken name IsClaimed base kept all held claimed failure same (inr unread) = sources_unread name IsClaimed base kept all held claimed failure same unread
+
+over_front : (held : Held) (name bytes : List ℕ) → AreBytesRead (held name) bytes → (base : Path) (kept : Option (List Kept)) (all : List Found) (start end : SimFlash) → PutsOver (IsDecoded bytes) held base kept all start end
+    → PutsOver (IsSpelledFlash (held name)) held base kept all start end
+over_front held name bytes front base kept all start end (removed, are, puts) =
+    (removed, removed_front held name bytes front base kept removed are, puts_front held name bytes front removed base all start end puts)
+
+over_cause : (held : Held) (name bytes : List ℕ) → AreBytesRead (held name) bytes → (base : Path) (kept : Option (List Kept)) (all : List Found) (failure : Failure)
+    → OverCause (IsDecoded bytes) (DecodeCause bytes) held base kept all failure → OverCause (IsSpelledFlash (held name)) (LoadCause (held name)) held base kept all failure
+over_cause held name bytes front base kept all failure (inl cause) = inl (unlisted_front held name bytes front kept failure cause)
+over_cause held name bytes front base kept all failure (inr (removed, are, cause)) =
+    inr (removed, removed_front held name bytes front base kept removed are, put_cause held name bytes front removed base all failure cause)
+
+pub sources_unput : (name : List ℕ) (IsClaimed : List ℕ → Type 0) (base : Path) (kept : Option (List Kept)) (all : List Found) (held claimed : Held) (bytes : List ℕ) (failure : Failure) → claimed ≡ held
+    → AreBytesRead (claimed name) bytes → OverCause (IsDecoded bytes) (DecodeCause bytes) claimed base kept all failure → SourcesEnd name IsClaimed base kept all held claimed (Err failure)
+sources_unput name IsClaimed base kept all held claimed bytes failure same front cause =
+    once_claimed name IsClaimed base kept all held claimed claimed (Err failure) same (inl (inr (inr (over_cause claimed name bytes front base kept all failure cause)), refl))
+
+pub sources_saved : (name : List ℕ) (IsClaimed : List ℕ → Type 0) (base : Path) (kept : Option (List Kept)) (all : List Found) (held claimed saved : Held) (bytes lent : List ℕ) (start end : SimFlash)
+    (result : Result (Unit {0}) Failure) → claimed ≡ held → IsClaimed bytes → AreBytesRead (claimed name) bytes → PutsOver (IsDecoded bytes) claimed base kept all start end
+    → lent ≡ bytes → OnOk result (SavesChange name claimed saved lent (image_of (device_of end)))
+    → IfErr result (ChangeUnsaved name claimed saved lent (image_of (device_of end))) → SourcesEnd name IsClaimed base kept all held saved result
+sources_saved name IsClaimed base kept all held claimed saved bytes lent start end (Ok done) same held_so front puts is ok err =
+    let spelled : bytes ≡ image_of (device_of start) = puts.2.1.spelled in
+    once_claimed name IsClaimed base kept all held claimed saved (Ok done) same (
+      start,
+      end,
+      (subst IsClaimed spelled held_so, over_front claimed name bytes front base kept all start end puts),
+      subst (λ (was : List ℕ). SavesChange name claimed saved was (image_of (device_of end))) (is ∙ spelled) ok,
+    )
+sources_saved name IsClaimed base kept all held claimed saved bytes lent start end (Err failure) same held_so front puts is ok err =
+    let spelled : bytes ≡ image_of (device_of start) = puts.2.1.spelled in
+    once_claimed name IsClaimed base kept all held claimed saved (Err failure) same (inr (
+      start,
+      end,
+      (subst IsClaimed spelled held_so, over_front claimed name bytes front base kept all start end puts),
+      subst (λ (was : List ℕ). ChangeUnsaved name claimed saved was (image_of (device_of end)) failure) (is ∙ spelled) err,
+    ))
+
+-- ---- the words
+
+pub unspelled : (is_wanted skips : Bool) (image : List ℕ) (gathered : Option (List Found)) (word : List ℕ) (failure : Failure) → SpellingCause word failure → GatherCause is_wanted skips image gathered word failure
+unspelled is_wanted skips image gathered word failure (inl memory) = inl memory
+unspelled is_wanted skips image gathered word failure (inr refused) = inr (inl refused)
+
+pub unplaced : (is_wanted skips : Bool) (image : List ℕ) (gathered : Option (List Found)) (word : List ℕ) (base : Path) (failure : Failure) → path_spelled word ≡ Ok base
+    → (failure ≡ Failure.Memory) ⊎ ((all : List Found) × IfSome gathered (λ found. all ≡ found) × FoundCause is_wanted skips image base all failure) → GatherCause is_wanted skips image gathered word failure
+unplaced is_wanted skips image gathered word base failure spelled (inl memory) = inl memory
+unplaced is_wanted skips image gathered word base failure spelled (inr (all, known, cause)) = inr (inr (base, all, record { spelled = spelled; known = known }, cause))
+
+-- the first sources are not the image's own, and nor is the next one
+pub others_next : (image : List ℕ) (sources : List Source) (i : ℕ) (source : Source) → i < length sources → source ≡ get_or sources i source
+    → AreOthers image (map source_found (take i sources)) → takes_away image (source_found source).name ≡ false → AreOthers image (map source_found (take (i + 1) sources))
+others_next image sources i source below is others one =
+    subst (λ (x : List Found). AreOthers image x) (sym (found_more sources i source below is))
+    (All-push (λ (found : Found). takes_away image found.name ≡ false) (map source_found (take i sources)) (source_found source) others one)
+
+pub others_all : (image : List ℕ) (sources : List Source) (i : ℕ) → length sources ≤ i → AreOthers image (map source_found (take i sources)) → AreOthers image (map source_found sources)
+others_all image sources i over others = subst (λ (x : List Source). AreOthers image (map source_found x)) (take_all i sources over) others

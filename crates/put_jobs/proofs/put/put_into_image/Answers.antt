@@ -1,0 +1,33 @@
+use Rattle.std.proofs.Common.{inl, inr, refl, subst}
+use Rattle.host_files.specs.Files.{ReadsClaimed}
+use Rattle.put_jobs.proofs.BatchLemmas.{asked_ends}
+use Rattle.put_jobs.proofs.PutLemmas.{unspelled, unplaced}
+use Rattle.put_jobs.specs.Mirrors.{wants_folder}
+use Rattle.put_jobs.proofs.put.put_into_image.Goals as goal
+
+pub returns-in-Err-clause-ends : goal.returns-in-Err-clause-ends
+returns-in-Err-clause-ends g c =
+    let order = c.args.order in
+    inr (
+      c.in-Err.failure,
+      refl,
+      unspelled (wants_folder order.mirror order.skip_links) order.skip_links c.args.name.now (g.F.Sources.gathered c.args.files.now order.file.now c.args.name.now) order.path.now c.in-Err.failure c.in-Err.ensures.err,
+      refl,
+    )
+
+pub returns-in-Err-gather-clause-ends : goal.returns-in-Err-gather-clause-ends
+returns-in-Err-gather-clause-ends g c =
+    let order = c.args.order in
+    inr (
+      c.in-Err-gather.failure,
+      refl,
+      unplaced (wants_folder order.mirror order.skip_links) order.skip_links c.args.name.now (g.F.Sources.gathered c.args.files.now order.file.now c.args.name.now) order.path.now c.in-Ok.base c.in-Err-gather.failure c.in-Ok.ensures.ok
+          c.in-Err-gather.ensures.err,
+      refl,
+    )
+
+pub returns-clause-ends : goal.returns-clause-ends
+returns-clause-ends g c =
+    let order = c.args.order in
+    asked_ends order.mirror order.skip_links c.args.name.now order.path.now (ReadsClaimed g.F.ImageFiles.claims g.F.ImageFiles.reads c.args.name.now) (g.F.Sources.gathered c.args.files.now order.file.now c.args.name.now) c.in-Ok.base
+    c.in-Ok-gather.batch (g.F.ImageFiles.held c.args.files.now) (g.F.ImageFiles.held c.put_sources.new.files) c.put_sources.result c.in-Ok.ensures.ok c.in-Ok-gather.ensures.ok c.in-Ok-gather.ensures.others c.put_sources.ensures.ends

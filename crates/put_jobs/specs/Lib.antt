@@ -1,0 +1,7 @@
+pub mod Batches
+pub mod Inputs
+pub mod Mirrors
+pub mod Places
+pub mod Puts
+pub mod Putting
+pub mod Served

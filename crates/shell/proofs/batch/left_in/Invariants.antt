@@ -1,7 +1,0 @@
-use Rattle.std.proofs.Common.{◌≡◌, map}
-use Rattle.host_files.specs.Sources.{source_found}
-use Rattle.shell.specs.Puts.{left_in}
-use Rattle.shell.proofs.batch.left_in.Given as goal
-
-abbrev pub invariant-loop-source : goal.invariant-loop-source
-invariant-loop-source g l = map source_found l.sources.items ≡ left_in l.skip_links (map source_found l.yielded)

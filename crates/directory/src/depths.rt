@@ -7,7 +7,7 @@ ghost use Rattle.block_trees.specs.Laws.{IsShallow};
 ghost use Rattle.directory.specs.Lookups.{LeadsToDirectories};
 ghost use Rattle.directory.specs.Depths as spec;
 ghost use Rattle.node_store.specs.Faults.{IsLookFault};
-ghost use Rattle.node_store.specs.Frames.{OnlyLooks};
+ghost use Rattle.node_store.specs.Words.{Looks};
 ghost use Rattle.fs_types.specs.declared.limits.TheConstants.{MAX_NAMES};
 
 use allocator::BlockSet;
@@ -45,7 +45,7 @@ fn add_named<N: Nodes>(nodes: &mut N, block: u32, found: &mut BlockSet) -> Resul
     // Why not, and what is read.
     ensures why { IfErr result (λ fault. N.causes nodes.old nodes.new fault) }
     ensures faults { IfErr result IsLookFault }
-    ensures looks { OnlyLooks N.node N.kept N.writes N.follows N.is_sound N.limit N.blocks nodes.old nodes.new }
+    ensures looks { Looks N.Nodes nodes.old nodes.new }
     ensures reads { N.reads nodes.new ≡ N.reads nodes.old + 1 }
 {
     let brought = brings(nodes, block)?;
@@ -81,7 +81,7 @@ fn add_unknown<N: Nodes>(
     // Why not, and what is read.
     ensures why { IfErr result (λ fault. N.causes nodes.old nodes.new fault) }
     ensures faults { IfErr result IsLookFault }
-    ensures looks { OnlyLooks N.node N.kept N.writes N.follows N.is_sound N.limit N.blocks nodes.old nodes.new }
+    ensures looks { Looks N.Nodes nodes.old nodes.new }
     ensures reads { N.reads nodes.new ≡ N.reads nodes.old + (if set.contains quiet.now.members block then 0 else 1) }
 {
     if quiet.contains(block) {
@@ -120,7 +120,7 @@ fn add_chain<N: Nodes>(
     ensures size { (seen.new.blocks ≡ seen.old.blocks) × (found.new.blocks ≡ found.old.blocks) }
     ensures why { IfErr result (λ fault. N.causes nodes.old nodes.new fault) }
     ensures faults { IfErr result IsLookFault }
-    ensures looks { OnlyLooks N.node N.kept N.writes N.follows N.is_sound N.limit N.blocks nodes.old nodes.new }
+    ensures looks { Looks N.Nodes nodes.old nodes.new }
 
     // Each read is of a block that was not seen, and whose node is not known.
     ensures reads { N.reads nodes.new + spec.count_below (spec.is_loud quiet.now.members seen.old.members) seen.old.blocks ≡ N.reads nodes.old + spec.count_below (spec.is_loud quiet.now.members seen.new.members) seen.old.blocks }
@@ -139,7 +139,7 @@ fn has_entries<N: Nodes>(nodes: &mut N, block: u32) -> Result<bool, Fault>
     ensures value { IfOk result (λ some. some ≡ nat_lt 0 (length (link_items (N.node nodes.old block)))) }
     ensures why { IfErr result (λ fault. N.causes nodes.old nodes.new fault) }
     ensures faults { IfErr result IsLookFault }
-    ensures looks { OnlyLooks N.node N.kept N.writes N.follows N.is_sound N.limit N.blocks nodes.old nodes.new }
+    ensures looks { Looks N.Nodes nodes.old nodes.new }
     ensures reads { N.reads nodes.new ≡ N.reads nodes.old + 1 }
 {
     let brought = brings(nodes, block)?;
@@ -169,7 +169,7 @@ fn next_level<N: Nodes>(
     ensures size { IfOk result (λ next. next.blocks ≡ level.now.blocks) }
     ensures why { IfErr result (λ fault. N.causes nodes.old nodes.new fault) }
     ensures faults { IfErr result IsLookFault }
-    ensures looks { OnlyLooks N.node N.kept N.writes N.follows N.is_sound N.limit N.blocks nodes.old nodes.new }
+    ensures looks { Looks N.Nodes nodes.old nodes.new }
 
     // What is read and found is among any list that has the level and all that it names.
     ensures among { IfOk result (λ next. (roots list : List ℕ) → spec.HasDirectories (N.node nodes.old) (N.blocks nodes.old) roots list → ((b : ℕ) → set.contains level.now.members b ≡ true → Contains list b) → (b : ℕ) → set.contains next.members b ≡ true → Contains list b) }
@@ -197,7 +197,7 @@ fn any_has_entries<N: Nodes>(nodes: &mut N, level: &BlockSet) -> Result<bool, Fa
     // Why not, and what is read.
     ensures why { IfErr result (λ fault. N.causes nodes.old nodes.new fault) }
     ensures faults { IfErr result IsLookFault }
-    ensures looks { OnlyLooks N.node N.kept N.writes N.follows N.is_sound N.limit N.blocks nodes.old nodes.new }
+    ensures looks { Looks N.Nodes nodes.old nodes.new }
     ensures reads { (list : List ℕ) → ((b : ℕ) → set.contains level.now.members b ≡ true → Contains list b) → N.reads nodes.new ≤ N.reads nodes.old + length list }
 {
     for block in 0..level.blocks() {
@@ -251,7 +251,7 @@ pub fn any_is_deeper<N: Nodes>(
     ensures shallow { IfOk result (λ deep. deep ≡ false → (root : ℕ) → Contains roots.now root → IsShallow (N.node nodes.old) (Dir root) most) }
     ensures why { IfErr result (λ fault. N.causes nodes.old nodes.new fault) }
     ensures faults { IfErr result IsLookFault }
-    ensures looks { OnlyLooks N.node N.kept N.writes N.follows N.is_sound N.limit N.blocks nodes.old nodes.new }
+    ensures looks { Looks N.Nodes nodes.old nodes.new }
 
     // A level reads the nodes of its directories alone that are not known: they are among any list that has the roots and all
     // that it names.
@@ -285,7 +285,7 @@ pub fn is_deeper<N: Nodes>(
     // Why not, and what is read.
     ensures why { IfErr result (λ fault. N.causes nodes.old nodes.new fault) }
     ensures faults { IfErr result IsLookFault }
-    ensures looks { OnlyLooks N.node N.kept N.writes N.follows N.is_sound N.limit N.blocks nodes.old nodes.new }
+    ensures looks { Looks N.Nodes nodes.old nodes.new }
     ensures reads { N.reads nodes.new ≤ N.reads nodes.old + (most + 1) * N.blocks nodes.old }
 {
     let none = BlockSet::new(alloc, 0)?;

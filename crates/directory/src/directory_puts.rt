@@ -6,7 +6,7 @@ ghost use Rattle.block_trees.specs.Rewritten.{IsFreshChain};
 ghost use Rattle.directory.specs.Counts.{nodes_in};
 ghost use Rattle.directory.specs.Puts as spec;
 ghost use Rattle.directory.specs.Trails.{IsChangeFault};
-ghost use Rattle.node_store.specs.Frames.{Works};
+ghost use Rattle.node_store.specs.Words.{Works};
 
 use crate::list_writes::write_list;
 use crate::node_lists::read_list;
@@ -65,7 +65,7 @@ pub fn put_in_directory<N: Nodes>(
     ensures faults { IfErr result IsChangeFault }
     ensures writes { N.writes nodes.new ≤ N.writes nodes.old + nodes_for (length (items_in (N.node nodes.old) block) + spec.count_missing (items_in (N.node nodes.old) block) puts.now) }
     ensures reads { N.reads nodes.new ≤ N.reads nodes.old + nodes_in (N.node nodes.old) block }
-    ensures works { Works N.follows N.is_sound N.limit N.blocks nodes.old nodes.new }
+    ensures works { Works N.Nodes nodes.old nodes.new }
 {
     let (read, tail) = read_list(alloc, nodes, block, puts[0].name, None)?;
     let edited = put_each(alloc, &read.list(), puts)?;

@@ -5,7 +5,6 @@ ghost use Rattle.std.specs.Option.{is_some};
 ghost use Rattle.node_format.specs.Items.{is_place};
 ghost use Rattle.node_format.specs.declared.place.Place.TheVariants.{Dir};
 ghost use Rattle.block_trees.specs.Trees.{leads, entries_in, items_in};
-ghost use Rattle.block_trees.specs.Reached.{IsHeld, Keeps};
 ghost use Rattle.block_trees.specs.Rewritten.{IsDirectoryEdit, IsFreshChain, IsRewritten};
 ghost use Rattle.directory.specs.Counts.{edit_nodes, read_nodes, written_nodes, path_nodes};
 ghost use Rattle.directory.specs.Lookups.{look_up};
@@ -13,7 +12,7 @@ ghost use Rattle.directory.specs.declared.lookups.Found.TheVariants.{Missing};
 ghost use Rattle.directory.specs.Edits.{OnlyReaches};
 ghost use Rattle.directory.specs.Making.{IsNewDirectory};
 ghost use Rattle.directory.specs.Trails as spec;
-ghost use Rattle.node_store.specs.Frames.{Works};
+ghost use Rattle.node_store.specs.Words.{IsHeld, Keeps, Works};
 
 use crate::list_writes::write_list;
 use crate::node_lists::{edit_list, read_list};
@@ -36,7 +35,7 @@ pub(crate) fn edit_directory<N: Nodes>(
     requires sound { N.is_sound nodes.old }
     requires place { IfSome place (λ p. is_place p ≡ true) }
     requires takes { spec.takes (entries_in (N.node nodes.old) block) name.now place ≡ true }
-    requires held { IsHeld (N.node nodes.old) (N.kept nodes.old) (Dir block) }
+    requires held { IsHeld N.Nodes nodes.old (Dir block) }
 
     // The new directory.
     ensures edited { IfOk result (λ to. IsDirectoryEdit (N.node nodes.old) (N.node nodes.new) block to name.now place) }
@@ -48,7 +47,7 @@ pub(crate) fn edit_directory<N: Nodes>(
     ensures written { IfOk result (λ _. N.writes nodes.new ≡ N.writes nodes.old + written_nodes (items_in (N.node nodes.old) block) name.now place) }
     ensures writes { N.writes nodes.new ≤ N.writes nodes.old + edit_nodes (items_in (N.node nodes.old) block) name.now (is_some place) }
     ensures reads { N.reads nodes.new ≤ N.reads nodes.old + read_nodes (items_in (N.node nodes.old) block) name.now (is_some place) }
-    ensures works { Works N.follows N.is_sound N.limit N.blocks nodes.old nodes.new }
+    ensures works { Works N.Nodes nodes.old nodes.new }
 {
     let (read, tail) = read_list(alloc, nodes, block, name, place)?;
     let edited = edit_list(alloc, &read.list(), name, place)?;
@@ -79,7 +78,7 @@ pub(crate) fn rewrite_from<N: Nodes>(
     ensures faults { IfErr result spec.IsChangeFault }
     ensures writes { N.writes nodes.new ≤ N.writes nodes.old + path_nodes (N.node nodes.old) trail.now names.now (is_some place) level }
     ensures reads { N.reads nodes.new ≤ N.reads nodes.old + path_nodes (N.node nodes.old) trail.now names.now false level }
-    ensures works { Works N.follows N.is_sound N.limit N.blocks nodes.old nodes.new }
+    ensures works { Works N.Nodes nodes.old nodes.new }
 {
     let last = names.len() - 1;
     let mut to = edit_directory(alloc, nodes, trail[last], &names[last], place)?;
@@ -113,14 +112,14 @@ pub fn put_entry<N: Nodes>(
     // The new tree, and that the old one stays.
     ensures rewritten { IfOk result (λ to. IsRewritten (N.node nodes.old) (N.node nodes.new) (N.kept nodes.old) (N.kept nodes.new) root to path.now (Some place)) }
     ensures reaches { IfOk result (λ to. OnlyReaches (N.node nodes.old) (N.node nodes.new) (N.kept nodes.old) root to (Some place)) }
-    ensures keeps { Keeps (N.kept nodes.old) (N.node nodes.old) (N.kept nodes.new) (N.node nodes.new) }
+    ensures keeps { Keeps N.Nodes nodes.old nodes.new }
 
     // What it is refused with, and what it asks for.
     ensures why { IfErr result (λ fault. N.causes nodes.old nodes.new fault) }
     ensures faults { IfErr result spec.IsChangeFault }
     ensures writes { N.writes nodes.new ≤ N.writes nodes.old + path_nodes (N.node nodes.old) trail.now path.now true 0 }
     ensures reads { N.reads nodes.new ≤ N.reads nodes.old + path_nodes (N.node nodes.old) trail.now path.now false 0 }
-    ensures works { Works N.follows N.is_sound N.limit N.blocks nodes.old nodes.new }
+    ensures works { Works N.Nodes nodes.old nodes.new }
 {
     let blocks = trail.blocks();
     let begins = blocks[0] == root;
@@ -145,14 +144,14 @@ pub fn remove_entry<N: Nodes>(
     // The new tree, and that the old one stays.
     ensures rewritten { IfOk result (λ to. IsRewritten (N.node nodes.old) (N.node nodes.new) (N.kept nodes.old) (N.kept nodes.new) root to path.now None) }
     ensures reaches { IfOk result (λ to. OnlyReaches (N.node nodes.old) (N.node nodes.new) (N.kept nodes.old) root to None) }
-    ensures keeps { Keeps (N.kept nodes.old) (N.node nodes.old) (N.kept nodes.new) (N.node nodes.new) }
+    ensures keeps { Keeps N.Nodes nodes.old nodes.new }
 
     // What it is refused with, and what it asks for.
     ensures why { IfErr result (λ fault. N.causes nodes.old nodes.new fault) }
     ensures faults { IfErr result spec.IsChangeFault }
     ensures writes { N.writes nodes.new ≤ N.writes nodes.old + path_nodes (N.node nodes.old) trail.now path.now false 0 }
     ensures reads { N.reads nodes.new ≤ N.reads nodes.old + path_nodes (N.node nodes.old) trail.now path.now false 0 }
-    ensures works { Works N.follows N.is_sound N.limit N.blocks nodes.old nodes.new }
+    ensures works { Works N.Nodes nodes.old nodes.new }
 {
     let blocks = trail.blocks();
     let begins = blocks[0] == root;
@@ -174,21 +173,21 @@ pub fn put_directory<N: Nodes>(
     path: &Path,
 ) -> Result<u32, Fault>
     requires sound { N.is_sound nodes.old }
-    requires held { IsHeld (N.node nodes.old) (N.kept nodes.old) (Dir root) }
+    requires held { IsHeld N.Nodes nodes.old (Dir root) }
     requires way { spec.IsTrail (N.node nodes.old) root path.now trail.now }
     requires missing { look_up (N.node nodes.old) root path.now ≡ Ok (Missing false) }
 
     // The new tree, and that the old one stays.
     ensures made { IfOk result (λ to. IsNewDirectory (N.node nodes.old) (N.node nodes.new) (N.kept nodes.old) (N.kept nodes.new) root to path.now) }
     ensures reaches { IfOk result (λ to. OnlyReaches (N.node nodes.old) (N.node nodes.new) (N.kept nodes.old) root to None) }
-    ensures keeps { Keeps (N.kept nodes.old) (N.node nodes.old) (N.kept nodes.new) (N.node nodes.new) }
+    ensures keeps { Keeps N.Nodes nodes.old nodes.new }
 
     // What it is refused with, and what it asks for.
     ensures why { IfErr result (λ fault. N.causes nodes.old nodes.new fault) }
     ensures faults { IfErr result spec.IsChangeFault }
     ensures writes { N.writes nodes.new ≤ N.writes nodes.old + (path_nodes (N.node nodes.old) trail.now path.now true 0 + 1) }
     ensures reads { N.reads nodes.new ≤ N.reads nodes.old + path_nodes (N.node nodes.old) trail.now path.now false 0 }
-    ensures works { Works N.follows N.is_sound N.limit N.blocks nodes.old nodes.new }
+    ensures works { Works N.Nodes nodes.old nodes.new }
 {
     let fits = nodes.block_bytes() as usize >= MIN_BLOCK_BYTES;
     prove!(fits);

@@ -3,7 +3,7 @@ ghost use Rattle.std.specs.Prelude.{◌≡◌, ℕ, ◌+◌, ◌*◌, ◌%◌, �
 ghost use Rattle.std.specs.Int.{div_ceil};
 ghost use Rattle.fs_types.specs.declared.limits.TheConstants.{NODE_ENTRIES, MAX_ENTRIES};
 ghost use Rattle.node_store.specs.Faults.{IsWriteFault};
-ghost use Rattle.node_store.specs.Frames.{Works};
+ghost use Rattle.node_store.specs.Words.{Works};
 ghost use Rattle.plain_trees.specs.Trees.{nodes_for};
 ghost use Rattle.directory.specs.Written as spec;
 
@@ -33,7 +33,7 @@ fn write_one<N: Nodes>(
     ensures written { IfOk result (λ _. N.writes nodes.new ≡ N.writes nodes.old + 1) }
     ensures writes { N.writes nodes.new ≤ N.writes nodes.old + 1 }
     ensures reads { N.reads nodes.new ≡ N.reads nodes.old }
-    ensures works { Works N.follows N.is_sound N.limit N.blocks nodes.old nodes.new }
+    ensures works { Works N.Nodes nodes.old nodes.new }
 {
     let bytes = chain_node(alloc, list, next)?;
     let node = bytes.as_slice();
@@ -79,7 +79,7 @@ fn write_group<N: Nodes>(
     ensures written { IfOk result (λ _. N.writes nodes.new ≡ N.writes nodes.old + 1) }
     ensures writes { N.writes nodes.new ≤ N.writes nodes.old + 1 }
     ensures reads { N.reads nodes.new ≡ N.reads nodes.old }
-    ensures works { Works N.follows N.is_sound N.limit N.blocks nodes.old nodes.new }
+    ensures works { Works N.Nodes nodes.old nodes.new }
 {
     let from = NODE_ENTRIES * group;
     let held = group_size(list.len() - from);
@@ -109,7 +109,7 @@ fn write_after<N: Nodes>(
     ensures written { IfOk result (λ _. N.writes nodes.new ≡ N.writes nodes.old + div_ceil (length list.now) NODE_ENTRIES) }
     ensures writes { N.writes nodes.new ≤ N.writes nodes.old + div_ceil (length list.now) NODE_ENTRIES }
     ensures reads { N.reads nodes.new ≡ N.reads nodes.old }
-    ensures works { Works N.follows N.is_sound N.limit N.blocks nodes.old nodes.new }
+    ensures works { Works N.Nodes nodes.old nodes.new }
 {
     let groups = list.len().div_ceil(NODE_ENTRIES);
     let mut to = tail;
@@ -141,7 +141,7 @@ pub(crate) fn write_list<N: Nodes>(
     ensures written { IfOk result (λ _. N.writes nodes.new ≡ N.writes nodes.old + nodes_for (length list.now)) }
     ensures writes { N.writes nodes.new ≤ N.writes nodes.old + nodes_for (length list.now) }
     ensures reads { N.reads nodes.new ≡ N.reads nodes.old }
-    ensures works { Works N.follows N.is_sound N.limit N.blocks nodes.old nodes.new }
+    ensures works { Works N.Nodes nodes.old nodes.new }
 {
     if list.is_empty() {
         return write_one(alloc, nodes, list, tail);

@@ -3,7 +3,7 @@ ghost use Rattle.std.specs.Prelude.{◌≡◌, ℕ, ◌+◌, ◌≤◌, ◌==◌
 ghost use Rattle.fs_types.specs.declared.fault.Fault.TheVariants.{NoMemory, Damaged};
 ghost use Rattle.fs_types.specs.declared.limits.TheConstants.{NODE_ENTRIES};
 ghost use Rattle.node_store.specs.Faults.{IsReadFault};
-ghost use Rattle.node_store.specs.Frames.{OnlyLooks};
+ghost use Rattle.node_store.specs.Words.{Looks};
 ghost use Rattle.node_format.specs.Items.{Item};
 ghost use Rattle.block_trees.specs.Chains.{link_of, link_items, next_of, chain};
 ghost use Rattle.block_trees.specs.Trees.{entries_in, names_of};
@@ -49,7 +49,7 @@ fn add_names<N: Nodes>(
     ensures damaged { IsErrOf result Damaged → link_of (N.node nodes.old block) ≡ None }
     ensures why { IfErr result (λ fault. is_path_fault fault ≡ false → N.causes nodes.old nodes.new fault) }
     ensures faults { IfErr result IsReadFault }
-    ensures looks { OnlyLooks N.node N.kept N.writes N.follows N.is_sound N.limit N.blocks nodes.old nodes.new }
+    ensures looks { Looks N.Nodes nodes.old nodes.new }
     ensures reads { N.reads nodes.new ≡ N.reads nodes.old + 1 }
 {
     nodes.read(block)?;
@@ -80,7 +80,7 @@ pub fn names<N: Nodes>(
     ensures damaged { IsErrOf result Damaged → entries_in (N.node nodes.old) block ≡ None }
     ensures why { IfErr result (λ fault. is_path_fault fault ≡ false → N.causes nodes.old nodes.new fault) }
     ensures faults { IfErr result IsReadFault }
-    ensures looks { OnlyLooks N.node N.kept N.writes N.follows N.is_sound N.limit N.blocks nodes.old nodes.new }
+    ensures looks { Looks N.Nodes nodes.old nodes.new }
     ensures reads { N.reads nodes.new ≤ N.reads nodes.old + length (chain (N.node nodes.old) block) }
 {
     let mut names = Sequence::new(alloc);
@@ -108,7 +108,7 @@ fn count_at<N: Nodes>(nodes: &mut N, block: u32) -> Result<(usize, u32), Fault>
     ensures damaged { IsErrOf result Damaged → link_of (N.node nodes.old block) ≡ None }
     ensures why { IfErr result (λ fault. is_path_fault fault ≡ false → N.causes nodes.old nodes.new fault) }
     ensures faults { IfErr result IsReadFault }
-    ensures looks { OnlyLooks N.node N.kept N.writes N.follows N.is_sound N.limit N.blocks nodes.old nodes.new }
+    ensures looks { Looks N.Nodes nodes.old nodes.new }
     ensures reads { N.reads nodes.new ≡ N.reads nodes.old + 1 }
 {
     nodes.read(block)?;
@@ -133,7 +133,7 @@ pub fn entry_count<N: Nodes>(nodes: &mut N, block: u32) -> Result<usize, Fault>
     ensures damaged { IsErrOf result Damaged → entries_in (N.node nodes.old) block ≡ None }
     ensures why { IfErr result (λ fault. is_path_fault fault ≡ false → N.causes nodes.old nodes.new fault) }
     ensures faults { IfErr result IsReadFault }
-    ensures looks { OnlyLooks N.node N.kept N.writes N.follows N.is_sound N.limit N.blocks nodes.old nodes.new }
+    ensures looks { Looks N.Nodes nodes.old nodes.new }
     ensures reads { N.reads nodes.new ≤ N.reads nodes.old + length (chain (N.node nodes.old) block) }
 {
     let (mut count, mut next) = count_at(nodes, block)?;
@@ -163,7 +163,7 @@ pub fn is_empty<N: Nodes>(nodes: &mut N, block: u32) -> Result<bool, Fault>
     ensures damaged { IsErrOf result Damaged → entries_in (N.node nodes.old) block ≡ None }
     ensures why { IfErr result (λ fault. is_path_fault fault ≡ false → N.causes nodes.old nodes.new fault) }
     ensures faults { IfErr result IsReadFault }
-    ensures looks { OnlyLooks N.node N.kept N.writes N.follows N.is_sound N.limit N.blocks nodes.old nodes.new }
+    ensures looks { Looks N.Nodes nodes.old nodes.new }
     ensures reads { N.reads nodes.new ≡ N.reads nodes.old + 1 }
 {
     let (count, _next) = count_at(nodes, block)?;

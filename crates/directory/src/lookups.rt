@@ -3,7 +3,7 @@ ghost use Rattle.std.specs.Prelude.{◌≡◌, ℕ, ◌+◌, ◌≤◌, true, fa
 ghost use Rattle.fs_types.specs.declared.fault.Fault.TheVariants.{NoEntry, NotDirectory, Damaged};
 ghost use Rattle.fs_types.specs.declared.limits.TheConstants.{NODE_ENTRIES};
 ghost use Rattle.node_store.specs.Faults.{IsReadFault};
-ghost use Rattle.node_store.specs.Frames.{OnlyLooks};
+ghost use Rattle.node_store.specs.Words.{Looks};
 ghost use Rattle.block_trees.specs.Chains.{link_of, chain};
 ghost use Rattle.directory.specs.Seeking as seeking;
 ghost use Rattle.directory.specs.Lookups as spec;
@@ -61,7 +61,7 @@ fn look_at<N: Nodes>(nodes: &mut N, block: u32, name: &Name) -> Result<Sight, Fa
     ensures damaged { IsErrOf result Damaged → link_of (N.node nodes.old block) ≡ None }
     ensures why { IfErr result (λ fault. spec.is_path_fault fault ≡ false → N.causes nodes.old nodes.new fault) }
     ensures faults { IfErr result IsReadFault }
-    ensures looks { OnlyLooks N.node N.kept N.writes N.follows N.is_sound N.limit N.blocks nodes.old nodes.new }
+    ensures looks { Looks N.Nodes nodes.old nodes.new }
     ensures reads { N.reads nodes.new ≡ N.reads nodes.old + 1 }
 {
     nodes.read(block)?;
@@ -105,7 +105,7 @@ fn seek<N: Nodes>(nodes: &mut N, block: u32, name: &Name) -> Result<Sought, Faul
     ensures damaged { IsErrOf result Damaged → spec.place_in (N.node nodes.old) name.now block ≡ Err Damaged }
     ensures why { IfErr result (λ fault. spec.is_path_fault fault ≡ false → N.causes nodes.old nodes.new fault) }
     ensures faults { IfErr result IsReadFault }
-    ensures looks { OnlyLooks N.node N.kept N.writes N.follows N.is_sound N.limit N.blocks nodes.old nodes.new }
+    ensures looks { Looks N.Nodes nodes.old nodes.new }
     ensures reads { N.reads nodes.new ≤ N.reads nodes.old + length (chain (N.node nodes.old) block) }
 {
     let mut sight = look_at(nodes, block, name)?;
@@ -143,7 +143,7 @@ pub(crate) fn place_in<N: Nodes>(
     ensures damaged { IsErrOf result Damaged → spec.place_in (N.node nodes.old) name.now block ≡ Err Damaged }
     ensures why { IfErr result (λ fault. spec.is_path_fault fault ≡ false → N.causes nodes.old nodes.new fault) }
     ensures faults { IfErr result IsReadFault }
-    ensures looks { OnlyLooks N.node N.kept N.writes N.follows N.is_sound N.limit N.blocks nodes.old nodes.new }
+    ensures looks { Looks N.Nodes nodes.old nodes.new }
     ensures reads { N.reads nodes.new ≤ N.reads nodes.old + length (chain (N.node nodes.old) block) }
 {
     let sought = seek(nodes, block, name)?;
@@ -175,7 +175,7 @@ pub fn found_in<N: Nodes>(nodes: &mut N, block: u32, name: &Name) -> Result<Foun
     ensures damaged { IsErrOf result Damaged → spec.place_in (N.node nodes.old) name.now block ≡ Err Damaged }
     ensures why { IfErr result (λ fault. spec.is_path_fault fault ≡ false → N.causes nodes.old nodes.new fault) }
     ensures faults { IfErr result IsReadFault }
-    ensures looks { OnlyLooks N.node N.kept N.writes N.follows N.is_sound N.limit N.blocks nodes.old nodes.new }
+    ensures looks { Looks N.Nodes nodes.old nodes.new }
     ensures reads { N.reads nodes.new ≤ N.reads nodes.old + length (chain (N.node nodes.old) block) }
 {
     let sought = seek(nodes, block, name)?;
@@ -200,7 +200,7 @@ pub fn lookup<N: Nodes>(nodes: &mut N, root: u32, path: &Path) -> Result<Found, 
     ensures refused { IfErr result (λ fault. spec.is_path_fault fault ≡ true → spec.look_up (N.node nodes.old) root path.now ≡ Err fault) }
     ensures why { IfErr result (λ fault. spec.is_path_fault fault ≡ false → N.causes nodes.old nodes.new fault) }
     ensures faults { IfErr result spec.IsLookupFault }
-    ensures looks { OnlyLooks N.node N.kept N.writes N.follows N.is_sound N.limit N.blocks nodes.old nodes.new }
+    ensures looks { Looks N.Nodes nodes.old nodes.new }
     ensures reads { N.reads nodes.new ≤ N.reads nodes.old + spec.way_nodes (N.node nodes.old) root path.now }
 {
     let (found, _trail) = find(nodes, root, path)?;

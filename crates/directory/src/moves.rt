@@ -7,14 +7,13 @@ ghost use Rattle.plain_trees.specs.Trees.{nodes_for};
 ghost use Rattle.node_format.specs.Items.{is_place};
 ghost use Rattle.node_format.specs.declared.place.Place.TheVariants.{Dir};
 ghost use Rattle.block_trees.specs.Trees.{child, leads, entries_in, items_in};
-ghost use Rattle.block_trees.specs.Reached.{IsHeld, Keeps};
 ghost use Rattle.block_trees.specs.Rewritten.{IsSecondEdit, IsFreshChain, IsBranch, IsMoved};
 ghost use Rattle.directory.specs.Counts.{nodes_in, edit_nodes, path_nodes, fork_nodes, move_nodes};
 ghost use Rattle.directory.specs.Lookups.{look_up};
 ghost use Rattle.directory.specs.Edits.{OnlyReaches};
 ghost use Rattle.directory.specs.Trails.{IsTrail, IsHeldTrail, TakesName, IsChangeFault, has_room, takes};
 ghost use Rattle.directory.specs.Moves as spec;
-ghost use Rattle.node_store.specs.Frames.{Works};
+ghost use Rattle.node_store.specs.Words.{Keeps, Works};
 
 use crate::edits::{edit_directory, rewrite_from};
 use crate::list_writes::write_list;
@@ -64,7 +63,7 @@ fn edit_directory_twice<N: Nodes>(
     ensures written { IfOk result (λ _. N.writes nodes.new ≡ N.writes nodes.old + nodes_for (spec.edited_twice_count (items_in (N.node nodes.old) block) name.now gone other.now here)) }
     ensures writes { N.writes nodes.new ≤ N.writes nodes.old + edit_nodes (items_in (N.node nodes.old) block) other.now (is_some gone) }
     ensures reads { N.reads nodes.new ≤ N.reads nodes.old + nodes_in (N.node nodes.old) block }
-    ensures works { Works N.follows N.is_sound N.limit N.blocks nodes.old nodes.new }
+    ensures works { Works N.Nodes nodes.old nodes.new }
 {
     let (read, tail) = read_list(alloc, nodes, block, name, None)?;
     let edited = edit_list_twice(alloc, &read.list(), name, gone, other, here)?;
@@ -96,7 +95,7 @@ fn rewrite_branch<N: Nodes>(
     ensures faults { IfErr result IsChangeFault }
     ensures writes { N.writes nodes.new ≤ N.writes nodes.old + path_nodes (N.node nodes.old) trail.now names.now (is_some place) (fork + 1) }
     ensures reads { N.reads nodes.new ≤ N.reads nodes.old + path_nodes (N.node nodes.old) trail.now names.now false (fork + 1) }
-    ensures works { Works N.follows N.is_sound N.limit N.blocks nodes.old nodes.new }
+    ensures works { Works N.Nodes nodes.old nodes.new }
 {
     if fork + 1 == names.len() {
         return Ok(place);
@@ -130,7 +129,7 @@ fn rewrite_fork<N: Nodes>(
     ensures faults { IfErr result IsChangeFault }
     ensures writes { N.writes nodes.new ≤ N.writes nodes.old + fork_nodes (N.node nodes.old) old_trail.now old.now new_trail.now new.now fork }
     ensures reads { N.reads nodes.new ≤ N.reads nodes.old + fork_nodes (N.node nodes.old) old_trail.now old.now new_trail.now new.now fork }
-    ensures works { Works N.follows N.is_sound N.limit N.blocks nodes.old nodes.new }
+    ensures works { Works N.Nodes nodes.old nodes.new }
 {
     let gone = rewrite_branch(alloc, nodes, old_trail, old, fork, None)?;
     let here = rewrite_branch(alloc, nodes, new_trail, new, fork, Some(place))?;
@@ -171,14 +170,14 @@ pub fn move_entry<N: Nodes>(
     // The new tree, and that the old one stays.
     ensures moved { IfOk result (λ to. IsMoved (N.node nodes.old) (N.node nodes.new) (N.kept nodes.old) (N.kept nodes.new) root to old.now new.now place) }
     ensures reaches { IfOk result (λ to. OnlyReaches (N.node nodes.old) (N.node nodes.new) (N.kept nodes.old) root to None) }
-    ensures keeps { Keeps (N.kept nodes.old) (N.node nodes.old) (N.kept nodes.new) (N.node nodes.new) }
+    ensures keeps { Keeps N.Nodes nodes.old nodes.new }
 
     // What it is refused with, and what it asks for.
     ensures why { IfErr result (λ fault. N.causes nodes.old nodes.new fault) }
     ensures faults { IfErr result IsChangeFault }
     ensures writes { N.writes nodes.new ≤ N.writes nodes.old + move_nodes (N.node nodes.old) old_trail.now old.now new_trail.now new.now }
     ensures reads { N.reads nodes.new ≤ N.reads nodes.old + move_nodes (N.node nodes.old) old_trail.now old.now new_trail.now new.now }
-    ensures works { Works N.follows N.is_sound N.limit N.blocks nodes.old nodes.new }
+    ensures works { Works N.Nodes nodes.old nodes.new }
 {
     let blocks = old_trail.blocks();
     let names = old.names();

@@ -3,7 +3,7 @@
 ghost use Rattle.std.specs.Prelude.{◌≡◌, ◌+◌, ◌≤◌, List, length, map, Some, IfOk, IfErr};
 ghost use Rattle.fs_types.specs.declared.limits.TheConstants.{NODE_ENTRIES};
 ghost use Rattle.node_store.specs.Faults.{IsLookFault};
-ghost use Rattle.node_store.specs.Frames.{OnlyLooks};
+ghost use Rattle.node_store.specs.Words.{Looks};
 ghost use Rattle.node_format.specs.Items.{Item};
 ghost use Rattle.node_format.specs.Links.{Link};
 ghost use Rattle.block_trees.specs.Chains.{link_of, link_items, items_in, next_of, chain};
@@ -29,7 +29,7 @@ fn count_front<N: Nodes>(nodes: &mut N, block: u32) -> Result<(usize, u32), Faul
 
     // Why not, and what is read: one page.
     ensures refused { IfErr result (λ fault. IsLookFault fault × N.causes nodes.old nodes.new fault) }
-    ensures looks { OnlyLooks N.node N.kept N.writes N.follows N.is_sound N.limit N.blocks nodes.old nodes.new }
+    ensures looks { Looks N.Nodes nodes.old nodes.new }
     ensures asks { N.asked nodes.new ≤ N.asked nodes.old + 1 }
 {
     nodes.front(block)?;
@@ -50,7 +50,7 @@ fn count_fronts<N: Nodes>(nodes: &mut N, block: u32) -> Result<usize, Fault>
 
     // Why not, and what is read: one page a node.
     ensures refused { IfErr result (λ fault. IsLookFault fault × N.causes nodes.old nodes.new fault) }
-    ensures looks { OnlyLooks N.node N.kept N.writes N.follows N.is_sound N.limit N.blocks nodes.old nodes.new }
+    ensures looks { Looks N.Nodes nodes.old nodes.new }
     ensures asks { N.asked nodes.new ≤ N.asked nodes.old + length (chain (N.node nodes.old) block) }
 {
     let (mut count, mut next) = count_front(nodes, block)?;
@@ -75,7 +75,7 @@ fn stat_of<N: Nodes>(nodes: &mut N, place: Place) -> Result<Stat, Fault>
 
     // Why not, and what is read: one page of each node of a directory.
     ensures refused { IfErr result (λ fault. IsLookFault fault × N.causes nodes.old nodes.new fault) }
-    ensures looks { OnlyLooks N.node N.kept N.writes N.follows N.is_sound N.limit N.blocks nodes.old nodes.new }
+    ensures looks { Looks N.Nodes nodes.old nodes.new }
     ensures asks { N.asked nodes.new ≤ N.asked nodes.old + spec.nodes_of (N.node nodes.old) place }
 {
     match place {
@@ -101,7 +101,7 @@ pub fn stats<N: Nodes>(
 
     // Why not, and what is read: one page of each node of these directories.
     ensures refused { IfErr result (λ fault. IsLookFault fault × N.causes nodes.old nodes.new fault) }
-    ensures looks { OnlyLooks N.node N.kept N.writes N.follows N.is_sound N.limit N.blocks nodes.old nodes.new }
+    ensures looks { Looks N.Nodes nodes.old nodes.new }
     ensures asks { N.asked nodes.new ≤ N.asked nodes.old + spec.nodes_of_all (N.node nodes.old) places.now }
 {
     let mut entries = Sequence::new(alloc);

@@ -3,7 +3,7 @@ ghost use Rattle.std.specs.Prelude.{◌≡◌, ℕ, ◌+◌, ◌≤◌, ◌<◌,
 ghost use Rattle.directory.specs.Lookups as spec;
 ghost use Rattle.directory.specs.Trails.{IsTrail, IsWay};
 ghost use Rattle.directory.specs.Beside.{beside_nodes};
-ghost use Rattle.node_store.specs.Frames.{OnlyLooks};
+ghost use Rattle.node_store.specs.Words.{Looks};
 ghost use Rattle.fs_types.specs.declared.limits.TheConstants.{MAX_NAMES};
 
 use crate::lookups::{Found, directory_at, found_in, place_in};
@@ -97,7 +97,7 @@ fn find_from<N: Nodes>(
     ensures faults { IfErr result spec.IsLookupFault }
 
     // Nodes were read alone.
-    ensures looks { OnlyLooks N.node N.kept N.writes N.follows N.is_sound N.limit N.blocks nodes.old nodes.new }
+    ensures looks { Looks N.Nodes nodes.old nodes.new }
     ensures reads { N.reads nodes.new ≤ N.reads nodes.old + spec.way_nodes (N.node nodes.old) block (drop (length trail) path.now) }
 {
     let names = path.names();
@@ -135,7 +135,7 @@ pub fn find<N: Nodes>(nodes: &mut N, root: u32, path: &Path) -> Result<(Found, T
     ensures refused { IfErr result (λ fault. spec.is_path_fault fault ≡ true → spec.look_up (N.node nodes.old) root path.now ≡ Err fault) }
     ensures why { IfErr result (λ fault. spec.is_path_fault fault ≡ false → N.causes nodes.old nodes.new fault) }
     ensures faults { IfErr result spec.IsLookupFault }
-    ensures looks { OnlyLooks N.node N.kept N.writes N.follows N.is_sound N.limit N.blocks nodes.old nodes.new }
+    ensures looks { Looks N.Nodes nodes.old nodes.new }
     ensures reads { N.reads nodes.new ≤ N.reads nodes.old + spec.way_nodes (N.node nodes.old) root path.now }
 {
     find_from(nodes, Trail::new(), root, path)
@@ -166,7 +166,7 @@ pub fn find_beside<N: Nodes>(
     ensures faults { IfErr result spec.IsLookupFault }
 
     // Nodes were read alone, those from where the paths part.
-    ensures looks { OnlyLooks N.node N.kept N.writes N.follows N.is_sound N.limit N.blocks nodes.old nodes.new }
+    ensures looks { Looks N.Nodes nodes.old nodes.new }
     ensures reads { N.reads nodes.new ≤ N.reads nodes.old + beside_nodes (N.node nodes.old) root other.now other_trail.now path.now }
 {
     let blocks = other_trail.blocks();

@@ -1,6 +1,8 @@
 pub mod Faults
 pub mod Frames
 pub mod FrameLaws
+pub mod Words
+pub mod WordLaws
 pub mod NodePages
 pub mod Reading
 pub mod ReadingLaws

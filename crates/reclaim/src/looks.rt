@@ -10,7 +10,7 @@ ghost use Rattle.reclaim.specs.Sound.{HoldsSlot, IsSoundBody};
 ghost use Rattle.reclaim.specs.Looks as spec;
 ghost use Rattle.reclaim.specs.Naming.{has_slot};
 ghost use Rattle.node_store.specs.Faults.{IsLookFault};
-ghost use Rattle.node_store.specs.Frames.{OnlyLooks};
+ghost use Rattle.node_store.specs.Words.{Looks};
 
 use crate::edge::{Edge, edge_in, is_chained, may_go_on};
 use crate::fronts::brings_front;
@@ -45,7 +45,7 @@ fn body_at<N: Nodes>(
     // Why not, and what is read.
     ensures why { IfErr result (λ fault. N.causes nodes.old nodes.new fault) }
     ensures faults { IfErr result IsLookFault }
-    ensures looks { OnlyLooks N.node N.kept N.writes N.follows N.is_sound N.limit N.blocks nodes.old nodes.new }
+    ensures looks { Looks N.Nodes nodes.old nodes.new }
     ensures reads { N.reads nodes.new ≡ N.reads nodes.old + 1 }
     ensures asks { N.asked nodes.new ≤ N.asked nodes.old + 1 }
 {
@@ -108,7 +108,7 @@ fn holds_slot<N: Nodes>(nodes: &mut N, block: u32, slot: usize, next: u32) -> Re
     // Why not, and what is read.
     ensures why { IfErr result (λ fault. N.causes nodes.old nodes.new fault) }
     ensures faults { IfErr result IsLookFault }
-    ensures looks { OnlyLooks N.node N.kept N.writes N.follows N.is_sound N.limit N.blocks nodes.old nodes.new }
+    ensures looks { Looks N.Nodes nodes.old nodes.new }
     ensures reads { N.reads nodes.new ≡ N.reads nodes.old + 1 }
     ensures asks { N.asked nodes.new ≤ N.asked nodes.old + 1 }
 {
@@ -131,7 +131,7 @@ fn are_stepped<N: Nodes>(nodes: &mut N, pointers: &[u32], index: u32) -> Result<
     // Why not, and what is read.
     ensures why { IfErr result (λ fault. N.causes nodes.old nodes.new fault) }
     ensures faults { IfErr result IsLookFault }
-    ensures looks { OnlyLooks N.node N.kept N.writes N.follows N.is_sound N.limit N.blocks nodes.old nodes.new }
+    ensures looks { Looks N.Nodes nodes.old nodes.new }
     ensures reads { N.reads nodes.new ≤ N.reads nodes.old + 11 }
     ensures asks { N.asked nodes.new + N.reads nodes.old ≤ N.asked nodes.old + N.reads nodes.new }
 {
@@ -170,7 +170,7 @@ fn is_sound_body<N: Nodes>(
     // Why not, and what is read.
     ensures why { IfErr result (λ fault. N.causes nodes.old nodes.new fault) }
     ensures faults { IfErr result IsLookFault }
-    ensures looks { OnlyLooks N.node N.kept N.writes N.follows N.is_sound N.limit N.blocks nodes.old nodes.new }
+    ensures looks { Looks N.Nodes nodes.old nodes.new }
     ensures reads { N.reads nodes.new ≤ N.reads nodes.old + 12 }
     ensures asks { N.asked nodes.new + N.reads nodes.old ≤ N.asked nodes.old + N.reads nodes.new }
 {
@@ -213,7 +213,7 @@ fn is_sound_at<N: Nodes>(
     // Why not, and what is read.
     ensures why { IfErr result (λ fault. N.causes nodes.old nodes.new fault) }
     ensures faults { IfErr result IsLookFault }
-    ensures looks { OnlyLooks N.node N.kept N.writes N.follows N.is_sound N.limit N.blocks nodes.old nodes.new }
+    ensures looks { Looks N.Nodes nodes.old nodes.new }
     ensures reads { N.reads nodes.new ≤ N.reads nodes.old + 12 }
     ensures asks { N.asked nodes.new + N.reads nodes.old ≤ N.asked nodes.old + N.reads nodes.new }
 {
@@ -273,7 +273,7 @@ fn are_sound_parts<N: Nodes>(
     // Why not, and what is read.
     ensures why { IfErr result (λ fault. N.causes nodes.old nodes.new fault) }
     ensures faults { IfErr result IsLookFault }
-    ensures looks { OnlyLooks N.node N.kept N.writes N.follows N.is_sound N.limit N.blocks nodes.old nodes.new }
+    ensures looks { Looks N.Nodes nodes.old nodes.new }
     ensures reads { (node : Option (List ℕ)) → spec.ArePartsOf node pointers.now index → N.reads nodes.new ≤ N.reads nodes.old + spec.pointer_reads node }
     ensures asks { N.asked nodes.new + N.reads nodes.old ≤ N.asked nodes.old + N.reads nodes.new }
 {
@@ -293,7 +293,7 @@ fn is_followed<N: Nodes>(nodes: &mut N, edge: &Option<Edge>) -> Result<bool, Fau
     // Why not, and what is read.
     ensures why { IfErr result (λ fault. N.causes nodes.old nodes.new fault) }
     ensures faults { IfErr result IsLookFault }
-    ensures looks { OnlyLooks N.node N.kept N.writes N.follows N.is_sound N.limit N.blocks nodes.old nodes.new }
+    ensures looks { Looks N.Nodes nodes.old nodes.new }
     ensures reads { (node : Option (List ℕ)) → spec.edge_at node ≡ option_map (λ e. (e.last.items, e.next)) edge.now → N.reads nodes.new ≤ N.reads nodes.old + spec.link_reads (next_of node) }
     ensures asks { N.asked nodes.new + N.reads nodes.old ≤ N.asked nodes.old + N.reads nodes.new }
 {
@@ -322,7 +322,7 @@ pub fn look<N: Nodes>(
     // Why not, and what is read.
     ensures why { IfErr result (λ fault. N.causes nodes.old nodes.new fault) }
     ensures faults { IfErr result IsLookFault }
-    ensures looks { OnlyLooks N.node N.kept N.writes N.follows N.is_sound N.limit N.blocks nodes.old nodes.new }
+    ensures looks { Looks N.Nodes nodes.old nodes.new }
     ensures reads { (node : Option (List ℕ)) → spec.Says node parts.now → N.reads nodes.new ≤ N.reads nodes.old + spec.look_reads node }
     ensures asks { N.asked nodes.new + N.reads nodes.old ≤ N.asked nodes.old + N.reads nodes.new }
 {

@@ -6,7 +6,7 @@ ghost use Rattle.block_trees.specs.Bodies.{index_of, pointer_of};
 ghost use Rattle.block_trees.specs.Chains.{link_items, next_of};
 ghost use Rattle.block_trees.specs.Reached.{Names};
 ghost use Rattle.node_store.specs.Faults.{IsReadFault};
-ghost use Rattle.node_store.specs.Frames.{OnlyLooks};
+ghost use Rattle.node_store.specs.Words.{Looks};
 ghost use Rattle.reclaim.specs.Kinds.{HoldsBodyNode, NamesBody, read_pages};
 ghost use Rattle.reclaim.specs.Naming.{place_names, item_names, place_heads, item_heads, place_directories, item_directories, next_names, slots_named, body_named};
 ghost use Rattle.reclaim.specs.Tables.{NamesDirectory};
@@ -204,7 +204,7 @@ fn read_whole<N: Nodes>(alloc: Global, nodes: &mut N, block: u32) -> Result<Name
     ensures damaged { IsErrOf result Fault.Damaged → N.node nodes.old block ≡ None }
     ensures why { IfErr result (λ fault. fault ≢ Fault.Damaged → N.causes nodes.old nodes.new fault) }
     ensures faults { IfErr result IsReadFault }
-    ensures looks { OnlyLooks N.node N.kept N.writes N.follows N.is_sound N.limit N.blocks nodes.old nodes.new }
+    ensures looks { Looks N.Nodes nodes.old nodes.new }
     ensures reads { N.reads nodes.new ≡ N.reads nodes.old + 1 }
     ensures asks { OnOk result (N.asked nodes.new ≤ N.asked nodes.old + read_pages false (N.page nodes.old) (N.node nodes.old block)) }
 {
@@ -226,7 +226,7 @@ fn read_front<N: Nodes>(alloc: Global, nodes: &mut N, block: u32) -> Result<Name
     ensures damaged { IsErrOf result Fault.Damaged → N.node nodes.old block ≡ None }
     ensures why { IfErr result (λ fault. fault ≢ Fault.Damaged → N.causes nodes.old nodes.new fault) }
     ensures faults { IfErr result IsReadFault }
-    ensures looks { OnlyLooks N.node N.kept N.writes N.follows N.is_sound N.limit N.blocks nodes.old nodes.new }
+    ensures looks { Looks N.Nodes nodes.old nodes.new }
     ensures reads { N.reads nodes.new ≡ N.reads nodes.old + 1 }
     ensures asks { N.asked nodes.new ≤ N.asked nodes.old + 1 }
 {
@@ -253,7 +253,7 @@ pub fn read_named<N: Nodes>(
     ensures damaged { IsErrOf result Fault.Damaged → N.node nodes.old block ≡ None }
     ensures why { IfErr result (λ fault. fault ≢ Fault.Damaged → N.causes nodes.old nodes.new fault) }
     ensures faults { IfErr result IsReadFault }
-    ensures looks { OnlyLooks N.node N.kept N.writes N.follows N.is_sound N.limit N.blocks nodes.old nodes.new }
+    ensures looks { Looks N.Nodes nodes.old nodes.new }
     ensures reads { N.reads nodes.new ≡ N.reads nodes.old + 1 }
     ensures asks { OnOk result (N.asked nodes.new ≤ N.asked nodes.old + read_pages is_body (N.page nodes.old) (N.node nodes.old block)) }
 {

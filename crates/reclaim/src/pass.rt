@@ -7,7 +7,7 @@ ghost use Rattle.block_trees.specs.Reached.{Reached, Names};
 ghost use Rattle.block_trees.specs.Trees.{IsRoot};
 ghost use Rattle.node_format.specs.Headers.{body_header};
 ghost use Rattle.node_store.specs.Faults.{IsReadFault};
-ghost use Rattle.node_store.specs.Frames.{OnlyLooks};
+ghost use Rattle.node_store.specs.Words.{Looks};
 ghost use Rattle.reclaim.specs.Kinds.{Knows, mark_pages, HasAsked};
 ghost use Rattle.reclaim.specs.MoreRoots.{AddsRoot};
 ghost use Rattle.reclaim.specs.Passes.{IsMarked, IsPass, IsFinished, HasRead, IsMarkFault, Begins, Advances, HasStepped, AreNoted};
@@ -120,7 +120,7 @@ impl Pass {
 
         // Whatever is answered, each read was of another block that the roots reach.
         ensures seen { IsPass (N.node nodes.old) self.old → HasRead (N.node nodes.old) self.old (N.reads nodes.old) (N.reads nodes.new) }
-        ensures looks { OnlyLooks N.node N.kept N.writes N.follows N.is_sound N.limit N.blocks nodes.old nodes.new }
+        ensures looks { Looks N.Nodes nodes.old nodes.new }
 
         // Damaged where a block that the roots reach has no node, and only there.
         ensures damaged { IsPass (N.node nodes.old) self.old → IsErrOf result Fault.Damaged → (b : ℕ) × Reached (N.node nodes.old) self.old.roots b × (N.node nodes.old b ≡ None) }
@@ -149,7 +149,7 @@ impl Pass {
         ensures on { Advances self.old self.new }
         ensures read { OnOk result ((N.reads nodes.new + self.old.next ≡ N.reads nodes.old + self.new.next) × HasAsked (N.page nodes.old) (N.node nodes.old) self.old self.new (N.asked nodes.old) (N.asked nodes.new) × Knows (N.limit nodes.new) (N.node nodes.new) self.new) }
         ensures seen { HasRead (N.node nodes.old) self.old (N.reads nodes.old) (N.reads nodes.new) }
-        ensures looks { OnlyLooks N.node N.kept N.writes N.follows N.is_sound N.limit N.blocks nodes.old nodes.new }
+        ensures looks { Looks N.Nodes nodes.old nodes.new }
 
         // Why not.
         ensures damaged { IsErrOf result Fault.Damaged → (b : ℕ) × Reached (N.node nodes.old) self.old.roots b × (N.node nodes.old b ≡ None) }
@@ -218,7 +218,7 @@ impl Pass {
         ensures on { Advances self.old self.new }
         ensures next { OnOk result ((self.new.next ≡ self.old.next + 1) × (N.asked nodes.new ≤ N.asked nodes.old + mark_pages (N.page nodes.old) (N.node nodes.old (slice_index self.old.order self.old.next)))) }
         ensures reads { N.reads nodes.new ≡ N.reads nodes.old + 1 }
-        ensures looks { OnlyLooks N.node N.kept N.writes N.follows N.is_sound N.limit N.blocks nodes.old nodes.new }
+        ensures looks { Looks N.Nodes nodes.old nodes.new }
 
         // Why not.
         ensures damaged { IsPass (N.node nodes.old) self.old → IsErrOf result Fault.Damaged → (b : ℕ) × Reached (N.node nodes.old) self.old.roots b × (N.node nodes.old b ≡ None) }

@@ -9,7 +9,7 @@ ghost use Rattle.directory.specs.Depths.{HasDirectories, AreQuiet, loud_of};
 ghost use Rattle.directory.specs.Lookups.{LeadsToDirectories};
 ghost use Rattle.block_trees.specs.Reached.{Reached};
 ghost use Rattle.node_store.specs.Faults.{IsLookFault, IsReadFault};
-ghost use Rattle.node_store.specs.Frames.{OnlyLooks};
+ghost use Rattle.node_store.specs.Words.{Looks};
 ghost use Rattle.reclaim.specs.Heads.{HeadsAreTold};
 ghost use Rattle.reclaim.specs.Levels.{AreLeveled};
 ghost use Rattle.reclaim.specs.Looks.{NamesNodes, NextHoldsLink, IsLooked};
@@ -68,7 +68,7 @@ fn are_shallow<N: Nodes>(
     ensures exact { IfOk result (λ good. IsTrue good ↔ All (λ root. IsShallow (N.node nodes.old) (Dir root) MAX_NAMES) roots.now) }
     ensures why { IfErr result (λ fault. N.causes nodes.old nodes.new fault) }
     ensures faults { IfErr result IsLookFault }
-    ensures looks { OnlyLooks N.node N.kept N.writes N.follows N.is_sound N.limit N.blocks nodes.old nodes.new }
+    ensures looks { Looks N.Nodes nodes.old nodes.new }
     ensures reads { (all : List ℕ) → HasDirectories (N.node nodes.old) (N.blocks nodes.old) roots.now all → N.reads nodes.new ≤ N.reads nodes.old + (16 * length (loud_of quiet.now.members all) + length all) }
 {
     if is_known {
@@ -110,7 +110,7 @@ fn look_at_next<N: Examines>(
     ensures damaged { IsErrOf result Fault.Damaged → (b : ℕ) × Reached (N.node nodes.old) pass.old.roots b × (N.node nodes.old b ≡ None) }
     ensures why { IfErr result (λ fault. fault ≢ Fault.Damaged → N.causes nodes.old nodes.new fault) }
     ensures faults { IfErr result IsReadFault }
-    ensures looks { OnlyLooks N.node N.kept N.writes N.follows N.is_sound N.limit N.blocks nodes.old nodes.new }
+    ensures looks { Looks N.Nodes nodes.old nodes.new }
     ensures reads { (N.reads nodes.new ≤ N.reads nodes.old + once_reads (N.node nodes.old block)) × (N.asked nodes.new ≤ N.asked nodes.old + once_pages (N.page nodes.old) (N.limit nodes.old) (N.node nodes.old block)) }
 {
     let capacity = nodes.block_bytes() - BODY_HEADER;
@@ -158,7 +158,7 @@ fn look_at_all<N: Examines>(
     ensures damaged { IsErrOf result Fault.Damaged → (b : ℕ) × Reached (N.node nodes.old) pass.old.roots b × (N.node nodes.old b ≡ None) }
     ensures why { IfErr result (λ fault. fault ≢ Fault.Damaged → N.causes nodes.old nodes.new fault) }
     ensures faults { IfErr result IsReadFault }
-    ensures looks { OnlyLooks N.node N.kept N.writes N.follows N.is_sound N.limit N.blocks nodes.old nodes.new }
+    ensures looks { Looks N.Nodes nodes.old nodes.new }
     ensures reads { HasCost once_reads (N.node nodes.old) pass.old.roots (N.reads nodes.old) (N.reads nodes.new) }
     ensures asks { HasCost (once_pages (N.page nodes.old) (N.limit nodes.old)) (N.node nodes.old) pass.old.roots (N.asked nodes.old) (N.asked nodes.new) }
 {
@@ -199,7 +199,7 @@ fn are_whole<N: Examines>(
     ensures damaged { IsErrOf result Fault.Damaged → (b : ℕ) × Reached (N.node nodes.old) roots.now b × (N.node nodes.old b ≡ None) }
     ensures why { IfErr result (λ fault. fault ≢ Fault.Damaged → N.causes nodes.old nodes.new fault) }
     ensures faults { IfErr result IsReadFault }
-    ensures looks { OnlyLooks N.node N.kept N.writes N.follows N.is_sound N.limit N.blocks nodes.old nodes.new }
+    ensures looks { Looks N.Nodes nodes.old nodes.new }
     ensures reads { HasCost once_reads (N.node nodes.old) roots.now (N.reads nodes.old) (N.reads nodes.new) }
     ensures asks { HasCost (once_pages (N.page nodes.old) (N.limit nodes.old)) (N.node nodes.old) roots.now (N.asked nodes.old) (N.asked nodes.new) }
 {
@@ -240,7 +240,7 @@ pub fn verify<N: Examines>(
     ensures damaged { IsErrOf result Fault.Damaged → AreRoots (N.limit nodes.old) (N.node nodes.old) roots.now × (plain ≡ true → IsPlain (N.node nodes.old) roots.now) → ⊥ }
     ensures why { IfErr result (λ fault. fault ≢ Fault.Damaged → N.causes nodes.old nodes.new fault) }
     ensures faults { IfErr result IsReadFault }
-    ensures looks { OnlyLooks N.node N.kept N.writes N.follows N.is_sound N.limit N.blocks nodes.old nodes.new }
+    ensures looks { Looks N.Nodes nodes.old nodes.new }
     ensures reads { HasCost all_reads (N.node nodes.old) roots.now (N.reads nodes.old) (N.reads nodes.new) }
     ensures asks { HasCost (all_pages (N.page nodes.old) (N.limit nodes.old)) (N.node nodes.old) roots.now (N.asked nodes.old) (N.asked nodes.new) }
 {

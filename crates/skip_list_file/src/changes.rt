@@ -5,11 +5,10 @@ ghost use Rattle.node_format.specs.Headers.{body_header};
 ghost use Rattle.plain_trees.specs.Contents.{nodes_from, pwrite_need, ftruncate_need, resized, overwritten};
 ghost use Rattle.block_trees.specs.Bodies as bodies;
 ghost use Rattle.block_trees.specs.Bodies.{head_index};
-ghost use Rattle.block_trees.specs.Reached.{Keeps};
 ghost use Rattle.skip_list_file.specs.Reading.{nodes_between, AsksPageEach, HasDigits, HoldsBody};
 ghost use Rattle.skip_list_file.specs.Writing as spec;
 ghost use Rattle.skip_list_file.specs.Writing.{IsWritingFault, WritesNodes};
-ghost use Rattle.node_store.specs.Frames.{Works};
+ghost use Rattle.node_store.specs.Words.{Keeps, Works};
 ghost use Rattle.fs_types.specs.declared.limits.TheConstants.{MAX_FILE_BYTES};
 
 use crate::body::Body;
@@ -43,7 +42,7 @@ fn write_nodes<N: Nodes>(
     ensures reads { (digits : ℕ) → HasDigits (head_index change.capacity change.body.length) digits → N.reads nodes.new ≤ N.reads nodes.old + (nodes_between change.capacity (change.offset + length bytes.now) change.body.length + (1 + 2 * digits)) }
     ensures writes { WritesNodes result (N.writes nodes.old) (N.writes nodes.new) (nodes_from change.capacity (min change.offset change.body.length) change.size) }
     ensures refused { IfErr result (λ fault. IsWritingFault fault × N.causes nodes.old nodes.new fault) }
-    ensures works { Works N.follows N.is_sound N.limit N.blocks nodes.old nodes.new }
+    ensures works { Works N.Nodes nodes.old nodes.new }
 {
     let Start {
         first,
@@ -98,7 +97,7 @@ fn change_body<N: Nodes>(
     ensures reads { (digits : ℕ) → HasDigits (head_index (N.limit nodes.old - body_header) body.length) digits → N.reads nodes.new ≤ N.reads nodes.old + (2 * nodes_between (N.limit nodes.old - body_header) (offset + length bytes.now) body.length + (1 + 5 * digits)) }
     ensures writes { WritesNodes result (N.writes nodes.old) (N.writes nodes.new) (nodes_from (N.limit nodes.old - body_header) (min offset body.length) size) }
     ensures refused { IfErr result (λ fault. IsWritingFault fault × N.causes nodes.old nodes.new fault) }
-    ensures works { Works N.follows N.is_sound N.limit N.blocks nodes.old nodes.new }
+    ensures works { Works N.Nodes nodes.old nodes.new }
 {
     let capacity = nodes.block_bytes() - BODY_HEADER;
     let change = Change {
@@ -137,13 +136,13 @@ pub fn write_range<N: Nodes>(
     // The new body, beside the old one.
     ensures written { IfOk result (λ new. spec.IsWritten (N.limit nodes.old - body_header) (N.node nodes.new) (N.kept nodes.new) new (overwritten (bodies.body (N.limit nodes.old - body_header) (N.node nodes.old) body.head body.length) offset bytes.now)) }
     ensures reaches { IfOk result (λ new. spec.BodyOnlyReaches (N.limit nodes.old - body_header) (N.node nodes.old) (N.node nodes.new) (N.kept nodes.old) body new) }
-    ensures keeps { Keeps (N.kept nodes.old) (N.node nodes.old) (N.kept nodes.new) (N.node nodes.new) }
+    ensures keeps { Keeps N.Nodes nodes.old nodes.new }
 
     // What it costs, and why it is refused.
     ensures reads { (digits : ℕ) → HasDigits (head_index (N.limit nodes.old - body_header) body.length) digits → N.reads nodes.new ≤ N.reads nodes.old + (2 * nodes_between (N.limit nodes.old - body_header) (offset + length bytes.now) body.length + (1 + 5 * digits)) }
     ensures writes { WritesNodes result (N.writes nodes.old) (N.writes nodes.new) (pwrite_need (N.limit nodes.old - body_header) body.length offset (length bytes.now)) }
     ensures refused { IfErr result (λ fault. IsWritingFault fault × N.causes nodes.old nodes.new fault) }
-    ensures works { Works N.follows N.is_sound N.limit N.blocks nodes.old nodes.new }
+    ensures works { Works N.Nodes nodes.old nodes.new }
 {
     let end = offset + bytes.len() as u32;
     change_body(alloc, nodes, body, offset, bytes, body.length.max(end))
@@ -169,13 +168,13 @@ pub fn set_length<N: Nodes>(
     // The new body, beside the old one.
     ensures written { IfOk result (λ new. spec.IsWritten (N.limit nodes.old - body_header) (N.node nodes.new) (N.kept nodes.new) new (resized (bodies.body (N.limit nodes.old - body_header) (N.node nodes.old) body.head body.length) length)) }
     ensures reaches { IfOk result (λ new. spec.BodyOnlyReaches (N.limit nodes.old - body_header) (N.node nodes.old) (N.node nodes.new) (N.kept nodes.old) body new) }
-    ensures keeps { Keeps (N.kept nodes.old) (N.node nodes.old) (N.kept nodes.new) (N.node nodes.new) }
+    ensures keeps { Keeps N.Nodes nodes.old nodes.new }
 
     // What it costs, and why it is refused.
     ensures reads { (digits : ℕ) → HasDigits (head_index (N.limit nodes.old - body_header) body.length) digits → N.reads nodes.new ≤ N.reads nodes.old + (1 + 5 * digits) }
     ensures writes { WritesNodes result (N.writes nodes.old) (N.writes nodes.new) (ftruncate_need (N.limit nodes.old - body_header) body.length length) }
     ensures refused { IfErr result (λ fault. IsWritingFault fault × N.causes nodes.old nodes.new fault) }
-    ensures works { Works N.follows N.is_sound N.limit N.blocks nodes.old nodes.new }
+    ensures works { Works N.Nodes nodes.old nodes.new }
 {
     if length > body.length {
         return change_body(alloc, nodes, body, body.length, &[], length);

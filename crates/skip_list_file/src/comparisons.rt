@@ -4,7 +4,7 @@ ghost use Rattle.node_format.specs.Headers.{body_header};
 ghost use Rattle.plain_trees.specs.Contents.{same_bytes};
 ghost use Rattle.block_trees.specs.Bodies as trees;
 ghost use Rattle.block_trees.specs.Bodies.{index_of, data_of, head_index, IsBody};
-ghost use Rattle.node_store.specs.Frames.{OnlyLooks};
+ghost use Rattle.node_store.specs.Words.{Looks};
 ghost use Rattle.node_store.specs.NodePages.{pages_for};
 ghost use Rattle.node_store.specs.Parts.{pages_of_range};
 ghost use Rattle.skip_list_file.specs.Reading.{AsksPageEach, HasDigits, IsBodyFault};
@@ -35,7 +35,7 @@ fn peek_data<N: Peeks>(nodes: &mut N, block: u32, from: u32, out: &mut [u8]) -> 
 
     // One read, of the pages that hold the data, and nothing is written.
     ensures refused { IfErr result (λ fault. IsBodyFault fault × N.causes nodes.old nodes.new fault) }
-    ensures looks { OnlyLooks N.node N.kept N.writes N.follows N.is_sound N.limit N.blocks nodes.old nodes.new }
+    ensures looks { Looks N.Nodes nodes.old nodes.new }
     ensures reads { N.reads nodes.new ≡ N.reads nodes.old + 1 }
     ensures asks { N.asked nodes.new ≤ N.asked nodes.old + pages_of_range (N.page nodes.old) (body_header + from) (length out.old) }
 {
@@ -64,7 +64,7 @@ fn has_data<N: Peeks>(
     ensures reads { N.reads nodes.new ≤ N.reads nodes.old + pages_for (N.page nodes.old) (body_header + length bytes.now) }
     ensures asks { AsksPageEach N.asked N.reads nodes.old nodes.new }
     ensures refused { IfErr result (λ fault. IsBodyFault fault × N.causes nodes.old nodes.new fault) }
-    ensures looks { OnlyLooks N.node N.kept N.writes N.follows N.is_sound N.limit N.blocks nodes.old nodes.new }
+    ensures looks { Looks N.Nodes nodes.old nodes.new }
 {
     let header = BODY_HEADER as usize;
     // No block has more bytes than its contract tells, so no node has.
@@ -104,7 +104,7 @@ pub fn has_bytes<N: Peeks>(
     ensures reads { (digits : ℕ) → HasDigits (head_index (N.limit nodes.old - body_header) body.length) digits → N.reads nodes.new ≤ N.reads nodes.old + (head_index (N.limit nodes.old - body_header) body.length + 1) * (pages_for (N.page nodes.old) (N.limit nodes.old) + 2 * digits) }
     ensures asks { AsksPageEach N.asked N.reads nodes.old nodes.new }
     ensures refused { IfErr result (λ fault. IsBodyFault fault × N.causes nodes.old nodes.new fault) }
-    ensures looks { OnlyLooks N.node N.kept N.writes N.follows N.is_sound N.limit N.blocks nodes.old nodes.new }
+    ensures looks { Looks N.Nodes nodes.old nodes.new }
 {
     if body.length == 0 {
         return Ok(true);
@@ -136,7 +136,7 @@ fn has_all<N: Peeks>(
     ensures reads { (digits : ℕ) → HasDigits (head_index capacity body.length) digits → N.reads nodes.new ≤ N.reads nodes.old + (head_index capacity body.length + 1) * (pages_for (N.page nodes.old) (N.limit nodes.old) + 2 * digits) }
     ensures asks { AsksPageEach N.asked N.reads nodes.old nodes.new }
     ensures refused { IfErr result (λ fault. IsBodyFault fault × N.causes nodes.old nodes.new fault) }
-    ensures looks { OnlyLooks N.node N.kept N.writes N.follows N.is_sound N.limit N.blocks nodes.old nodes.new }
+    ensures looks { Looks N.Nodes nodes.old nodes.new }
 {
     let last = (body.length - 1) / capacity;
     for index in 0..last + 1 {

@@ -7,7 +7,7 @@ ghost use Rattle.node_format.specs.declared.headers.TheConstants.{SLOTS};
 ghost use Rattle.plain_trees.specs.Contents.{read_from};
 ghost use Rattle.block_trees.specs.Bodies.{head_index};
 ghost use Rattle.node_store.specs.Faults.{IsWriteFault};
-ghost use Rattle.node_store.specs.Frames.{OnlyLooks, Works};
+ghost use Rattle.node_store.specs.Words.{Looks, Works};
 ghost use Rattle.skip_list_file.specs.Reading.{AreBlocks, HoldsBody, IsBodyFault};
 ghost use Rattle.skip_list_file.specs.Writing as spec;
 ghost use Rattle.skip_list_file.specs.Writing.{IsWritingFault, ReadsKept, WritesNodes};
@@ -61,7 +61,7 @@ fn edit_into<N: Nodes>(
     // The old node is read once at most, and nothing is written.
     ensures reads { ReadsKept change (change.offset + length bytes.now) index (length out.old) (length old.now) (N.reads nodes.old) (N.reads nodes.new) }
     ensures refused { IfErr result (λ fault. IsBodyFault fault × N.causes nodes.old nodes.new fault) }
-    ensures looks { OnlyLooks N.node N.kept N.writes N.follows N.is_sound N.limit N.blocks nodes.old nodes.new }
+    ensures looks { Looks N.Nodes nodes.old nodes.new }
 {
     let end = change.offset + bytes.len() as u32;
     read_kept(nodes, change, end, old, index, out)?;
@@ -94,7 +94,7 @@ fn edited_node<N: Nodes>(
     // The old node is read once at most, and nothing is written.
     ensures reads { ReadsKept change (change.offset + length bytes.now) index (spec.part_length change index) (length old.now) (N.reads nodes.old) (N.reads nodes.new) }
     ensures refused { IfErr result (λ fault. IsBodyFault fault × N.causes nodes.old nodes.new fault) }
-    ensures looks { OnlyLooks N.node N.kept N.writes N.follows N.is_sound N.limit N.blocks nodes.old nodes.new }
+    ensures looks { Looks N.Nodes nodes.old nodes.new }
 {
     let count = change.capacity.min(change.size - index * change.capacity);
     let mut node = body_room(alloc, index, slots, count)?;
@@ -117,7 +117,7 @@ fn write_new<N: Nodes>(nodes: &mut N, node: Vec<u8>, is_last: bool) -> Result<u3
     // One write, and no read.
     ensures reads { N.reads nodes.new ≡ N.reads nodes.old }
     ensures writes { N.writes nodes.new ≡ N.writes nodes.old + 1 }
-    ensures works { Works N.follows N.is_sound N.limit N.blocks nodes.old nodes.new }
+    ensures works { Works N.Nodes nodes.old nodes.new }
 {
     let block = nodes.write_owned(node)?;
     if !is_last {
@@ -152,7 +152,7 @@ fn append<N: Nodes>(
     ensures reads { N.reads nodes.new ≡ N.reads nodes.old }
     ensures writes { WritesNodes result (N.writes nodes.old) (N.writes nodes.new) 1 }
     ensures refused { IfErr result (λ fault. IsWritingFault fault × N.causes nodes.old nodes.new fault) }
-    ensures works { Works N.follows N.is_sound N.limit N.blocks nodes.old nodes.new }
+    ensures works { Works N.Nodes nodes.old nodes.new }
 {
     let block = write_new(nodes, node, is_last)?;
     table.move_on(index, block);
@@ -188,7 +188,7 @@ pub(crate) fn write_node<N: Nodes>(
     ensures reads { ReadsKept change (change.offset + length bytes.now) index (spec.part_length change index) (length old.now) (N.reads nodes.old) (N.reads nodes.new) }
     ensures writes { WritesNodes result (N.writes nodes.old) (N.writes nodes.new) 1 }
     ensures refused { IfErr result (λ fault. IsWritingFault fault × N.causes nodes.old nodes.new fault) }
-    ensures works { Works N.follows N.is_sound N.limit N.blocks nodes.old nodes.new }
+    ensures works { Works N.Nodes nodes.old nodes.new }
 {
     let node = edited_node(alloc, nodes, change, bytes, old, &table.blocks, index)?;
     let is_last = change.size - index * change.capacity <= change.capacity;

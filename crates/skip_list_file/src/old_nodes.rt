@@ -6,7 +6,7 @@ ghost use Rattle.block_trees.specs.Bodies.{back, head_index, IsChain, IsLinked, 
 ghost use Rattle.skip_list_file.specs.Reading as spec;
 ghost use Rattle.skip_list_file.specs.Reading.{nodes_between, HoldsBody, IsBodyFault};
 ghost use Rattle.skip_list_file.specs.Writing.{ReadsKept};
-ghost use Rattle.node_store.specs.Frames.{OnlyLooks};
+ghost use Rattle.node_store.specs.Words.{Looks};
 
 use crate::body::Body;
 use crate::change::Change;
@@ -33,7 +33,7 @@ pub(crate) fn list_blocks<N: Nodes>(
     ensures reads { N.reads nodes.new ≤ N.reads nodes.old + nodes_between capacity from body.length }
     ensures asks { spec.AsksPageEach N.asked N.reads nodes.old nodes.new }
     ensures refused { IfErr result (λ fault. IsBodyFault fault × N.causes nodes.old nodes.new fault) }
-    ensures looks { OnlyLooks N.node N.kept N.writes N.follows N.is_sound N.limit N.blocks nodes.old nodes.new }
+    ensures looks { Looks N.Nodes nodes.old nodes.new }
 {
     if from >= body.length {
         return Ok(Vec::new(alloc));
@@ -71,7 +71,7 @@ fn find_listed<N: Nodes>(
     ensures reads { (digits : ℕ) → spec.HasDigits head_index digits → N.reads nodes.new ≤ N.reads nodes.old + 2 * digits }
     ensures asks { spec.AsksPageEach N.asked N.reads nodes.old nodes.new }
     ensures refused { IfErr result (λ fault. IsBodyFault fault × N.causes nodes.old nodes.new fault) }
-    ensures looks { OnlyLooks N.node N.kept N.writes N.follows N.is_sound N.limit N.blocks nodes.old nodes.new }
+    ensures looks { Looks N.Nodes nodes.old nodes.new }
 {
     match blocks.get((head_index - index) as usize) {
         Some(block) => Ok(*block),
@@ -106,7 +106,7 @@ pub(crate) fn read_kept<N: Nodes>(
     // One read at most beside the way to the node, and no write.
     ensures reads { ReadsKept change end index (length out.old) (length old.now) (N.reads nodes.old) (N.reads nodes.new) }
     ensures refused { IfErr result (λ fault. IsBodyFault fault × N.causes nodes.old nodes.new fault) }
-    ensures looks { OnlyLooks N.node N.kept N.writes N.follows N.is_sound N.limit N.blocks nodes.old nodes.new }
+    ensures looks { Looks N.Nodes nodes.old nodes.new }
 {
     let start = index * change.capacity;
     let kept = change

@@ -6,7 +6,7 @@ ghost use Rattle.node_format.specs.BodyNodes.{HasSlot};
 ghost use Rattle.block_trees.specs.Bodies.{index_of, pointer_of, data_of, back, data_to, head_index, IsChain, IsLinked, IsBody};
 ghost use Rattle.block_trees.specs.Bodies as trees;
 ghost use Rattle.skip_list_file.specs.Reading as spec;
-ghost use Rattle.node_store.specs.Frames.{OnlyLooks};
+ghost use Rattle.node_store.specs.Words.{Looks};
 ghost use Rattle.node_store.specs.NodePages.{pages_for};
 ghost use Rattle.node_store.specs.Parts.{pages_of_range};
 
@@ -39,7 +39,7 @@ pub(crate) fn pointer_at<N: Nodes>(nodes: &mut N, block: u32, slot: u32) -> Resu
     ensures refused { IfErr result (λ fault. spec.IsBodyFault fault × N.causes nodes.old nodes.new fault) }
 
     // What is read.
-    ensures looks { OnlyLooks N.node N.kept N.writes N.follows N.is_sound N.limit N.blocks nodes.old nodes.new }
+    ensures looks { Looks N.Nodes nodes.old nodes.new }
     ensures reads { N.reads nodes.new ≡ N.reads nodes.old + 1 }
     ensures asks { N.asked nodes.new ≤ N.asked nodes.old + 1 }
     ensures partly { N.partly nodes.new ≡ N.partly nodes.old }
@@ -71,7 +71,7 @@ pub(crate) fn find<N: Nodes>(
     ensures asks { spec.AsksPageEach N.asked N.reads nodes.old nodes.new }
     ensures partly { N.partly nodes.new ≡ N.partly nodes.old }
     ensures refused { IfErr result (λ fault. spec.IsBodyFault fault × N.causes nodes.old nodes.new fault) }
-    ensures looks { OnlyLooks N.node N.kept N.writes N.follows N.is_sound N.limit N.blocks nodes.old nodes.new }
+    ensures looks { Looks N.Nodes nodes.old nodes.new }
 {
     let mut block = head;
     let mut at = head_index;
@@ -103,7 +103,7 @@ pub(crate) fn copy_data<N: Nodes>(
 
     // One read, of a block's pages at most, and nothing is written.
     ensures refused { IfErr result (λ fault. spec.IsBodyFault fault × N.causes nodes.old nodes.new fault) }
-    ensures looks { OnlyLooks N.node N.kept N.writes N.follows N.is_sound N.limit N.blocks nodes.old nodes.new }
+    ensures looks { Looks N.Nodes nodes.old nodes.new }
     ensures reads { N.reads nodes.new ≡ N.reads nodes.old + 1 }
     ensures asks { N.asked nodes.new ≤ N.asked nodes.old + pages_for (N.page nodes.old) (N.limit nodes.old) }
 {
@@ -132,7 +132,7 @@ pub(crate) fn copy_part<N: Nodes>(
 
     // One read, of the pages that hold the data unless a part of the node was read last, and nothing is written.
     ensures refused { IfErr result (λ fault. spec.IsBodyFault fault × N.causes nodes.old nodes.new fault) }
-    ensures looks { OnlyLooks N.node N.kept N.writes N.follows N.is_sound N.limit N.blocks nodes.old nodes.new }
+    ensures looks { Looks N.Nodes nodes.old nodes.new }
     ensures reads { N.reads nodes.new ≡ N.reads nodes.old + 1 }
     ensures asks { N.partly nodes.old ≢ block → N.asked nodes.new ≤ N.asked nodes.old + pages_of_range (N.page nodes.old) (body_header + from) (length out.old) }
     ensures asks_most { N.asked nodes.new ≤ N.asked nodes.old + pages_for (N.page nodes.old) (N.limit nodes.old) }
@@ -162,7 +162,7 @@ fn copy_piece<N: Nodes>(
 
     // One read, of the pages that hold the data or of a block's, and nothing is written.
     ensures refused { IfErr result (λ fault. spec.IsBodyFault fault × N.causes nodes.old nodes.new fault) }
-    ensures looks { OnlyLooks N.node N.kept N.writes N.follows N.is_sound N.limit N.blocks nodes.old nodes.new }
+    ensures looks { Looks N.Nodes nodes.old nodes.new }
     ensures reads { N.reads nodes.new ≡ N.reads nodes.old + 1 }
     ensures asks { N.asked nodes.new ≤ N.asked nodes.old + pages_for (N.page nodes.old) (N.limit nodes.old) }
     ensures asks_part { whole ≡ false → N.partly nodes.old ≢ block → N.asked nodes.new ≤ N.asked nodes.old + pages_of_range (N.page nodes.old) (body_header + from) (length out.old) }
@@ -201,7 +201,7 @@ fn fill<N: Nodes>(
     ensures asks { N.asked nodes.new ≤ N.asked nodes.old + spec.nodes_between capacity start end * pages_for (N.page nodes.old) (N.limit nodes.old) }
     ensures asks_part { whole ≡ false → start / capacity ≡ (end - 1) / capacity → N.partly nodes.old ≢ block → N.asked nodes.new ≤ N.asked nodes.old + pages_of_range (N.page nodes.old) (body_header + start % capacity) (end - start) }
     ensures refused { IfErr result (λ fault. spec.IsBodyFault fault × N.causes nodes.old nodes.new fault) }
-    ensures looks { OnlyLooks N.node N.kept N.writes N.follows N.is_sound N.limit N.blocks nodes.old nodes.new }
+    ensures looks { Looks N.Nodes nodes.old nodes.new }
 {
     let mut block = block;
     let mut end = end;
@@ -252,7 +252,7 @@ pub fn read_range<N: Nodes>(
     ensures unread { spec.nodes_of_range (N.limit nodes.old - body_header) body.length offset count ≡ 0 → N.reads nodes.new ≡ N.reads nodes.old }
     ensures why { IfErr result (λ fault. N.causes nodes.old nodes.new fault) }
     ensures faults { IfErr result spec.IsBodyFault }
-    ensures looks { OnlyLooks N.node N.kept N.writes N.follows N.is_sound N.limit N.blocks nodes.old nodes.new }
+    ensures looks { Looks N.Nodes nodes.old nodes.new }
 {
     let end = offset.saturating_add(count).min(u64::from(body.length));
     if offset >= end {

@@ -1,7 +1,7 @@
 //! What the nodes of a changed body are written after: found by reads alone.
 ghost use Rattle.std.specs.Prelude.{◌≡◌, ℕ, ◌+◌, ◌*◌, ◌≤◌, ◌^◌, IfOk, IfErr};
 ghost use Rattle.block_trees.specs.Bodies.{head_index};
-ghost use Rattle.node_store.specs.Frames.{OnlyLooks};
+ghost use Rattle.node_store.specs.Words.{Looks};
 ghost use Rattle.skip_list_file.specs.Reading.{nodes_between, AsksPageEach, HasDigits, HoldsBody, IsBodyFault};
 ghost use Rattle.skip_list_file.specs.Writing as spec;
 
@@ -42,7 +42,7 @@ pub(crate) fn find_front<N: Nodes>(
     ensures reads { (digits : ℕ) → HasDigits (head_index capacity body.length) digits → N.reads nodes.new ≤ N.reads nodes.old + 2 * digits }
     ensures asks { AsksPageEach N.asked N.reads nodes.old nodes.new }
     ensures refused { IfErr result (λ fault. IsBodyFault fault × N.causes nodes.old nodes.new fault) }
-    ensures looks { OnlyLooks N.node N.kept N.writes N.follows N.is_sound N.limit N.blocks nodes.old nodes.new }
+    ensures looks { Looks N.Nodes nodes.old nodes.new }
 {
     if part == 0 {
         return Ok(0);
@@ -67,7 +67,7 @@ pub(crate) fn start_at<N: Nodes>(
     ensures reads { (digits : ℕ) → HasDigits (head_index change.capacity change.body.length) digits → N.reads nodes.new ≤ N.reads nodes.old + (nodes_between change.capacity end change.body.length + 3 * digits) }
     ensures asks { AsksPageEach N.asked N.reads nodes.old nodes.new }
     ensures refused { IfErr result (λ fault. IsBodyFault fault × N.causes nodes.old nodes.new fault) }
-    ensures looks { OnlyLooks N.node N.kept N.writes N.follows N.is_sound N.limit N.blocks nodes.old nodes.new }
+    ensures looks { Looks N.Nodes nodes.old nodes.new }
 {
     let capacity = change.capacity;
     let first = change.offset.min(change.body.length) / capacity;

@@ -4,7 +4,7 @@ ghost use Rattle.block_trees.specs.Bodies.{back, IsChain, IsLinked};
 ghost use Rattle.node_format.specs.declared.headers.TheConstants.{SLOTS};
 ghost use Rattle.skip_list_file.specs.Reading.{AsksPageEach, IsBodyFault};
 ghost use Rattle.skip_list_file.specs.Writing as spec;
-ghost use Rattle.node_store.specs.Frames.{OnlyLooks};
+ghost use Rattle.node_store.specs.Words.{Looks};
 
 use crate::range_reads::pointer_at;
 use fs_types::Fault;
@@ -34,7 +34,7 @@ fn step_back<N: Nodes>(nodes: &mut N, block: u32, most: u32, slot: u32) -> Resul
     ensures unread { most < 2 ^ slot → N.reads nodes.new ≡ N.reads nodes.old }
     ensures asks { AsksPageEach N.asked N.reads nodes.old nodes.new }
     ensures refused { IfErr result (λ fault. IsBodyFault fault × N.causes nodes.old nodes.new fault) }
-    ensures looks { OnlyLooks N.node N.kept N.writes N.follows N.is_sound N.limit N.blocks nodes.old nodes.new }
+    ensures looks { Looks N.Nodes nodes.old nodes.new }
 {
     let power = 2u32.pow(slot);
     if most / power % 2 == 0 {
@@ -62,7 +62,7 @@ pub(crate) fn start_table<N: Nodes>(
     ensures reads { (digits : ℕ) → index ≤ 2 ^ digits → N.reads nodes.new ≤ N.reads nodes.old + digits }
     ensures asks { AsksPageEach N.asked N.reads nodes.old nodes.new }
     ensures refused { IfErr result (λ fault. IsBodyFault fault × N.causes nodes.old nodes.new fault) }
-    ensures looks { OnlyLooks N.node N.kept N.writes N.follows N.is_sound N.limit N.blocks nodes.old nodes.new }
+    ensures looks { Looks N.Nodes nodes.old nodes.new }
 {
     let mut blocks = [head; SLOTS];
     if index == 0 {

@@ -2,8 +2,8 @@
 ghost use Rattle.std.specs.Prelude.{◌≡◌, ℕ, ◌+◌, ◌-◌, ◌≤◌, Ok, IfOk, IfErr};
 ghost use Rattle.node_format.specs.Headers.{body_header};
 ghost use Rattle.node_format.specs.declared.place.Place.TheVariants.{Dir};
-ghost use Rattle.block_trees.specs.Reached.{IsHeld, Keeps};
-ghost use Rattle.block_trees.specs.Trees.{IsRoot, root_tree};
+ghost use Rattle.node_store.specs.Words.{IsHeld, IsRoot, Keeps};
+ghost use Rattle.block_trees.specs.Trees.{root_tree};
 ghost use Rattle.directory.specs.Trails.{IsChangeFault};
 ghost use Rattle.tree_edits.specs.Edits.{IsEditable, ReadsFew, effect, source, edit_need};
 ghost use Rattle.tree_edits.specs.Roots.{IsNewRoot};
@@ -29,13 +29,13 @@ pub fn apply<N: Nodes>(
     edit: Edit<'_, '_>,
 ) -> Result<u32, Fault>
     requires sound { N.is_sound nodes.old }
-    requires held { IsHeld (N.node nodes.old) (N.kept nodes.old) (Dir root) }
-    requires rooted { IsRoot (N.limit nodes.old - body_header) (N.node nodes.old) root }
+    requires held { IsHeld N.Nodes nodes.old (Dir root) }
+    requires rooted { IsRoot N.Nodes nodes.old root }
     requires editable { IsEditable (N.limit nodes.old - body_header) (N.node nodes.old) (N.kept nodes.old) root edit }
 
     // The new tree, and that the old one stays.
     ensures root { IfOk result (λ to. IsNewRoot (N.limit nodes.old - body_header) (N.node nodes.old) (N.kept nodes.old) (N.node nodes.new) (N.kept nodes.new) (source root edit.entry) to (effect (root_tree (N.limit nodes.old - body_header) (N.node nodes.old)) edit.entry (root_tree (N.limit nodes.old - body_header) (N.node nodes.old) root))) }
-    ensures keeps { Keeps (N.kept nodes.old) (N.node nodes.old) (N.kept nodes.new) (N.node nodes.new) }
+    ensures keeps { Keeps N.Nodes nodes.old nodes.new }
 
     // What it is refused with, and what it asks for.
     ensures why { IfErr result (λ fault. N.causes nodes.old nodes.new fault) }

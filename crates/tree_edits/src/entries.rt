@@ -1,12 +1,10 @@
 //! Directories made, and entries taken out and moved.
-ghost use Rattle.std.specs.Prelude.{◌≡◌, ℕ, ◌+◌, ◌-◌, ◌≤◌, ◌<◌, true, false, length, Ok};
+ghost use Rattle.std.specs.Prelude.{◌≡◌, ℕ, ◌+◌, ◌≤◌, ◌<◌, true, false, length, Ok};
 ghost use Rattle.plain_trees.specs.Contents.{Apart, Entry};
 ghost use Rattle.fs_types.specs.Names.{is_path};
 ghost use Rattle.plain_trees.specs.Trees.{put, remove, move};
-ghost use Rattle.node_format.specs.Headers.{body_header};
 ghost use Rattle.node_format.specs.declared.place.Place.TheVariants.{Dir};
-ghost use Rattle.block_trees.specs.Reached.{IsHeld};
-ghost use Rattle.block_trees.specs.Trees.{IsRoot};
+ghost use Rattle.node_store.specs.Words.{IsHeld, IsRoot};
 ghost use Rattle.directory.specs.declared.lookups.Found.{Found};
 ghost use Rattle.directory.specs.declared.lookups.Found.TheVariants.{Missing};
 ghost use Rattle.directory.specs.Lookups.{look_up};
@@ -30,8 +28,8 @@ pub(crate) fn make<N: Nodes>(
     path: &Path,
 ) -> Result<u32, Fault>
     requires sound { N.is_sound nodes.old }
-    requires held { IsHeld (N.node nodes.old) (N.kept nodes.old) (Dir root) }
-    requires rooted { IsRoot (N.limit nodes.old - body_header) (N.node nodes.old) root }
+    requires held { IsHeld N.Nodes nodes.old (Dir root) }
+    requires rooted { IsRoot N.Nodes nodes.old root }
     requires lawful { is_path path.now ≡ true }
     requires way { IsTrail (N.node nodes.old) root path.now trail.now }
     requires missing { look_up (N.node nodes.old) root path.now ≡ Ok (Missing false) }
@@ -53,8 +51,8 @@ pub(crate) fn remove<N: Nodes>(
     path: &Path,
 ) -> Result<u32, Fault>
     requires sound { N.is_sound nodes.old }
-    requires held { IsHeld (N.node nodes.old) (N.kept nodes.old) (Dir root) }
-    requires rooted { IsRoot (N.limit nodes.old - body_header) (N.node nodes.old) root }
+    requires held { IsHeld N.Nodes nodes.old (Dir root) }
+    requires rooted { IsRoot N.Nodes nodes.old root }
     requires lawful { is_path path.now ≡ true }
     requires way { IsTrail (N.node nodes.old) root path.now trail.now }
     requires below { 0 < length path.now }
@@ -80,8 +78,8 @@ pub(crate) fn rename<N: Nodes>(
     place: Place,
 ) -> Result<u32, Fault>
     requires sound { N.is_sound nodes.old }
-    requires held { IsHeld (N.node nodes.old) (N.kept nodes.old) (Dir root) }
-    requires rooted { IsRoot (N.limit nodes.old - body_header) (N.node nodes.old) root }
+    requires held { IsHeld N.Nodes nodes.old (Dir root) }
+    requires rooted { IsRoot N.Nodes nodes.old root }
     requires apart { Apart old.now new.now }
     requires movable { IsMovable (N.node nodes.old) root old.now old_trail.now new.now new_trail.now place }
 

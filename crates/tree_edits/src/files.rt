@@ -7,9 +7,7 @@ ghost use Rattle.fs_types.specs.Names.{is_path};
 ghost use Rattle.node_format.specs.Headers.{body_header};
 ghost use Rattle.node_format.specs.declared.place.Place.TheVariants.{Dir, File};
 ghost use Rattle.block_trees.specs.Bodies.{head_index};
-ghost use Rattle.block_trees.specs.Reached.{IsHeld, Keeps};
 ghost use Rattle.block_trees.specs.Rewritten.{IsRewritten};
-ghost use Rattle.block_trees.specs.Trees.{IsRoot};
 ghost use Rattle.directory.specs.declared.lookups.Found.{Found};
 ghost use Rattle.directory.specs.declared.lookups.Found.TheVariants as found;
 ghost use Rattle.directory.specs.Counts.{path_nodes};
@@ -18,7 +16,7 @@ ghost use Rattle.directory.specs.Lookups.{look_up};
 ghost use Rattle.directory.specs.Trails.{IsSought, IsTrail, IsChangeFault};
 ghost use Rattle.tree_edits.specs.Edits.{TakesFile, overwrite_reads, resize_reads};
 ghost use Rattle.tree_edits.specs.Roots.{IsApplied, IsFreshBody};
-ghost use Rattle.node_store.specs.Frames.{Works};
+ghost use Rattle.node_store.specs.Words.{IsHeld, IsRoot, Keeps, Works};
 ghost use Rattle.skip_list_file.specs.Writing.{IsWritten, IsWritingFault};
 ghost use Rattle.skip_list_file.specs.Reading.{HasDigits};
 
@@ -46,7 +44,7 @@ fn put_body<N: Nodes>(
     // The new tree, and that the old one stays.
     ensures rewritten { IfOk result (λ to. IsRewritten (N.node nodes.old) (N.node nodes.new) (N.kept nodes.old) (N.kept nodes.new) root to path.now (Some (File body.head body.length))) }
     ensures reaches { IfOk result (λ to. OnlyReaches (N.node nodes.old) (N.node nodes.new) (N.kept nodes.old) root to (Some (File body.head body.length))) }
-    ensures keeps { Keeps (N.kept nodes.old) (N.node nodes.old) (N.kept nodes.new) (N.node nodes.new) }
+    ensures keeps { Keeps N.Nodes nodes.old nodes.new }
 
     // What it is refused with, and what it asks for.
     ensures why { IfErr result (λ fault. N.causes nodes.old nodes.new fault) }
@@ -71,8 +69,8 @@ pub(crate) fn put_empty<N: Nodes>(
     path: &Path,
 ) -> Result<u32, Fault>
     requires sound { N.is_sound nodes.old }
-    requires held { IsHeld (N.node nodes.old) (N.kept nodes.old) (Dir root) }
-    requires rooted { IsRoot (N.limit nodes.old - body_header) (N.node nodes.old) root }
+    requires held { IsHeld N.Nodes nodes.old (Dir root) }
+    requires rooted { IsRoot N.Nodes nodes.old root }
     requires lawful { is_path path.now ≡ true }
     requires way { IsTrail (N.node nodes.old) root path.now trail.now }
     requires fits { (x : Found) × (look_up (N.node nodes.old) root path.now ≡ Ok x) × TakesFile x }
@@ -98,13 +96,13 @@ pub(crate) fn write_body<N: Nodes>(
     // The new body, and that all else stays.
     ensures written { IfOk result (λ new. IsWritten (N.limit nodes.old - body_header) (N.node nodes.new) (N.kept nodes.new) new bytes.now) }
     ensures fresh { IfOk result (IsFreshBody (N.kept nodes.old) (N.node nodes.new)) }
-    ensures keeps { Keeps (N.kept nodes.old) (N.node nodes.old) (N.kept nodes.new) (N.node nodes.new) }
+    ensures keeps { Keeps N.Nodes nodes.old nodes.new }
 
     // What it costs, and why it is refused.
     ensures reads { N.reads nodes.new ≤ N.reads nodes.old + 1 }
     ensures writes { N.writes nodes.new ≤ N.writes nodes.old + body_need (N.limit nodes.old - body_header) (length bytes.now) }
     ensures refused { IfErr result (λ fault. IsWritingFault fault × N.causes nodes.old nodes.new fault) }
-    ensures works { Works N.follows N.is_sound N.limit N.blocks nodes.old nodes.new }
+    ensures works { Works N.Nodes nodes.old nodes.new }
 {
     let none = Body { head: 0, length: 0 };
     if bytes.is_empty() {
@@ -123,8 +121,8 @@ pub(crate) fn write_file<N: Nodes>(
     bytes: &[u8],
 ) -> Result<u32, Fault>
     requires sound { N.is_sound nodes.old }
-    requires held { IsHeld (N.node nodes.old) (N.kept nodes.old) (Dir root) }
-    requires rooted { IsRoot (N.limit nodes.old - body_header) (N.node nodes.old) root }
+    requires held { IsHeld N.Nodes nodes.old (Dir root) }
+    requires rooted { IsRoot N.Nodes nodes.old root }
     requires lawful { is_path path.now ≡ true }
     requires way { IsTrail (N.node nodes.old) root path.now trail.now }
     requires fits { (x : Found) × (look_up (N.node nodes.old) root path.now ≡ Ok x) × TakesFile x }
@@ -152,8 +150,8 @@ pub(crate) fn overwrite<N: Nodes>(
     bytes: &[u8],
 ) -> Result<u32, Fault>
     requires sound { N.is_sound nodes.old }
-    requires held { IsHeld (N.node nodes.old) (N.kept nodes.old) (Dir root) }
-    requires rooted { IsRoot (N.limit nodes.old - body_header) (N.node nodes.old) root }
+    requires held { IsHeld N.Nodes nodes.old (Dir root) }
+    requires rooted { IsRoot N.Nodes nodes.old root }
     requires lawful { is_path path.now ≡ true }
     requires way { IsTrail (N.node nodes.old) root path.now trail.now }
     requires found { look_up (N.node nodes.old) root path.now ≡ Ok (found.File body.head body.length) }
@@ -181,8 +179,8 @@ pub(crate) fn resize<N: Nodes>(
     size: u32,
 ) -> Result<u32, Fault>
     requires sound { N.is_sound nodes.old }
-    requires held { IsHeld (N.node nodes.old) (N.kept nodes.old) (Dir root) }
-    requires rooted { IsRoot (N.limit nodes.old - body_header) (N.node nodes.old) root }
+    requires held { IsHeld N.Nodes nodes.old (Dir root) }
+    requires rooted { IsRoot N.Nodes nodes.old root }
     requires lawful { is_path path.now ≡ true }
     requires way { IsTrail (N.node nodes.old) root path.now trail.now }
     requires found { look_up (N.node nodes.old) root path.now ≡ Ok (found.File body.head body.length) }

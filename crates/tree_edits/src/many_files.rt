@@ -6,15 +6,14 @@ ghost use Rattle.plain_trees.specs.Contents.{body_need};
 ghost use Rattle.plain_trees.specs.Files.{files_put, bodies_need};
 ghost use Rattle.node_format.specs.Headers.{body_header};
 ghost use Rattle.node_format.specs.declared.place.Place.TheVariants.{Dir};
-ghost use Rattle.block_trees.specs.Reached.{IsHeld, Keeps};
-ghost use Rattle.block_trees.specs.Trees.{IsRoot, leads};
+ghost use Rattle.block_trees.specs.Trees.{leads};
 ghost use Rattle.directory.specs.Counts.{nodes_in, path_nodes};
 ghost use Rattle.directory.specs.declared.lookups.Found.TheVariants as found;
 ghost use Rattle.directory.specs.Lookups.{look_up};
 ghost use Rattle.directory.specs.Trails.{IsTrail, IsChangeFault};
 ghost use Rattle.tree_edits.specs.Edits.{AreWritable, chosen, files_nodes};
 ghost use Rattle.tree_edits.specs.Roots.{IsApplied, IsNewFile, AreNewFiles, IsLinked};
-ghost use Rattle.node_store.specs.Frames.{Works};
+ghost use Rattle.node_store.specs.Words.{IsHeld, IsRoot, Keeps, Works};
 ghost use Rattle.skip_list_file.specs.Writing.{IsWritingFault};
 
 use crate::files::write_body;
@@ -31,13 +30,13 @@ fn write_place<N: Nodes>(alloc: Global, nodes: &mut N, bytes: &[u8]) -> Result<P
 
     // The new file, and that all else stays.
     ensures written { IfOk result (IsNewFile (N.limit nodes.old - body_header) (N.kept nodes.old) (N.node nodes.new) (N.kept nodes.new) bytes.now) }
-    ensures keeps { Keeps (N.kept nodes.old) (N.node nodes.old) (N.kept nodes.new) (N.node nodes.new) }
+    ensures keeps { Keeps N.Nodes nodes.old nodes.new }
 
     // What it costs, and why it is refused.
     ensures reads { N.reads nodes.new ≤ N.reads nodes.old + 1 }
     ensures writes { N.writes nodes.new ≤ N.writes nodes.old + body_need (N.limit nodes.old - body_header) (length bytes.now) }
     ensures refused { IfErr result (λ fault. IsWritingFault fault × N.causes nodes.old nodes.new fault) }
-    ensures works { Works N.follows N.is_sound N.limit N.blocks nodes.old nodes.new }
+    ensures works { Works N.Nodes nodes.old nodes.new }
 {
     let body = write_body(alloc, nodes, bytes)?;
     Ok(Place::File {
@@ -60,13 +59,13 @@ fn write_bodies<'n, N: Nodes>(
 
     // The new files, and that all else stays.
     ensures written { IfOk result (λ puts. AreNewFiles (N.limit nodes.old - body_header) (N.kept nodes.old) (N.node nodes.new) (N.kept nodes.new) (chosen files.now changes.now) puts.items) }
-    ensures keeps { Keeps (N.kept nodes.old) (N.node nodes.old) (N.kept nodes.new) (N.node nodes.new) }
+    ensures keeps { Keeps N.Nodes nodes.old nodes.new }
 
     // What it costs, and why it is refused.
     ensures reads { N.reads nodes.new ≤ N.reads nodes.old + length (chosen files.now changes.now) }
     ensures writes { N.writes nodes.new ≤ N.writes nodes.old + bodies_need (N.limit nodes.old - body_header) (chosen files.now changes.now) }
     ensures refused { IfErr result (λ fault. IsWritingFault fault × N.causes nodes.old nodes.new fault) }
-    ensures works { Works N.follows N.is_sound N.limit N.blocks nodes.old nodes.new }
+    ensures works { Works N.Nodes nodes.old nodes.new }
 {
     let mut puts = Vec::new(alloc);
     for i in 0..files.len() {
@@ -92,13 +91,13 @@ fn link_directory<N: Nodes>(
     block: u32,
 ) -> Result<u32, Fault>
     requires sound { N.is_sound nodes.old }
-    requires held { IsHeld (N.node nodes.old) (N.kept nodes.old) (Dir root) }
+    requires held { IsHeld N.Nodes nodes.old (Dir root) }
     requires way { IsTrail (N.node nodes.old) root directory.now trail.now }
     requires led { (was : ℕ) × (look_up (N.node nodes.old) root directory.now ≡ Ok (found.Dir was)) × (leads (N.node nodes.old) (Dir root) directory.now ≡ Some (Dir was)) }
 
     // The new tree, and that the old one stays.
     ensures linked { IfOk result (λ to. IsLinked (N.node nodes.old) (N.node nodes.new) (N.kept nodes.old) (N.kept nodes.new) root to directory.now block) }
-    ensures keeps { Keeps (N.kept nodes.old) (N.node nodes.old) (N.kept nodes.new) (N.node nodes.new) }
+    ensures keeps { Keeps N.Nodes nodes.old nodes.new }
 
     // What it is refused with, and what it asks for.
     ensures why { IfErr result (λ fault. N.causes nodes.old nodes.new fault) }
@@ -125,8 +124,8 @@ pub(crate) fn write_files<N: Nodes>(
     changes: &[bool],
 ) -> Result<u32, Fault>
     requires sound { N.is_sound nodes.old }
-    requires held { IsHeld (N.node nodes.old) (N.kept nodes.old) (Dir root) }
-    requires rooted { IsRoot (N.limit nodes.old - body_header) (N.node nodes.old) root }
+    requires held { IsHeld N.Nodes nodes.old (Dir root) }
+    requires rooted { IsRoot N.Nodes nodes.old root }
     requires writable { AreWritable (N.node nodes.old) root directory.now trail.now block files.now changes.now }
 
     // The edited tree, and how many nodes were written and read for it.

@@ -1,6 +1,6 @@
 use Rattle.std.proofs.Common.{◌≡◌, ◌+◌, ◌-◌}
 use Rattle.std.specs.FinSet as set
-use Rattle.node_store.specs.Frames.{OnlyLooks}
+use Rattle.node_store.specs.Words.{Looks}
 use Rattle.directory.specs.Depths.{count_below, is_loud}
 use Rattle.directory.proofs.LevelNodes.{IsOnWay}
 use Rattle.directory.proofs.depths.add_chain.Given as goal
@@ -12,7 +12,7 @@ invariant-chain g l = record {
   seen_size : l.seen.blocks ≡ l.fn.seen.blocks;
   found_size : l.found.blocks ≡ l.fn.found.blocks;
   reads : g.N.Nodes.reads l.nodes + count_below (is_loud l.quiet.members l.fn.seen.members) l.fn.seen.blocks ≡ g.N.Nodes.reads l.fn.nodes + count_below (is_loud l.quiet.members l.seen.members) l.fn.seen.blocks;
-  looks : OnlyLooks g.N.Nodes.node g.N.Nodes.kept g.N.Nodes.writes g.N.Nodes.follows g.N.Nodes.is_sound g.N.Nodes.limit g.N.Nodes.blocks l.fn.nodes l.nodes;
+  looks : Looks g.N.Nodes l.fn.nodes l.nodes;
 }
 
 abbrev pub decreases-chain : goal.decreases-chain

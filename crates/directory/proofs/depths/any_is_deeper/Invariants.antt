@@ -1,7 +1,7 @@
 use Rattle.std.proofs.Common.{◌≡◌, ◌≤◌, ◌+◌, ◌*◌, ℕ, true, List, length}
 use Rattle.std.specs.Prelude.{Contains}
 use Rattle.std.specs.FinSet as set
-use Rattle.node_store.specs.Frames.{OnlyLooks}
+use Rattle.node_store.specs.Words.{Looks}
 use Rattle.directory.specs.Depths.{HasDirectories, loud_of}
 use Rattle.directory.proofs.Levels.{IsLevel}
 use Rattle.directory.proofs.depths.any_is_deeper.Given as goal
@@ -13,5 +13,5 @@ invariant-loop-done g l = record {
   size : l.level.blocks ≡ g.N.Nodes.blocks l.fn.nodes;
   listed : (list : List ℕ) → HasDirectories (g.N.Nodes.node l.fn.nodes) (g.N.Nodes.blocks l.fn.nodes) l.roots list → (b : ℕ) → set.contains l.level.members b ≡ true → Contains list b;
   reads : (list : List ℕ) → HasDirectories (g.N.Nodes.node l.fn.nodes) (g.N.Nodes.blocks l.fn.nodes) l.roots list → g.N.Nodes.reads l.nodes ≤ g.N.Nodes.reads l.fn.nodes + l.done * length (loud_of l.quiet.members list);
-  looks : OnlyLooks g.N.Nodes.node g.N.Nodes.kept g.N.Nodes.writes g.N.Nodes.follows g.N.Nodes.is_sound g.N.Nodes.limit g.N.Nodes.blocks l.fn.nodes l.nodes;
+  looks : Looks g.N.Nodes l.fn.nodes l.nodes;
 }

@@ -2,7 +2,7 @@ use Rattle.std.proofs.Common.{◌≡◌, ◌+◌, ℕ, ap, subst, sym, refl, ◌
 use Rattle.std.specs.FinSet as set
 use Rattle.allocator.specs.BlockSet.{BlockSet}
 use Rattle.std.proofs.lemmas.Result.{err_from_is_err_and}
-use Rattle.node_store.specs.Frames.{OnlyLooks}
+use Rattle.node_store.specs.Words.{Looks}
 use Rattle.block_trees.specs.Bodies.{Blocks}
 use Rattle.directory.specs.Depths.{count_below, is_loud, AreQuiet, AreNamedBy}
 use Rattle.directory.proofs.Counting.{loud_few}
@@ -43,7 +43,7 @@ loop-block-preserved g c =
             seen_size = ap (λ (s : BlockSet). s.blocks) w.seen-is ∙ w.add_chain.ensures.size.0 ∙ before.seen_size;
             next_size = ap (λ (s : BlockSet). s.blocks) w.next-is ∙ w.add_chain.ensures.size.1 ∙ before.next_size;
             reads = ap g.N.Nodes.reads w.nodes-is ∙ reads_now ∙ ap (λ (s : BlockSet). first + count_below (is_loud c.args.quiet.now.members s.members) most) (sym w.seen-is);
-            looks = subst (λ n. OnlyLooks g.N.Nodes.node g.N.Nodes.kept g.N.Nodes.writes g.N.Nodes.follows g.N.Nodes.is_sound g.N.Nodes.limit g.N.Nodes.blocks c.args.nodes.now n) (sym w.nodes-is)
+            looks = subst (λ n. Looks g.N.Nodes c.args.nodes.now n) (sym w.nodes-is)
                 (g.met.N.Nodes.looks_on c.args.nodes.now c.loop-block.nodes w.add_chain.new.nodes before.looks w.add_chain.ensures.looks);
           }
       | else-contains w ↦ record {
@@ -53,7 +53,7 @@ loop-block-preserved g c =
         seen_size = ap (λ (s : BlockSet). s.blocks) w.seen-is ∙ before.seen_size;
         next_size = ap (λ (s : BlockSet). s.blocks) w.next-is ∙ before.next_size;
         reads = ap g.N.Nodes.reads w.nodes-is ∙ before.reads ∙ ap (λ (s : BlockSet). first + count_below (is_loud c.args.quiet.now.members s.members) most) (sym w.seen-is);
-        looks = subst (λ n. OnlyLooks g.N.Nodes.node g.N.Nodes.kept g.N.Nodes.writes g.N.Nodes.follows g.N.Nodes.is_sound g.N.Nodes.limit g.N.Nodes.blocks c.args.nodes.now n) (sym w.nodes-is) before.looks;
+        looks = subst (λ n. Looks g.N.Nodes c.args.nodes.now n) (sym w.nodes-is) before.looks;
       }
     ]
 

@@ -1,5 +1,5 @@
 use Rattle.std.proofs.Common.{◌≡◌, ◌+◌}
-use Rattle.node_store.specs.Frames.{OnlyLooks}
+use Rattle.node_store.specs.Words.{Looks}
 use Rattle.directory.specs.Depths.{count_below, is_loud}
 use Rattle.directory.proofs.LevelNodes.{IsLevelRead}
 use Rattle.directory.proofs.depths.next_level.Given as goal
@@ -11,5 +11,5 @@ invariant-loop-block g l = record {
   seen_size : l.seen.blocks ≡ l.level.blocks;
   next_size : l.next.blocks ≡ l.level.blocks;
   reads : g.N.Nodes.reads l.nodes ≡ g.N.Nodes.reads l.fn.nodes + count_below (is_loud l.quiet.members l.seen.members) l.level.blocks;
-  looks : OnlyLooks g.N.Nodes.node g.N.Nodes.kept g.N.Nodes.writes g.N.Nodes.follows g.N.Nodes.is_sound g.N.Nodes.limit g.N.Nodes.blocks l.fn.nodes l.nodes;
+  looks : Looks g.N.Nodes l.fn.nodes l.nodes;
 }

@@ -3,8 +3,8 @@ use Rattle.std.proofs.lemmas.Result.{err_from_is_err_and}
 use Rattle.fs_types.specs.Names.{Path}
 use Rattle.block_trees.specs.Bodies.{Blocks}
 use Rattle.block_trees.specs.Chains.{link_of}
-use Rattle.block_trees.specs.Reached.{Keeps}
 use Rattle.node_format.specs.declared.place.Place.TheVariants.{Dir}
+use Rattle.node_store.specs.Words.{Keeps}
 use Rattle.directory.specs.declared.lookups.Found.TheVariants.{Missing}
 use Rattle.directory.specs.Lookups.{look_up}
 use Rattle.directory.specs.Trails.{has_room}
@@ -14,6 +14,7 @@ use Rattle.directory.proofs.NewDirectories.{rewritten_before}
 use Rattle.directory.proofs.TrailEdits.{look_later, trail_later, path_nodes-later}
 use Rattle.directory.proofs.WrittenNodes.{empty_written, chained_is}
 use Rattle.directory.proofs.edits.put_directory.Goals as goal
+use Rattle.node_store.specs.WordLaws.{keeps_nodes}
 
 missing_below : (f : Blocks) (root : ℕ) (path : Path) → look_up f root path ≡ Ok (Missing false) → 0 < length path
 missing_below f root [] missing = absurd cc
@@ -23,10 +24,7 @@ pub put_entry-requires-clause-sought : goal.put_entry-requires-clause-sought
 put_entry-requires-clause-sought g c =
     let old = c.args.nodes.now in
     let mid = c.write.new.self in
-    let keeps : Keeps (g.N.Nodes.kept old) (g.N.Nodes.node old) (g.N.Nodes.kept mid) (g.N.Nodes.node mid) = record {
-      same = λ b kept. g.met.N.Nodes.same_node old mid b c.requires.sound c.write.ensures.works.came kept;
-      stays = λ b kept. g.met.N.Nodes.stays_kept old mid b c.write.ensures.works.came kept;
-    } in
+    let keeps : Keeps g.N.Nodes old mid = keeps_nodes g.N.Nodes g.met.N.Nodes.same_node g.met.N.Nodes.stays_kept old mid c.requires.sound c.write.ensures.works.came in
     record {
       below = missing_below (g.N.Nodes.node old) c.args.root c.args.path.now c.requires.missing;
       held = held_later (g.N.Nodes.node old) (g.N.Nodes.node mid) (g.N.Nodes.kept old) (g.N.Nodes.kept mid) keeps c.args.root c.requires.held;
@@ -37,10 +35,7 @@ pub put_entry-requires-clause-room : goal.put_entry-requires-clause-room
 put_entry-requires-clause-room g c =
     let old = c.args.nodes.now in
     let mid = c.write.new.self in
-    let keeps : Keeps (g.N.Nodes.kept old) (g.N.Nodes.node old) (g.N.Nodes.kept mid) (g.N.Nodes.node mid) = record {
-      same = λ b kept. g.met.N.Nodes.same_node old mid b c.requires.sound c.write.ensures.works.came kept;
-      stays = λ b kept. g.met.N.Nodes.stays_kept old mid b c.write.ensures.works.came kept;
-    } in
+    let keeps : Keeps g.N.Nodes old mid = keeps_nodes g.N.Nodes g.met.N.Nodes.same_node g.met.N.Nodes.stays_kept old mid c.requires.sound c.write.ensures.works.came in
     ap has_room (look_later (g.N.Nodes.node old) (g.N.Nodes.node mid) (g.N.Nodes.kept old) (g.N.Nodes.kept mid) keeps c.args.path.now c.args.root c.requires.held ∙ c.requires.missing)
 
 pub returns-in_err-to-clause-why : goal.returns-in_err-to-clause-why
@@ -54,10 +49,7 @@ returns-clause-made g c =
     let old = c.args.nodes.now in
     let mid = c.write.new.self in
     let new = c.put_entry.new.nodes in
-    let keeps : Keeps (g.N.Nodes.kept old) (g.N.Nodes.node old) (g.N.Nodes.kept mid) (g.N.Nodes.node mid) = record {
-      same = λ b kept. g.met.N.Nodes.same_node old mid b c.requires.sound c.write.ensures.works.came kept;
-      stays = λ b kept. g.met.N.Nodes.stays_kept old mid b c.write.ensures.works.came kept;
-    } in
+    let keeps : Keeps g.N.Nodes old mid = keeps_nodes g.N.Nodes g.met.N.Nodes.same_node g.met.N.Nodes.stays_kept old mid c.requires.sound c.write.ensures.works.came in
     let block = c.in_ok-block.block in
     let same = g.met.N.Nodes.same_node mid new block c.write.ensures.works.sound c.put_entry.ensures.works.came c.in_ok-block.ensures.kept in
     record {
@@ -73,17 +65,11 @@ returns-clause-reaches g c =
     let old = c.args.nodes.now in
     let new = c.put_entry.new.nodes in
     let before = g.met.N.Nodes.follows_on old c.write.new.self new c.write.ensures.works.came c.put_entry.ensures.works.came in
-    let keeps : Keeps (g.N.Nodes.kept old) (g.N.Nodes.node old) (g.N.Nodes.kept new) (g.N.Nodes.node new) = record {
-      same = λ b kept. g.met.N.Nodes.same_node old new b c.requires.sound before kept;
-      stays = λ b kept. g.met.N.Nodes.stays_kept old new b before kept;
-    } in
+    let keeps : Keeps g.N.Nodes old new = keeps_nodes g.N.Nodes g.met.N.Nodes.same_node g.met.N.Nodes.stays_kept old new c.requires.sound before in
     made_reaches (g.N.Nodes.node old) (g.N.Nodes.node new) (g.N.Nodes.kept old) (g.N.Nodes.kept new) c.args.root c.in_ok-to.to c.args.path.now keeps c.requires.held (returns-clause-made g c)
 
 pub returns-in_err-block-clause-keeps : goal.returns-in_err-block-clause-keeps
-returns-in_err-block-clause-keeps g c = record {
-  same = λ b kept. g.met.N.Nodes.same_node c.args.nodes.now c.write.new.self b c.requires.sound c.write.ensures.works.came kept;
-  stays = λ b kept. g.met.N.Nodes.stays_kept c.args.nodes.now c.write.new.self b c.write.ensures.works.came kept;
-}
+returns-in_err-block-clause-keeps g c = keeps_nodes g.N.Nodes g.met.N.Nodes.same_node g.met.N.Nodes.stays_kept c.args.nodes.now c.write.new.self c.requires.sound c.write.ensures.works.came
 
 pub returns-in_err-block-clause-works : goal.returns-in_err-block-clause-works
 returns-in_err-block-clause-works g c = c.write.ensures.works
@@ -94,20 +80,14 @@ returns-in_err-block-clause-why g c =
     rw (p.1, p.2) c.in_err-block.ensures.why
 
 pub returns-in_err-to-clause-keeps : goal.returns-in_err-to-clause-keeps
-returns-in_err-to-clause-keeps g c = record {
-  same = λ b kept. g.met.N.Nodes.same_node c.args.nodes.now c.put_entry.new.nodes b c.requires.sound (g.met.N.Nodes.follows_on c.args.nodes.now c.write.new.self c.put_entry.new.nodes c.write.ensures.works.came c.put_entry.ensures.works.came) kept;
-  stays = λ b kept. g.met.N.Nodes.stays_kept c.args.nodes.now c.put_entry.new.nodes b (g.met.N.Nodes.follows_on c.args.nodes.now c.write.new.self c.put_entry.new.nodes c.write.ensures.works.came c.put_entry.ensures.works.came) kept;
-}
+returns-in_err-to-clause-keeps g c = keeps_nodes g.N.Nodes g.met.N.Nodes.same_node g.met.N.Nodes.stays_kept c.args.nodes.now c.put_entry.new.nodes c.requires.sound (g.met.N.Nodes.follows_on c.args.nodes.now c.write.new.self c.put_entry.new.nodes c.write.ensures.works.came c.put_entry.ensures.works.came)
 
 pub returns-in_err-to-clause-works : goal.returns-in_err-to-clause-works
 returns-in_err-to-clause-works g c =
     g.met.N.Nodes.works_on c.args.nodes.now c.write.new.self c.put_entry.new.nodes c.write.ensures.works c.put_entry.ensures.works
 
 pub returns-clause-keeps : goal.returns-clause-keeps
-returns-clause-keeps g c = record {
-  same = λ b kept. g.met.N.Nodes.same_node c.args.nodes.now c.put_entry.new.nodes b c.requires.sound (g.met.N.Nodes.follows_on c.args.nodes.now c.write.new.self c.put_entry.new.nodes c.write.ensures.works.came c.put_entry.ensures.works.came) kept;
-  stays = λ b kept. g.met.N.Nodes.stays_kept c.args.nodes.now c.put_entry.new.nodes b (g.met.N.Nodes.follows_on c.args.nodes.now c.write.new.self c.put_entry.new.nodes c.write.ensures.works.came c.put_entry.ensures.works.came) kept;
-}
+returns-clause-keeps g c = keeps_nodes g.N.Nodes g.met.N.Nodes.same_node g.met.N.Nodes.stays_kept c.args.nodes.now c.put_entry.new.nodes c.requires.sound (g.met.N.Nodes.follows_on c.args.nodes.now c.write.new.self c.put_entry.new.nodes c.write.ensures.works.came c.put_entry.ensures.works.came)
 
 pub returns-clause-works : goal.returns-clause-works
 returns-clause-works g c =
@@ -122,10 +102,7 @@ pub returns-clause-writes : goal.returns-clause-writes
 returns-clause-writes g c =
     let old = c.args.nodes.now in
     let mid = c.write.new.self in
-    let keeps : Keeps (g.N.Nodes.kept old) (g.N.Nodes.node old) (g.N.Nodes.kept mid) (g.N.Nodes.node mid) = record {
-      same = λ b kept. g.met.N.Nodes.same_node old mid b c.requires.sound c.write.ensures.works.came kept;
-      stays = λ b kept. g.met.N.Nodes.stays_kept old mid b c.write.ensures.works.came kept;
-    } in
+    let keeps : Keeps g.N.Nodes old mid = keeps_nodes g.N.Nodes g.met.N.Nodes.same_node g.met.N.Nodes.stays_kept old mid c.requires.sound c.write.ensures.works.came in
     let same = path_nodes-later (g.N.Nodes.node old) (g.N.Nodes.node mid) (g.N.Nodes.kept old) (g.N.Nodes.kept mid) c.args.path.now c.args.trail.now true 0 keeps (record { root = c.args.root; trail_of = c.requires.way; held = c.requires.held }) in
     let wrote = c.write.ensures.writes in
     let put = c.put_entry.ensures.writes in
@@ -135,10 +112,7 @@ pub returns-in_err-to-clause-writes : goal.returns-in_err-to-clause-writes
 returns-in_err-to-clause-writes g c =
     let old = c.args.nodes.now in
     let mid = c.write.new.self in
-    let keeps : Keeps (g.N.Nodes.kept old) (g.N.Nodes.node old) (g.N.Nodes.kept mid) (g.N.Nodes.node mid) = record {
-      same = λ b kept. g.met.N.Nodes.same_node old mid b c.requires.sound c.write.ensures.works.came kept;
-      stays = λ b kept. g.met.N.Nodes.stays_kept old mid b c.write.ensures.works.came kept;
-    } in
+    let keeps : Keeps g.N.Nodes old mid = keeps_nodes g.N.Nodes g.met.N.Nodes.same_node g.met.N.Nodes.stays_kept old mid c.requires.sound c.write.ensures.works.came in
     let same = path_nodes-later (g.N.Nodes.node old) (g.N.Nodes.node mid) (g.N.Nodes.kept old) (g.N.Nodes.kept mid) c.args.path.now c.args.trail.now true 0 keeps (record { root = c.args.root; trail_of = c.requires.way; held = c.requires.held }) in
     let wrote = c.write.ensures.writes in
     let put = c.put_entry.ensures.writes in
@@ -148,10 +122,7 @@ pub returns-clause-reads : goal.returns-clause-reads
 returns-clause-reads g c =
     let old = c.args.nodes.now in
     let mid = c.write.new.self in
-    let keeps : Keeps (g.N.Nodes.kept old) (g.N.Nodes.node old) (g.N.Nodes.kept mid) (g.N.Nodes.node mid) = record {
-      same = λ b kept. g.met.N.Nodes.same_node old mid b c.requires.sound c.write.ensures.works.came kept;
-      stays = λ b kept. g.met.N.Nodes.stays_kept old mid b c.write.ensures.works.came kept;
-    } in
+    let keeps : Keeps g.N.Nodes old mid = keeps_nodes g.N.Nodes g.met.N.Nodes.same_node g.met.N.Nodes.stays_kept old mid c.requires.sound c.write.ensures.works.came in
     let same = path_nodes-later (g.N.Nodes.node old) (g.N.Nodes.node mid) (g.N.Nodes.kept old) (g.N.Nodes.kept mid) c.args.path.now c.args.trail.now false 0 keeps (record { root = c.args.root; trail_of = c.requires.way; held = c.requires.held }) in
     let read = c.write.ensures.reads in
     let put = c.put_entry.ensures.reads in
@@ -161,10 +132,7 @@ pub returns-in_err-to-clause-reads : goal.returns-in_err-to-clause-reads
 returns-in_err-to-clause-reads g c =
     let old = c.args.nodes.now in
     let mid = c.write.new.self in
-    let keeps : Keeps (g.N.Nodes.kept old) (g.N.Nodes.node old) (g.N.Nodes.kept mid) (g.N.Nodes.node mid) = record {
-      same = λ b kept. g.met.N.Nodes.same_node old mid b c.requires.sound c.write.ensures.works.came kept;
-      stays = λ b kept. g.met.N.Nodes.stays_kept old mid b c.write.ensures.works.came kept;
-    } in
+    let keeps : Keeps g.N.Nodes old mid = keeps_nodes g.N.Nodes g.met.N.Nodes.same_node g.met.N.Nodes.stays_kept old mid c.requires.sound c.write.ensures.works.came in
     let same = path_nodes-later (g.N.Nodes.node old) (g.N.Nodes.node mid) (g.N.Nodes.kept old) (g.N.Nodes.kept mid) c.args.path.now c.args.trail.now false 0 keeps (record { root = c.args.root; trail_of = c.requires.way; held = c.requires.held }) in
     let read = c.write.ensures.reads in
     let put = c.put_entry.ensures.reads in

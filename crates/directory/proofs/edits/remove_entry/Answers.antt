@@ -1,10 +1,11 @@
 use Rattle.std.proofs.Common.{ℕ, List, None, sym, subst, rules}
 use Rattle.fs_types.specs.Names.{Path}
-use Rattle.block_trees.specs.Reached.{Keeps}
+use Rattle.node_store.specs.Words.{Keeps}
 use Rattle.directory.specs.Trails.{TakesName, IsHeldTrail}
 use Rattle.directory.proofs.EditedPaths.{only_reaches}
 use Rattle.directory.proofs.TrailEdits.{stands_taken}
 use Rattle.directory.proofs.edits.remove_entry.Goals as goal
+use Rattle.node_store.specs.WordLaws.{keeps_nodes}
 
 pub rewrite_from-requires-clause-taken : goal.rewrite_from-requires-clause-taken
 rewrite_from-requires-clause-taken g c =
@@ -29,8 +30,5 @@ returns-clause-reaches g c =
     let h = g.N.Nodes.node new in
     let k = g.N.Nodes.kept old in
     let l = g.N.Nodes.kept new in
-    let keeps : Keeps (g.N.Nodes.kept old) (g.N.Nodes.node old) (g.N.Nodes.kept new) (g.N.Nodes.node new) = record {
-      same = λ b kept. g.met.N.Nodes.same_node old new b c.requires.sound c.rewrite_from.ensures.works.came kept;
-      stays = λ b kept. g.met.N.Nodes.stays_kept old new b c.rewrite_from.ensures.works.came kept;
-    } in
+    let keeps : Keeps g.N.Nodes old new = keeps_nodes g.N.Nodes g.met.N.Nodes.same_node g.met.N.Nodes.stays_kept old new c.requires.sound c.rewrite_from.ensures.works.came in
     only_reaches f h k l c.args.root c.args.path.now None c.rewrite_from.result keeps c.requires.sought.held (search rules)

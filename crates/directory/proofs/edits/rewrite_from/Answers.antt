@@ -6,13 +6,14 @@ use Rattle.std.proofs.lemmas.Result.{err_from_is_err_and}
 use Rattle.fs_types.specs.Names.{Name}
 use Rattle.node_format.specs.Items.{Item}
 use Rattle.node_format.specs.declared.place.Place.TheVariants.{Dir}
+use Rattle.node_store.specs.Words.{Keeps}
 use Rattle.block_trees.specs.Trees.{entries_in, items_in}
-use Rattle.block_trees.specs.Reached.{Keeps}
 use Rattle.block_trees.specs.Rewritten.{IsDirectoryEdit, IsRewritten}
 use Rattle.directory.specs.Counts.{edit_nodes, read_nodes, path_nodes}
 use Rattle.directory.specs.Trails.{takes}
 use Rattle.directory.proofs.TrailEdits.{level_held, level_items, level_held_later, level_takes, rewritten_up, rewritten_last, path_nodes-last, path_nodes-linked, path_nodes-below, read_nodes-most}
 use Rattle.directory.proofs.edits.rewrite_from.Goals as goal
+use Rattle.node_store.specs.WordLaws.{keeps_nodes}
 
 pub edit_directory-requires-clause-held : goal.edit_directory-requires-clause-held
 edit_directory-requires-clause-held g c =
@@ -25,10 +26,7 @@ edit_directory-requires-in-loop-i-clause-held g c =
     let mid = c.loop-i.nodes in
     let test = c.loop-i-test.true in
     let auto = c.loop-i.auto.i in
-    let before : Keeps (g.N.Nodes.kept old) (g.N.Nodes.node old) (g.N.Nodes.kept mid) (g.N.Nodes.node mid) = record {
-      same = λ b kept. g.met.N.Nodes.same_node old mid b c.requires.sound c.loop-i.invariant.works.came kept;
-      stays = λ b kept. g.met.N.Nodes.stays_kept old mid b c.loop-i.invariant.works.came kept;
-    } in
+    let before : Keeps g.N.Nodes old mid = keeps_nodes g.N.Nodes g.met.N.Nodes.same_node g.met.N.Nodes.stays_kept old mid c.requires.sound c.loop-i.invariant.works.came in
     level_held_later (g.N.Nodes.node old) (g.N.Nodes.node mid) (g.N.Nodes.kept old) (g.N.Nodes.kept mid) c.args.names.now c.args.trail.now (c.loop-i.i - 1) c.requires.way (omega arith) before
 
 pub edit_directory-requires-in-loop-i-clause-takes : goal.edit_directory-requires-in-loop-i-clause-takes
@@ -42,10 +40,7 @@ edit_directory-requires-in-loop-i-clause-takes g c =
     let more : i + 1 < length names = omega arith in
     let within : i < length names = omega arith in
     let name : c.index-names-i.result ≡ get_or names i [] = c.index-names-i.is ∙ get_or_default names i c.index-names-i.result [] within in
-    let before : Keeps (g.N.Nodes.kept old) (g.N.Nodes.node old) (g.N.Nodes.kept mid) (g.N.Nodes.node mid) = record {
-      same = λ b kept. g.met.N.Nodes.same_node old mid b c.requires.sound c.loop-i.invariant.works.came kept;
-      stays = λ b kept. g.met.N.Nodes.stays_kept old mid b c.loop-i.invariant.works.came kept;
-    } in
+    let before : Keeps g.N.Nodes old mid = keeps_nodes g.N.Nodes g.met.N.Nodes.same_node g.met.N.Nodes.stays_kept old mid c.requires.sound c.loop-i.invariant.works.came in
     subst (λ (n : Name). takes (entries_in (g.N.Nodes.node mid) (slice_index c.args.trail.now i)) n (Some (Dir c.loop-i.to)) ≡ true) (sym name)
     (level_takes (g.N.Nodes.node old) (g.N.Nodes.node mid) (g.N.Nodes.kept old) (g.N.Nodes.kept mid) names c.args.trail.now i c.loop-i.to c.requires.way more before)
 
@@ -79,14 +74,8 @@ loop-i-preserved g c =
     let within : i < length names = omega arith in
     let next : c.loop-i.i ≡ i + 1 = omega arith in
     let name : c.index-names-i.result ≡ get_or names i [] = c.index-names-i.is ∙ get_or_default names i c.index-names-i.result [] within in
-    let before : Keeps (g.N.Nodes.kept old) (g.N.Nodes.node old) (g.N.Nodes.kept mid) (g.N.Nodes.node mid) = record {
-      same = λ b kept. g.met.N.Nodes.same_node old mid b c.requires.sound c.loop-i.invariant.works.came kept;
-      stays = λ b kept. g.met.N.Nodes.stays_kept old mid b c.loop-i.invariant.works.came kept;
-    } in
-    let keeps : Keeps (g.N.Nodes.kept mid) (g.N.Nodes.node mid) (g.N.Nodes.kept new) (g.N.Nodes.node new) = record {
-      same = λ b kept. g.met.N.Nodes.same_node mid new b c.loop-i.invariant.works.sound c.edit_directory-in-loop-i.ensures.works.came kept;
-      stays = λ b kept. g.met.N.Nodes.stays_kept mid new b c.edit_directory-in-loop-i.ensures.works.came kept;
-    } in
+    let before : Keeps g.N.Nodes old mid = keeps_nodes g.N.Nodes g.met.N.Nodes.same_node g.met.N.Nodes.stays_kept old mid c.requires.sound c.loop-i.invariant.works.came in
+    let keeps : Keeps g.N.Nodes mid new = keeps_nodes g.N.Nodes g.met.N.Nodes.same_node g.met.N.Nodes.stays_kept mid new c.loop-i.invariant.works.sound c.edit_directory-in-loop-i.ensures.works.came in
     let edit : IsDirectoryEdit f1 f2 (slice_index trail i) to (get_or names i []) (Some (Dir c.loop-i.to)) =
     subst (λ (n : Name). IsDirectoryEdit f1 f2 (slice_index trail i) to n (Some (Dir c.loop-i.to))) name c.in_ok-to-2.ensures.edited in
     let lower : IsRewritten f0 f1 k0 k1 (slice_index trail (i + 1)) c.loop-i.to (drop (i + 1) names) c.args.place =
@@ -204,10 +193,7 @@ returns-in_err-to-2-clause-writes g c =
     let next : c.loop-i.i ≡ i + 1 = omega arith in
     let above : c.args.level ≤ i = omega arith in
     let name : c.index-names-i.result ≡ get_or names i [] = c.index-names-i.is ∙ get_or_default names i c.index-names-i.result [] within in
-    let before : Keeps (g.N.Nodes.kept old) (g.N.Nodes.node old) (g.N.Nodes.kept mid) (g.N.Nodes.node mid) = record {
-      same = λ b kept. g.met.N.Nodes.same_node old mid b c.requires.sound c.loop-i.invariant.works.came kept;
-      stays = λ b kept. g.met.N.Nodes.stays_kept old mid b c.loop-i.invariant.works.came kept;
-    } in
+    let before : Keeps g.N.Nodes old mid = keeps_nodes g.N.Nodes g.met.N.Nodes.same_node g.met.N.Nodes.stays_kept old mid c.requires.sound c.loop-i.invariant.works.came in
     let same : items_in f1 (slice_index trail i) ≡ items_in f0 (slice_index trail i) = level_items f0 f1 (g.N.Nodes.kept old) (g.N.Nodes.kept mid) names trail i c.requires.way within before in
     let written : g.N.Nodes.writes new ≤ g.N.Nodes.writes mid + edit_nodes (items_in f0 (slice_index trail i)) (get_or names i []) true =
     subst (λ (items : List Item). g.N.Nodes.writes new ≤ g.N.Nodes.writes mid + edit_nodes items (get_or names i []) true) same
@@ -233,10 +219,7 @@ returns-in_err-to-2-clause-reads g c =
     let next : c.loop-i.i ≡ i + 1 = omega arith in
     let above : c.args.level ≤ i = omega arith in
     let name : c.index-names-i.result ≡ get_or names i [] = c.index-names-i.is ∙ get_or_default names i c.index-names-i.result [] within in
-    let before : Keeps (g.N.Nodes.kept old) (g.N.Nodes.node old) (g.N.Nodes.kept mid) (g.N.Nodes.node mid) = record {
-      same = λ b kept. g.met.N.Nodes.same_node old mid b c.requires.sound c.loop-i.invariant.works.came kept;
-      stays = λ b kept. g.met.N.Nodes.stays_kept old mid b c.loop-i.invariant.works.came kept;
-    } in
+    let before : Keeps g.N.Nodes old mid = keeps_nodes g.N.Nodes g.met.N.Nodes.same_node g.met.N.Nodes.stays_kept old mid c.requires.sound c.loop-i.invariant.works.came in
     let same : items_in f1 (slice_index trail i) ≡ items_in f0 (slice_index trail i) = level_items f0 f1 (g.N.Nodes.kept old) (g.N.Nodes.kept mid) names trail i c.requires.way within before in
     let read : g.N.Nodes.reads new ≤ g.N.Nodes.reads mid + read_nodes (items_in f0 (slice_index trail i)) (get_or names i []) true =
     subst (λ (items : List Item). g.N.Nodes.reads new ≤ g.N.Nodes.reads mid + read_nodes items (get_or names i []) true) same

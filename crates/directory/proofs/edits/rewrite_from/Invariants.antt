@@ -1,7 +1,7 @@
 use Rattle.std.proofs.Common.{◌≡◌, true, false, ◌≤◌, ◌+◌, drop}
 use Rattle.std.specs.Prelude.{slice_index}
 use Rattle.std.specs.Option.{is_some}
-use Rattle.node_store.specs.Frames.{Works}
+use Rattle.node_store.specs.Words.{Works}
 use Rattle.node_format.specs.Items.{is_place}
 use Rattle.node_format.specs.declared.place.Place.TheVariants.{Dir}
 use Rattle.block_trees.specs.Rewritten.{IsRewritten}
@@ -16,5 +16,5 @@ invariant-loop-i g l = record {
   rewritten : IsRewritten (g.N.Nodes.node l.fn.nodes) (g.N.Nodes.node l.nodes) (g.N.Nodes.kept l.fn.nodes) (g.N.Nodes.kept l.nodes) (slice_index l.trail l.i) l.to (drop l.i l.names) l.fn.place;
   writes : g.N.Nodes.writes l.nodes ≤ g.N.Nodes.writes l.fn.nodes + path_nodes (g.N.Nodes.node l.fn.nodes) l.trail l.names (is_some l.fn.place) l.i;
   reads : g.N.Nodes.reads l.nodes ≤ g.N.Nodes.reads l.fn.nodes + path_nodes (g.N.Nodes.node l.fn.nodes) l.trail l.names false l.i;
-  works : Works g.N.Nodes.follows g.N.Nodes.is_sound g.N.Nodes.limit g.N.Nodes.blocks l.fn.nodes l.nodes;
+  works : Works g.N.Nodes l.fn.nodes l.nodes;
 }

@@ -1,6 +1,6 @@
 use Rattle.std.proofs.Common.{◌≡◌, ◌-◌, ◌+◌, ◌*◌, ◌≤◌}
 use Rattle.fs_types.specs.declared.limits.TheConstants.{NODE_ENTRIES}
-use Rattle.node_store.specs.Frames.{OnlyLooks}
+use Rattle.node_store.specs.Words.{Looks}
 use Rattle.block_trees.specs.Chains.{most_after}
 use Rattle.directory.proofs.Sights.{IsSought}
 use Rattle.directory.proofs.lookups.seek.Given as goal
@@ -11,5 +11,5 @@ invariant-loop g l = record {
   sought : IsSought (g.N.Nodes.node l.fn.nodes) l.name l.block (most_after - l.counter) l.sight.next (l.counter + 1) l.count l.sight.place;
   few : l.count ≤ NODE_ENTRIES * (l.counter + 1);
   reads : g.N.Nodes.reads l.nodes ≡ g.N.Nodes.reads l.fn.nodes + (l.counter + 1);
-  looks : OnlyLooks g.N.Nodes.node g.N.Nodes.kept g.N.Nodes.writes g.N.Nodes.follows g.N.Nodes.is_sound g.N.Nodes.limit g.N.Nodes.blocks l.fn.nodes l.nodes;
+  looks : Looks g.N.Nodes l.fn.nodes l.nodes;
 }

@@ -6,8 +6,8 @@ use Rattle.std.specs.List.{sum_by}
 use Rattle.directory.specs.Counts.{nodes_in, edit_nodes, read_nodes}
 use Rattle.fs_types.specs.Names.{Name, Path, same_name}
 use Rattle.node_format.specs.declared.place.Place.TheVariants.{Dir}
+use Rattle.node_store.specs.Words.{Keeps}
 use Rattle.block_trees.specs.Trees.{entries_in, items_in}
-use Rattle.block_trees.specs.Reached.{Keeps}
 use Rattle.block_trees.specs.Rewritten.{IsDirectoryEdit, IsMoved}
 use Rattle.directory.specs.Trails.{IsHeldTrail, takes}
 use Rattle.directory.specs.Moves.{common, IsFork}
@@ -16,6 +16,7 @@ use Rattle.directory.proofs.TrailEdits.{first_is, level_takes, level_held_later}
 use Rattle.directory.proofs.Forks.{parted, fork_of}
 use Rattle.directory.proofs.Branches.{moved_up, level_along}
 use Rattle.directory.proofs.moves.move_entry.Goals as goal
+use Rattle.node_store.specs.WordLaws.{keeps_nodes}
 
 pub rewrite_fork-requires-clause-fork : goal.rewrite_fork-requires-clause-fork
 rewrite_fork-requires-clause-fork g c =
@@ -61,10 +62,7 @@ edit_directory-requires-clause-takes g c =
     let way : IsHeldTrail f0 k0 names trail =
     subst (λ (p : Path). IsHeldTrail f0 k0 p trail) (sym c.names-names.ensures.names)
     (subst (λ (t : List ℕ). IsHeldTrail f0 k0 c.args.old.now t) (sym c.blocks-blocks.ensures) (record { root = c.args.root; trail_of = c.requires.sought.old_way; held = c.requires.sought.held })) in
-    let before : Keeps (g.N.Nodes.kept old) (g.N.Nodes.node old) (g.N.Nodes.kept mid) (g.N.Nodes.node mid) = record {
-      same = λ b kept. g.met.N.Nodes.same_node old mid b c.requires.sound c.loop-i.invariant.works.came kept;
-      stays = λ b kept. g.met.N.Nodes.stays_kept old mid b c.loop-i.invariant.works.came kept;
-    } in
+    let before : Keeps g.N.Nodes old mid = keeps_nodes g.N.Nodes g.met.N.Nodes.same_node g.met.N.Nodes.stays_kept old mid c.requires.sound c.loop-i.invariant.works.came in
     subst (λ (n : Name). takes (entries_in f1 (slice_index trail i)) n (Some (Dir c.loop-i.to)) ≡ true) (sym name) (level_takes f0 f1 k0 k1 names trail i c.loop-i.to way more before)
 
 pub edit_directory-requires-clause-held : goal.edit_directory-requires-clause-held
@@ -82,19 +80,13 @@ edit_directory-requires-clause-held g c =
     let way : IsHeldTrail (g.N.Nodes.node old) (g.N.Nodes.kept old) names trail =
     subst (λ (p : Path). IsHeldTrail (g.N.Nodes.node old) (g.N.Nodes.kept old) p trail) (sym c.names-names.ensures.names)
     (subst (λ (t : List ℕ). IsHeldTrail (g.N.Nodes.node old) (g.N.Nodes.kept old) c.args.old.now t) (sym c.blocks-blocks.ensures) (record { root = c.args.root; trail_of = c.requires.sought.old_way; held = c.requires.sought.held })) in
-    let before : Keeps (g.N.Nodes.kept old) (g.N.Nodes.node old) (g.N.Nodes.kept mid) (g.N.Nodes.node mid) = record {
-      same = λ b kept. g.met.N.Nodes.same_node old mid b c.requires.sound c.loop-i.invariant.works.came kept;
-      stays = λ b kept. g.met.N.Nodes.stays_kept old mid b c.loop-i.invariant.works.came kept;
-    } in
+    let before : Keeps g.N.Nodes old mid = keeps_nodes g.N.Nodes g.met.N.Nodes.same_node g.met.N.Nodes.stays_kept old mid c.requires.sound c.loop-i.invariant.works.came in
     level_held_later (g.N.Nodes.node old) (g.N.Nodes.node mid) (g.N.Nodes.kept old) (g.N.Nodes.kept mid) names trail (c.loop-i.i - 1) way (omega arith) before
 
 pub returns-in_err-to-2-clause-keeps : goal.returns-in_err-to-2-clause-keeps
 returns-in_err-to-2-clause-keeps g c =
     let follows = g.met.N.Nodes.follows_on c.args.nodes.now c.loop-i.nodes c.edit_directory.new.nodes c.loop-i.invariant.works.came c.edit_directory.ensures.works.came in
-    record {
-      same = λ b kept. g.met.N.Nodes.same_node c.args.nodes.now c.edit_directory.new.nodes b c.requires.sound follows kept;
-      stays = λ b kept. g.met.N.Nodes.stays_kept c.args.nodes.now c.edit_directory.new.nodes b follows kept;
-    }
+    keeps_nodes g.N.Nodes g.met.N.Nodes.same_node g.met.N.Nodes.stays_kept c.args.nodes.now c.edit_directory.new.nodes c.requires.sound follows
 
 pub returns-in_err-to-2-clause-why : goal.returns-in_err-to-2-clause-why
 returns-in_err-to-2-clause-why g c =
@@ -131,19 +123,13 @@ loop-i-preserved g c =
     let way : IsHeldTrail f0 k0 names trail =
     subst (λ (p : Path). IsHeldTrail f0 k0 p trail) (sym c.names-names.ensures.names)
     (subst (λ (t : List ℕ). IsHeldTrail f0 k0 c.args.old.now t) (sym c.blocks-blocks.ensures) (record { root = c.args.root; trail_of = c.requires.sought.old_way; held = c.requires.sought.held })) in
-    let before : Keeps (g.N.Nodes.kept old) (g.N.Nodes.node old) (g.N.Nodes.kept mid) (g.N.Nodes.node mid) = record {
-      same = λ b kept. g.met.N.Nodes.same_node old mid b c.requires.sound c.loop-i.invariant.works.came kept;
-      stays = λ b kept. g.met.N.Nodes.stays_kept old mid b c.loop-i.invariant.works.came kept;
-    } in
+    let before : Keeps g.N.Nodes old mid = keeps_nodes g.N.Nodes g.met.N.Nodes.same_node g.met.N.Nodes.stays_kept old mid c.requires.sound c.loop-i.invariant.works.came in
     let last = c.edit_directory.new.nodes in
     let f2 = g.N.Nodes.node last in
     let k2 = g.N.Nodes.kept last in
     let to = c.in_ok-to-2.to in
     let next : c.loop-i.i ≡ i + 1 = omega arith in
-    let keeps : Keeps (g.N.Nodes.kept mid) (g.N.Nodes.node mid) (g.N.Nodes.kept last) (g.N.Nodes.node last) = record {
-      same = λ b kept. g.met.N.Nodes.same_node mid last b c.loop-i.invariant.works.sound c.edit_directory.ensures.works.came kept;
-      stays = λ b kept. g.met.N.Nodes.stays_kept mid last b c.edit_directory.ensures.works.came kept;
-    } in
+    let keeps : Keeps g.N.Nodes mid last = keeps_nodes g.N.Nodes g.met.N.Nodes.same_node g.met.N.Nodes.stays_kept mid last c.loop-i.invariant.works.sound c.edit_directory.ensures.works.came in
     let same : same_name (get_or names i []) (get_or new_names i []) ≡ true =
     subst (λ (p : Path). same_name (get_or p i []) (get_or new_names i []) ≡ true) (sym c.names-names.ensures.names) (is.alike i before_fork) in
     let edit : IsDirectoryEdit f1 f2 (slice_index trail i) to (get_or names i []) (Some (Dir c.loop-i.to)) =
@@ -188,10 +174,7 @@ returns-in_err-to-2-clause-writes g c =
     let way : IsHeldTrail f0 k0 names trail =
     subst (λ (p : Path). IsHeldTrail f0 k0 p trail) (sym c.names-names.ensures.names)
     (subst (λ (t : List ℕ). IsHeldTrail f0 k0 c.args.old.now t) (sym c.blocks-blocks.ensures) (record { root = c.args.root; trail_of = c.requires.sought.old_way; held = c.requires.sought.held })) in
-    let before : Keeps (g.N.Nodes.kept old) (g.N.Nodes.node old) (g.N.Nodes.kept mid) (g.N.Nodes.node mid) = record {
-      same = λ b kept. g.met.N.Nodes.same_node old mid b c.requires.sound c.loop-i.invariant.works.came kept;
-      stays = λ b kept. g.met.N.Nodes.stays_kept old mid b c.loop-i.invariant.works.came kept;
-    } in
+    let before : Keeps g.N.Nodes old mid = keeps_nodes g.N.Nodes g.met.N.Nodes.same_node g.met.N.Nodes.stays_kept old mid c.requires.sound c.loop-i.invariant.works.came in
     let last = c.edit_directory.new.nodes in
     let next : c.loop-i.i ≡ i + 1 = omega arith in
     let along : sum_by (nodes_in f0) (take c.loop-i.i trail) ≡ sum_by (nodes_in f0) (take (i + 1) trail) = ap (λ (k : ℕ). sum_by (nodes_in f0) (take k trail)) next in
@@ -224,10 +207,7 @@ returns-in_err-to-2-clause-reads g c =
     let way : IsHeldTrail f0 k0 names trail =
     subst (λ (p : Path). IsHeldTrail f0 k0 p trail) (sym c.names-names.ensures.names)
     (subst (λ (t : List ℕ). IsHeldTrail f0 k0 c.args.old.now t) (sym c.blocks-blocks.ensures) (record { root = c.args.root; trail_of = c.requires.sought.old_way; held = c.requires.sought.held })) in
-    let before : Keeps (g.N.Nodes.kept old) (g.N.Nodes.node old) (g.N.Nodes.kept mid) (g.N.Nodes.node mid) = record {
-      same = λ b kept. g.met.N.Nodes.same_node old mid b c.requires.sound c.loop-i.invariant.works.came kept;
-      stays = λ b kept. g.met.N.Nodes.stays_kept old mid b c.loop-i.invariant.works.came kept;
-    } in
+    let before : Keeps g.N.Nodes old mid = keeps_nodes g.N.Nodes g.met.N.Nodes.same_node g.met.N.Nodes.stays_kept old mid c.requires.sound c.loop-i.invariant.works.came in
     let last = c.edit_directory.new.nodes in
     let next : c.loop-i.i ≡ i + 1 = omega arith in
     let along : sum_by (nodes_in f0) (take c.loop-i.i trail) ≡ sum_by (nodes_in f0) (take (i + 1) trail) = ap (λ (k : ℕ). sum_by (nodes_in f0) (take k trail)) next in
@@ -246,18 +226,12 @@ pub returns-clause-reaches : goal.returns-clause-reaches
 returns-clause-reaches g c =
     let old = c.args.nodes.now in
     let new = c.loop-i.nodes in
-    let keeps : Keeps (g.N.Nodes.kept old) (g.N.Nodes.node old) (g.N.Nodes.kept new) (g.N.Nodes.node new) = record {
-      same = λ b kept. g.met.N.Nodes.same_node old new b c.requires.sound c.loop-i.invariant.works.came kept;
-      stays = λ b kept. g.met.N.Nodes.stays_kept old new b c.loop-i.invariant.works.came kept;
-    } in
+    let keeps : Keeps g.N.Nodes old new = keeps_nodes g.N.Nodes g.met.N.Nodes.same_node g.met.N.Nodes.stays_kept old new c.requires.sound c.loop-i.invariant.works.came in
     let moved : IsMoved (g.N.Nodes.node old) (g.N.Nodes.node new) (g.N.Nodes.kept old) (g.N.Nodes.kept new) c.args.root c.loop-i.to c.args.old.now c.args.new.now c.args.place = search rules in
     only_moved (g.N.Nodes.node old) (g.N.Nodes.node new) (g.N.Nodes.kept old) (g.N.Nodes.kept new) c.args.root c.args.old.now c.args.new.now c.args.place (Ok c.loop-i.to) keeps c.requires.sought.held c.requires.sought.stands moved
 
 pub returns-in_err-to-clause-keeps : goal.returns-in_err-to-clause-keeps
-returns-in_err-to-clause-keeps g c = record {
-  same = λ b kept. g.met.N.Nodes.same_node c.args.nodes.now c.rewrite_fork.new.nodes b c.requires.sound c.rewrite_fork.ensures.works.came kept;
-  stays = λ b kept. g.met.N.Nodes.stays_kept c.args.nodes.now c.rewrite_fork.new.nodes b c.rewrite_fork.ensures.works.came kept;
-}
+returns-in_err-to-clause-keeps g c = keeps_nodes g.N.Nodes g.met.N.Nodes.same_node g.met.N.Nodes.stays_kept c.args.nodes.now c.rewrite_fork.new.nodes c.requires.sound c.rewrite_fork.ensures.works.came
 
 pub returns-in_err-to-clause-why : goal.returns-in_err-to-clause-why
 returns-in_err-to-clause-why g c =
@@ -278,10 +252,7 @@ returns-in_err-to-2-clause-faults g c =
     rw (p.1, p.2) c.in_err-to-2.ensures.faults
 
 pub returns-clause-keeps : goal.returns-clause-keeps
-returns-clause-keeps g c = record {
-  same = λ b kept. g.met.N.Nodes.same_node c.args.nodes.now c.loop-i.nodes b c.requires.sound c.loop-i.invariant.works.came kept;
-  stays = λ b kept. g.met.N.Nodes.stays_kept c.args.nodes.now c.loop-i.nodes b c.loop-i.invariant.works.came kept;
-}
+returns-clause-keeps g c = keeps_nodes g.N.Nodes g.met.N.Nodes.same_node g.met.N.Nodes.stays_kept c.args.nodes.now c.loop-i.nodes c.requires.sound c.loop-i.invariant.works.came
 
 pub returns-clause-works : goal.returns-clause-works
 returns-clause-works g c = c.loop-i.invariant.works

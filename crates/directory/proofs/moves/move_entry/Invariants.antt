@@ -1,7 +1,7 @@
 use Rattle.std.proofs.Common.{◌≡◌, true, ◌≤◌, ◌+◌, take, drop}
 use Rattle.std.specs.Prelude.{slice_index}
 use Rattle.std.specs.List.{sum_by}
-use Rattle.node_store.specs.Frames.{Works}
+use Rattle.node_store.specs.Words.{Works}
 use Rattle.node_format.specs.Items.{is_place}
 use Rattle.node_format.specs.declared.place.Place.TheVariants.{Dir}
 use Rattle.block_trees.specs.Rewritten.{IsMoved}
@@ -15,5 +15,5 @@ invariant-loop-i g l = record {
   moved : IsMoved (g.N.Nodes.node l.fn.nodes) (g.N.Nodes.node l.nodes) (g.N.Nodes.kept l.fn.nodes) (g.N.Nodes.kept l.nodes) (slice_index l.blocks l.i) l.to (drop l.i l.names) (drop l.i l.fn.new) l.fn.place;
   writes : g.N.Nodes.writes l.nodes + sum_by (nodes_in (g.N.Nodes.node l.fn.nodes)) (take l.i l.blocks) ≤ g.N.Nodes.writes l.fn.nodes + move_nodes (g.N.Nodes.node l.fn.nodes) l.fn.old_trail l.fn.old l.fn.new_trail l.fn.new;
   reads : g.N.Nodes.reads l.nodes + sum_by (nodes_in (g.N.Nodes.node l.fn.nodes)) (take l.i l.blocks) ≤ g.N.Nodes.reads l.fn.nodes + move_nodes (g.N.Nodes.node l.fn.nodes) l.fn.old_trail l.fn.old l.fn.new_trail l.fn.new;
-  works : Works g.N.Nodes.follows g.N.Nodes.is_sound g.N.Nodes.limit g.N.Nodes.blocks l.fn.nodes l.nodes;
+  works : Works g.N.Nodes l.fn.nodes l.nodes;
 }

@@ -8,8 +8,9 @@ use Rattle.directory.specs.Counts.{nodes_in, edit_nodes}
 use Rattle.fs_types.specs.Names.{Name, Path, same_name}
 use Rattle.node_format.specs.declared.place.Place.TheVariants.{Dir}
 use Rattle.node_format.specs.Items.{Item, named_place}
+use Rattle.node_store.specs.Words.{Keeps}
 use Rattle.block_trees.specs.Trees.{entries_in, items_in}
-use Rattle.block_trees.specs.Reached.{IsHeld, Keeps}
+use Rattle.block_trees.specs.Reached.{IsHeld}
 use Rattle.block_trees.specs.Rewritten.{IsSecondEdit, IsBranch, IsMoved}
 use Rattle.directory.specs.Trails.{takes}
 use Rattle.directory.proofs.MovedPaths.{Parts, same_parted, path_parted}
@@ -17,6 +18,7 @@ use Rattle.directory.proofs.TrailEdits.{level_held, way_later, taken_later, path
 use Rattle.directory.proofs.Forks.{first_name}
 use Rattle.directory.proofs.Branches.{fork_room, gone_there}
 use Rattle.directory.proofs.moves.rewrite_fork.Goals as goal
+use Rattle.node_store.specs.WordLaws.{keeps_nodes}
 
 pub rewrite_branch-requires-2-clause-way : goal.rewrite_branch-requires-2-clause-way
 rewrite_branch-requires-2-clause-way g c =
@@ -26,10 +28,7 @@ rewrite_branch-requires-2-clause-way g c =
     let f1 = g.N.Nodes.node one in
     let k0 = g.N.Nodes.kept old in
     let k1 = g.N.Nodes.kept one in
-    let first : Keeps (g.N.Nodes.kept old) (g.N.Nodes.node old) (g.N.Nodes.kept one) (g.N.Nodes.node one) = record {
-      same = λ b kept. g.met.N.Nodes.same_node old one b c.requires.sound c.rewrite_branch.ensures.works.came kept;
-      stays = λ b kept. g.met.N.Nodes.stays_kept old one b c.rewrite_branch.ensures.works.came kept;
-    } in
+    let first : Keeps g.N.Nodes old one = keeps_nodes g.N.Nodes g.met.N.Nodes.same_node g.met.N.Nodes.stays_kept old one c.requires.sound c.rewrite_branch.ensures.works.came in
     way_later f0 f1 k0 k1 c.args.new.now c.args.new_trail.now first c.requires.fork.new_way
 
 pub rewrite_branch-requires-2-clause-taken : goal.rewrite_branch-requires-2-clause-taken
@@ -40,10 +39,7 @@ rewrite_branch-requires-2-clause-taken g c more =
     let f1 = g.N.Nodes.node one in
     let k0 = g.N.Nodes.kept old in
     let k1 = g.N.Nodes.kept one in
-    let first : Keeps (g.N.Nodes.kept old) (g.N.Nodes.node old) (g.N.Nodes.kept one) (g.N.Nodes.node one) = record {
-      same = λ b kept. g.met.N.Nodes.same_node old one b c.requires.sound c.rewrite_branch.ensures.works.came kept;
-      stays = λ b kept. g.met.N.Nodes.stays_kept old one b c.rewrite_branch.ensures.works.came kept;
-    } in
+    let first : Keeps g.N.Nodes old one = keeps_nodes g.N.Nodes g.met.N.Nodes.same_node g.met.N.Nodes.stays_kept old one c.requires.sound c.rewrite_branch.ensures.works.came in
     let in_new = c.requires.fork.in_new in
     taken_later f0 f1 k0 k1 c.args.new.now c.args.new_trail.now (Some c.args.place) first c.requires.fork.new_way (omega arith) (c.requires.fork.here (omega (arith, more)))
 
@@ -64,14 +60,8 @@ edit_directory_twice-requires-clause-takes g c =
     let k0 = g.N.Nodes.kept old in
     let k1 = g.N.Nodes.kept one in
     let k2 = g.N.Nodes.kept two in
-    let first : Keeps (g.N.Nodes.kept old) (g.N.Nodes.node old) (g.N.Nodes.kept one) (g.N.Nodes.node one) = record {
-      same = λ b kept. g.met.N.Nodes.same_node old one b c.requires.sound c.rewrite_branch.ensures.works.came kept;
-      stays = λ b kept. g.met.N.Nodes.stays_kept old one b c.rewrite_branch.ensures.works.came kept;
-    } in
-    let second : Keeps (g.N.Nodes.kept one) (g.N.Nodes.node one) (g.N.Nodes.kept two) (g.N.Nodes.node two) = record {
-      same = λ b kept. g.met.N.Nodes.same_node one two b c.rewrite_branch.ensures.works.sound c.rewrite_branch-2.ensures.works.came kept;
-      stays = λ b kept. g.met.N.Nodes.stays_kept one two b c.rewrite_branch-2.ensures.works.came kept;
-    } in
+    let first : Keeps g.N.Nodes old one = keeps_nodes g.N.Nodes g.met.N.Nodes.same_node g.met.N.Nodes.stays_kept old one c.requires.sound c.rewrite_branch.ensures.works.came in
+    let second : Keeps g.N.Nodes one two = keeps_nodes g.N.Nodes g.met.N.Nodes.same_node g.met.N.Nodes.stays_kept one two c.rewrite_branch.ensures.works.sound c.rewrite_branch-2.ensures.works.came in
     let fork = c.args.fork in
     let old_names = c.args.old.now in
     let new_names = c.args.new.now in
@@ -109,14 +99,8 @@ returns-clause-moved g c =
     let k0 = g.N.Nodes.kept old in
     let k1 = g.N.Nodes.kept one in
     let k2 = g.N.Nodes.kept two in
-    let first : Keeps (g.N.Nodes.kept old) (g.N.Nodes.node old) (g.N.Nodes.kept one) (g.N.Nodes.node one) = record {
-      same = λ b kept. g.met.N.Nodes.same_node old one b c.requires.sound c.rewrite_branch.ensures.works.came kept;
-      stays = λ b kept. g.met.N.Nodes.stays_kept old one b c.rewrite_branch.ensures.works.came kept;
-    } in
-    let second : Keeps (g.N.Nodes.kept one) (g.N.Nodes.node one) (g.N.Nodes.kept two) (g.N.Nodes.node two) = record {
-      same = λ b kept. g.met.N.Nodes.same_node one two b c.rewrite_branch.ensures.works.sound c.rewrite_branch-2.ensures.works.came kept;
-      stays = λ b kept. g.met.N.Nodes.stays_kept one two b c.rewrite_branch-2.ensures.works.came kept;
-    } in
+    let first : Keeps g.N.Nodes old one = keeps_nodes g.N.Nodes g.met.N.Nodes.same_node g.met.N.Nodes.stays_kept old one c.requires.sound c.rewrite_branch.ensures.works.came in
+    let second : Keeps g.N.Nodes one two = keeps_nodes g.N.Nodes g.met.N.Nodes.same_node g.met.N.Nodes.stays_kept one two c.rewrite_branch.ensures.works.sound c.rewrite_branch-2.ensures.works.came in
     let fork = c.args.fork in
     let old_names = c.args.old.now in
     let new_names = c.args.new.now in
@@ -138,10 +122,7 @@ returns-clause-moved g c =
     let gone = c.in_ok-gone.gone in
     let here = c.in_ok-here.here in
     let r = c.edit_directory_twice.result in
-    let third : Keeps (g.N.Nodes.kept two) (g.N.Nodes.node two) (g.N.Nodes.kept new) (g.N.Nodes.node new) = record {
-      same = λ b kept. g.met.N.Nodes.same_node two new b c.rewrite_branch-2.ensures.works.sound c.edit_directory_twice.ensures.works.came kept;
-      stays = λ b kept. g.met.N.Nodes.stays_kept two new b c.edit_directory_twice.ensures.works.came kept;
-    } in
+    let third : Keeps g.N.Nodes two new = keeps_nodes g.N.Nodes g.met.N.Nodes.same_node g.met.N.Nodes.stays_kept two new c.rewrite_branch-2.ensures.works.sound c.edit_directory_twice.ensures.works.came in
     let parts : Parts f0 f1 f2 k0 k1 k2 block n m p q place gone here = record {
       differs = c.requires.fork.differs;
       held = held;
@@ -219,10 +200,7 @@ returns-in_err-here-clause-writes g c =
     let f1 = g.N.Nodes.node one in
     let k0 = g.N.Nodes.kept old in
     let k1 = g.N.Nodes.kept one in
-    let first : Keeps (g.N.Nodes.kept old) (g.N.Nodes.node old) (g.N.Nodes.kept one) (g.N.Nodes.node one) = record {
-      same = λ b kept. g.met.N.Nodes.same_node old one b c.requires.sound c.rewrite_branch.ensures.works.came kept;
-      stays = λ b kept. g.met.N.Nodes.stays_kept old one b c.rewrite_branch.ensures.works.came kept;
-    } in
+    let first : Keeps g.N.Nodes old one = keeps_nodes g.N.Nodes g.met.N.Nodes.same_node g.met.N.Nodes.stays_kept old one c.requires.sound c.rewrite_branch.ensures.works.came in
     let later = path_nodes-later f0 f1 k0 k1 c.args.new.now c.args.new_trail.now true (c.args.fork + 1) first c.requires.fork.new_way in
     let wrote = c.rewrite_branch.ensures.writes in
     let wrote' = c.rewrite_branch-2.ensures.writes in
@@ -236,10 +214,7 @@ returns-in_err-here-clause-reads g c =
     let f1 = g.N.Nodes.node one in
     let k0 = g.N.Nodes.kept old in
     let k1 = g.N.Nodes.kept one in
-    let first : Keeps (g.N.Nodes.kept old) (g.N.Nodes.node old) (g.N.Nodes.kept one) (g.N.Nodes.node one) = record {
-      same = λ b kept. g.met.N.Nodes.same_node old one b c.requires.sound c.rewrite_branch.ensures.works.came kept;
-      stays = λ b kept. g.met.N.Nodes.stays_kept old one b c.rewrite_branch.ensures.works.came kept;
-    } in
+    let first : Keeps g.N.Nodes old one = keeps_nodes g.N.Nodes g.met.N.Nodes.same_node g.met.N.Nodes.stays_kept old one c.requires.sound c.rewrite_branch.ensures.works.came in
     let later = path_nodes-later f0 f1 k0 k1 c.args.new.now c.args.new_trail.now false (c.args.fork + 1) first c.requires.fork.new_way in
     let least = path_nodes-least f0 c.args.new.now c.args.new_trail.now true (c.args.fork + 1) in
     let read = c.rewrite_branch.ensures.reads in
@@ -257,14 +232,8 @@ returns-clause-writes g c =
     let k0 = g.N.Nodes.kept old in
     let k1 = g.N.Nodes.kept one in
     let k2 = g.N.Nodes.kept two in
-    let first : Keeps (g.N.Nodes.kept old) (g.N.Nodes.node old) (g.N.Nodes.kept one) (g.N.Nodes.node one) = record {
-      same = λ b kept. g.met.N.Nodes.same_node old one b c.requires.sound c.rewrite_branch.ensures.works.came kept;
-      stays = λ b kept. g.met.N.Nodes.stays_kept old one b c.rewrite_branch.ensures.works.came kept;
-    } in
-    let second : Keeps (g.N.Nodes.kept one) (g.N.Nodes.node one) (g.N.Nodes.kept two) (g.N.Nodes.node two) = record {
-      same = λ b kept. g.met.N.Nodes.same_node one two b c.rewrite_branch.ensures.works.sound c.rewrite_branch-2.ensures.works.came kept;
-      stays = λ b kept. g.met.N.Nodes.stays_kept one two b c.rewrite_branch-2.ensures.works.came kept;
-    } in
+    let first : Keeps g.N.Nodes old one = keeps_nodes g.N.Nodes g.met.N.Nodes.same_node g.met.N.Nodes.stays_kept old one c.requires.sound c.rewrite_branch.ensures.works.came in
+    let second : Keeps g.N.Nodes one two = keeps_nodes g.N.Nodes g.met.N.Nodes.same_node g.met.N.Nodes.stays_kept one two c.rewrite_branch.ensures.works.sound c.rewrite_branch-2.ensures.works.came in
     let fork = c.args.fork in
     let new_names = c.args.new.now in
     let block = slice_index c.args.old_trail.now fork in
@@ -293,14 +262,8 @@ returns-clause-reads g c =
     let k0 = g.N.Nodes.kept old in
     let k1 = g.N.Nodes.kept one in
     let k2 = g.N.Nodes.kept two in
-    let first : Keeps (g.N.Nodes.kept old) (g.N.Nodes.node old) (g.N.Nodes.kept one) (g.N.Nodes.node one) = record {
-      same = λ b kept. g.met.N.Nodes.same_node old one b c.requires.sound c.rewrite_branch.ensures.works.came kept;
-      stays = λ b kept. g.met.N.Nodes.stays_kept old one b c.rewrite_branch.ensures.works.came kept;
-    } in
-    let second : Keeps (g.N.Nodes.kept one) (g.N.Nodes.node one) (g.N.Nodes.kept two) (g.N.Nodes.node two) = record {
-      same = λ b kept. g.met.N.Nodes.same_node one two b c.rewrite_branch.ensures.works.sound c.rewrite_branch-2.ensures.works.came kept;
-      stays = λ b kept. g.met.N.Nodes.stays_kept one two b c.rewrite_branch-2.ensures.works.came kept;
-    } in
+    let first : Keeps g.N.Nodes old one = keeps_nodes g.N.Nodes g.met.N.Nodes.same_node g.met.N.Nodes.stays_kept old one c.requires.sound c.rewrite_branch.ensures.works.came in
+    let second : Keeps g.N.Nodes one two = keeps_nodes g.N.Nodes g.met.N.Nodes.same_node g.met.N.Nodes.stays_kept one two c.rewrite_branch.ensures.works.sound c.rewrite_branch-2.ensures.works.came in
     let fork = c.args.fork in
     let new_names = c.args.new.now in
     let block = slice_index c.args.old_trail.now fork in

@@ -1,6 +1,6 @@
 use Rattle.std.proofs.Common.{◌≤◌, ◌-◌, ◌+◌, ◌*◌}
 use Rattle.fs_types.specs.declared.limits.TheConstants.{NODE_ENTRIES}
-use Rattle.node_store.specs.Frames.{OnlyLooks}
+use Rattle.node_store.specs.Words.{Looks}
 use Rattle.block_trees.specs.Chains.{most_after}
 use Rattle.directory.proofs.Listed.{HasCounted}
 use Rattle.directory.proofs.place_stats.count_fronts.Given as goal
@@ -11,5 +11,5 @@ invariant-loop g l = record {
   walk : HasCounted (g.N.Nodes.node l.fn.nodes) l.fn.block (most_after - l.counter) l.next (l.counter + 1) l.count;
   few : l.count ≤ NODE_ENTRIES * (l.counter + 1);
   asks : g.N.Nodes.asked l.nodes ≤ g.N.Nodes.asked l.fn.nodes + (l.counter + 1);
-  looks : OnlyLooks g.N.Nodes.node g.N.Nodes.kept g.N.Nodes.writes g.N.Nodes.follows g.N.Nodes.is_sound g.N.Nodes.limit g.N.Nodes.blocks l.fn.nodes l.nodes;
+  looks : Looks g.N.Nodes l.fn.nodes l.nodes;
 }

@@ -1,5 +1,5 @@
 use Rattle.std.proofs.Common.{◌≡◌, ◌≤◌, ◌+◌, take, map}
-use Rattle.node_store.specs.Frames.{OnlyLooks}
+use Rattle.node_store.specs.Words.{Looks}
 use Rattle.directory.specs.Places.{with_stat, nodes_of_all}
 use Rattle.directory.proofs.place_stats.stats.Given as goal
 
@@ -8,5 +8,5 @@ abbrev pub invariant-loop-name : goal.invariant-loop-name
 invariant-loop-name g l = record {
   stats : l.entries ≡ map (with_stat (g.N.Nodes.node l.fn.nodes)) (take l.name-index l.fn.places);
   asks : g.N.Nodes.asked l.nodes ≤ g.N.Nodes.asked l.fn.nodes + nodes_of_all (g.N.Nodes.node l.fn.nodes) (take l.name-index l.fn.places);
-  looks : OnlyLooks g.N.Nodes.node g.N.Nodes.kept g.N.Nodes.writes g.N.Nodes.follows g.N.Nodes.is_sound g.N.Nodes.limit g.N.Nodes.blocks l.fn.nodes l.nodes;
+  looks : Looks g.N.Nodes l.fn.nodes l.nodes;
 }

@@ -1,6 +1,6 @@
 use Rattle.std.proofs.Common.{◌≡◌, ◌-◌, ◌+◌}
 use Rattle.std.specs.Option.{option_copied}
-use Rattle.node_store.specs.Frames.{OnlyLooks}
+use Rattle.node_store.specs.Words.{Looks}
 use Rattle.block_trees.specs.Chains.{most_after}
 use Rattle.directory.proofs.Placed.{HasPlaced}
 use Rattle.directory.proofs.places.places_after.Given as goal
@@ -10,5 +10,5 @@ abbrev pub invariant-loop : goal.invariant-loop
 invariant-loop g l = record {
   walk : HasPlaced (option_copied l.fn.from) l.fn.most (g.N.Nodes.node l.fn.nodes) l.fn.block (most_after - l.counter) l.next (l.counter + 1) l.places;
   reads : g.N.Nodes.reads l.nodes ≡ g.N.Nodes.reads l.fn.nodes + (l.counter + 1);
-  looks : OnlyLooks g.N.Nodes.node g.N.Nodes.kept g.N.Nodes.writes g.N.Nodes.follows g.N.Nodes.is_sound g.N.Nodes.limit g.N.Nodes.blocks l.fn.nodes l.nodes;
+  looks : Looks g.N.Nodes l.fn.nodes l.nodes;
 }

@@ -1,5 +1,5 @@
 use Rattle.std.proofs.Common.{◌≡◌, ◌≤◌, ◌+◌, ℕ, length, drop}
-use Rattle.node_store.specs.Frames.{OnlyLooks}
+use Rattle.node_store.specs.Words.{Looks}
 use Rattle.directory.specs.Lookups.{look_up, way_nodes, LeadsToDirectories}
 use Rattle.directory.specs.Trails.{IsWay}
 use Rattle.directory.proofs.Ways.{Goes}
@@ -12,5 +12,5 @@ invariant-loop-i g l = record {
   counted : length l.trail ≡ l.i;
   goes : (root : ℕ) → LeadsToDirectories (g.N.Nodes.node l.initial.nodes) root → IsWay (g.N.Nodes.node l.initial.nodes) root l.names l.fn.trail l.fn.block → Goes (g.N.Nodes.node l.initial.nodes) root l.names l.i l.trail l.block;
   reads : g.N.Nodes.reads l.nodes + way_nodes (g.N.Nodes.node l.initial.nodes) l.block (drop l.i l.names) ≤ g.N.Nodes.reads l.initial.nodes + way_nodes (g.N.Nodes.node l.initial.nodes) l.fn.block (drop (length l.fn.trail) l.names);
-  looks : OnlyLooks g.N.Nodes.node g.N.Nodes.kept g.N.Nodes.writes g.N.Nodes.follows g.N.Nodes.is_sound g.N.Nodes.limit g.N.Nodes.blocks l.initial.nodes l.nodes;
+  looks : Looks g.N.Nodes l.initial.nodes l.nodes;
 }

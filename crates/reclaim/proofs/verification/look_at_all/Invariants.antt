@@ -1,6 +1,6 @@
 use Rattle.std.proofs.Common.{◌≤◌, ◌+◌, ◌-◌, ◌^◌, take}
 use Rattle.std.specs.List.{sum_by}
-use Rattle.node_store.specs.Frames.{OnlyLooks}
+use Rattle.node_store.specs.Words.{Looks}
 use Rattle.reclaim.specs.Heads.{HeadsAreTold}
 use Rattle.reclaim.specs.Levels.{AreLeveled}
 use Rattle.reclaim.specs.Passes.{IsPass, Advances}
@@ -19,7 +19,7 @@ invariant-loop-block g l = record {
   on : Advances l.fn.pass l.pass;
   reads : g.N.Nodes.reads l.nodes ≤ g.N.Nodes.reads l.fn.nodes + sum_by (λ b. once_reads (g.N.Nodes.node l.fn.nodes b)) (take l.pass.next l.pass.order);
   asks : g.N.Nodes.asked l.nodes ≤ g.N.Nodes.asked l.fn.nodes + sum_by (λ b. once_pages (g.N.Nodes.page l.fn.nodes) (g.N.Nodes.limit l.fn.nodes) (g.N.Nodes.node l.fn.nodes b)) (take l.pass.next l.pass.order);
-  looks : OnlyLooks g.N.Nodes.node g.N.Nodes.kept g.N.Nodes.writes g.N.Nodes.follows g.N.Nodes.is_sound g.N.Nodes.limit g.N.Nodes.blocks l.fn.nodes l.nodes;
+  looks : Looks g.N.Nodes l.fn.nodes l.nodes;
 }
 
 abbrev pub decreases-loop-block : goal.decreases-loop-block

@@ -3,8 +3,8 @@ use Rattle.std.proofs.lemmas.Result.{err_from_is_err_and}
 use Rattle.std.proofs.Math.Nat.{div-mul-le_self, le_of_eq}
 use Rattle.plain_trees.specs.Contents.{nodes_from}
 use Rattle.block_trees.specs.Bodies.{head_index, body, IsBody}
-use Rattle.block_trees.specs.Reached.{Keeps, IsHeld}
 use Rattle.node_format.specs.declared.place.Place.TheVariants.{File}
+use Rattle.node_store.specs.Words.{IsHeld, Keeps}
 use Rattle.skip_list_file.specs.declared.body.Body.{Body}
 use Rattle.skip_list_file.specs.Reading.{AreBlocks}
 use Rattle.skip_list_file.specs.Writing as spec
@@ -13,6 +13,7 @@ use Rattle.skip_list_file.proofs.Counted.{few_none, few_on, few_all, few_listed,
 use Rattle.skip_list_file.proofs.Growth.{IsBegun, body_stays, blocks_stay, begun_front, starts_before, starts_within, turn, written_whole, written_reaches, first_within, first_own, own_first, all_ends}
 use Rattle.skip_list_file.proofs.EditedBytes.{edited_length, edited_front}
 use Rattle.skip_list_file.proofs.changes.write_nodes.Goals as goal
+use Rattle.node_store.specs.WordLaws.{keeps_nodes}
 
 pub loop-index-init : goal.loop-index-init
 loop-index-init g c =
@@ -44,10 +45,7 @@ pub write_node-requires-clause-holds : goal.write_node-requires-clause-holds
 write_node-requires-clause-holds g c =
     let old = c.args.nodes.now in
     let at = c.loop-index.nodes in
-    let keeps : Keeps (g.N.Nodes.kept old) (g.N.Nodes.node old) (g.N.Nodes.kept at) (g.N.Nodes.node at) = record {
-      same = λ b kept. g.met.N.Nodes.same_node old at b c.requires.sound c.loop-index.invariant.works.came kept;
-      stays = λ b kept. g.met.N.Nodes.stays_kept old at b c.loop-index.invariant.works.came kept;
-    } in
+    let keeps : Keeps g.N.Nodes old at = keeps_nodes g.N.Nodes g.met.N.Nodes.same_node g.met.N.Nodes.stays_kept old at c.requires.sound c.loop-index.invariant.works.came in
     record {
       capacity_is = c.requires.holds.capacity_is ∙ ap (λ (n : ℕ). n - 80) (sym c.loop-index.invariant.works.same_limit);
       least = c.requires.holds.least;
@@ -58,10 +56,7 @@ pub write_node-requires-clause-listed : goal.write_node-requires-clause-listed
 write_node-requires-clause-listed g c =
     let old = c.args.nodes.now in
     let at = c.loop-index.nodes in
-    let keeps : Keeps (g.N.Nodes.kept old) (g.N.Nodes.node old) (g.N.Nodes.kept at) (g.N.Nodes.node at) = record {
-      same = λ b kept. g.met.N.Nodes.same_node old at b c.requires.sound c.loop-index.invariant.works.came kept;
-      stays = λ b kept. g.met.N.Nodes.stays_kept old at b c.loop-index.invariant.works.came kept;
-    } in
+    let keeps : Keeps g.N.Nodes old at = keeps_nodes g.N.Nodes g.met.N.Nodes.same_node g.met.N.Nodes.stays_kept old at c.requires.sound c.loop-index.invariant.works.came in
     let few = few_listed c.args.change.capacity c.args.change.body.length (c.args.change.offset + length c.args.bytes.now) (length c.args.start.old.items) c.args.change.capacity refl c.requires.start.count in
     subst (AreBlocks (g.N.Nodes.node at) c.args.change.body.head) (sym c.as_slice.ensures.value)
     (blocks_stay c.args.change.capacity (g.N.Nodes.node old) (g.N.Nodes.node at) (g.N.Nodes.kept old) (g.N.Nodes.kept at) c.args.change.body.head c.args.change.body.length c.args.start.old.items keeps c.requires.holds.whole c.requires.stored.held few c.requires.start.listed)
@@ -75,7 +70,7 @@ write_node-requires-clause-before g c =
     record {
       stored = record {
         whole = subst (IsBody c.args.change.capacity (g.N.Nodes.node at) c.loop-index.head) own begun.whole;
-        held = subst (λ (n : ℕ). IsHeld (g.N.Nodes.node at) (g.N.Nodes.kept at) (File c.loop-index.head n)) own begun.held;
+        held = subst (λ (n : ℕ). IsHeld g.N.Nodes at (File c.loop-index.head n)) own begun.held;
       };
       table = c.loop-index.invariant.table;
     }
@@ -117,14 +112,8 @@ loop-index-preserved g c =
     let end : ℕ = change.offset + length c.args.bytes.now in
     let least : 0 < change.capacity = omega (arith, c.args.change.least) in
     let within : i * change.capacity < change.size = starts_within change.capacity i change.size least (omega (arith, c.args.change.changed)) (omega (arith, c.loop-index-test.true)) in
-    let keeps : Keeps (g.N.Nodes.kept old) f (g.N.Nodes.kept at) (g.N.Nodes.node at) = record {
-      same = λ b kept. g.met.N.Nodes.same_node old at b c.requires.sound c.loop-index.invariant.works.came kept;
-      stays = λ b kept. g.met.N.Nodes.stays_kept old at b c.loop-index.invariant.works.came kept;
-    } in
-    let kept_on : Keeps (g.N.Nodes.kept at) (g.N.Nodes.node at) (g.N.Nodes.kept c.write_node.new.nodes) (g.N.Nodes.node c.write_node.new.nodes) = record {
-      same = λ b kept. g.met.N.Nodes.same_node at c.write_node.new.nodes b c.loop-index.invariant.works.sound c.write_node.ensures.works.came kept;
-      stays = λ b kept. g.met.N.Nodes.stays_kept at c.write_node.new.nodes b c.write_node.ensures.works.came kept;
-    } in
+    let keeps : Keeps g.N.Nodes old at = keeps_nodes g.N.Nodes g.met.N.Nodes.same_node g.met.N.Nodes.stays_kept old at c.requires.sound c.loop-index.invariant.works.came in
+    let kept_on : Keeps g.N.Nodes at c.write_node.new.nodes = keeps_nodes g.N.Nodes g.met.N.Nodes.same_node g.met.N.Nodes.stays_kept at c.write_node.new.nodes c.loop-index.invariant.works.sound c.write_node.ensures.works.came in
     let stays = body_stays change.capacity f (g.N.Nodes.node at) (g.N.Nodes.kept old) (g.N.Nodes.kept at) change.body.head change.body.length keeps c.requires.holds.whole c.requires.stored.held in
     let wanted : List ℕ = spec.edited (body change.capacity f change.body.head change.body.length) change.offset c.args.bytes.now change.size in
     let more = subst (λ (b : List ℕ). spec.IsGrown change.capacity (g.N.Nodes.node at) (g.N.Nodes.node c.write_node.new.nodes) (g.N.Nodes.kept at) (g.N.Nodes.kept c.write_node.new.nodes) c.loop-index.head i c.in_ok-head.head

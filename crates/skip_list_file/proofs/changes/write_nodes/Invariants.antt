@@ -1,5 +1,5 @@
 use Rattle.std.proofs.Common.{◌≡◌, ◌+◌, ◌-◌, ◌*◌, length, min}
-use Rattle.node_store.specs.Frames.{Works}
+use Rattle.node_store.specs.Words.{Works}
 use Rattle.skip_list_file.specs.Writing as spec
 use Rattle.skip_list_file.specs.Writing.{IsTable}
 use Rattle.skip_list_file.proofs.Counted.{AreFew}
@@ -15,5 +15,5 @@ invariant-loop-index g l = record {
   table : IsTable (g.N.Nodes.node l.nodes) l.head l.index l.last l.table.blocks;
   reads : AreFew l.change.capacity l.change.body.length (l.change.offset + length l.bytes) l.first l.index (g.N.Nodes.reads l.fn.nodes) (g.N.Nodes.reads l.nodes);
   writes : g.N.Nodes.writes l.nodes ≡ g.N.Nodes.writes l.fn.nodes + (l.index - l.first);
-  works : Works g.N.Nodes.follows g.N.Nodes.is_sound g.N.Nodes.limit g.N.Nodes.blocks l.fn.nodes l.nodes;
+  works : Works g.N.Nodes l.fn.nodes l.nodes;
 }

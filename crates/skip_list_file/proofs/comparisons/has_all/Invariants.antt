@@ -1,6 +1,6 @@
 use Rattle.std.proofs.Common.{◌≡◌, ℕ, ◌+◌, ◌*◌, ◌≤◌, take, min}
 use Rattle.block_trees.specs.Bodies.{body, head_index}
-use Rattle.node_store.specs.Frames.{OnlyLooks}
+use Rattle.node_store.specs.Words.{Looks}
 use Rattle.node_store.specs.NodePages.{pages_for}
 use Rattle.skip_list_file.specs.Reading.{AsksPageEach, HasDigits}
 use Rattle.skip_list_file.proofs.comparisons.has_all.Given as goal
@@ -13,5 +13,5 @@ invariant-loop-index g l = record {
   reads : (digits : ℕ) → HasDigits (head_index l.capacity l.body.length) digits
       → g.N.Nodes.reads l.nodes ≤ g.N.Nodes.reads l.fn.nodes + l.index * (pages_for (g.N.Nodes.page l.fn.nodes) (g.N.Nodes.limit l.fn.nodes) + 2 * digits);
   asks : AsksPageEach g.N.Nodes.asked g.N.Nodes.reads l.fn.nodes l.nodes;
-  looks : OnlyLooks g.N.Nodes.node g.N.Nodes.kept g.N.Nodes.writes g.N.Nodes.follows g.N.Nodes.is_sound g.N.Nodes.limit g.N.Nodes.blocks l.fn.nodes l.nodes;
+  looks : Looks g.N.Nodes l.fn.nodes l.nodes;
 }

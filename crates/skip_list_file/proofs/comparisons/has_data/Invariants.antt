@@ -1,7 +1,7 @@
 use Rattle.std.proofs.Common.{◌≡◌, ◌+◌, ◌-◌, ◌*◌, length, take, min}
 use Rattle.node_format.specs.Headers.{body_header}
 use Rattle.block_trees.specs.Bodies.{data_of}
-use Rattle.node_store.specs.Frames.{OnlyLooks}
+use Rattle.node_store.specs.Words.{Looks}
 use Rattle.skip_list_file.specs.Reading.{AsksPageEach}
 use Rattle.skip_list_file.proofs.comparisons.has_data.Given as goal
 
@@ -12,5 +12,5 @@ invariant-loop-place g l = record {
       ≡ take (min (l.place * l.size - body_header) (length l.bytes)) l.bytes;
   reads : g.N.Nodes.reads l.nodes ≡ g.N.Nodes.reads l.fn.nodes + l.place;
   asks : AsksPageEach g.N.Nodes.asked g.N.Nodes.reads l.fn.nodes l.nodes;
-  looks : OnlyLooks g.N.Nodes.node g.N.Nodes.kept g.N.Nodes.writes g.N.Nodes.follows g.N.Nodes.is_sound g.N.Nodes.limit g.N.Nodes.blocks l.fn.nodes l.nodes;
+  looks : Looks g.N.Nodes l.fn.nodes l.nodes;
 }

@@ -1,15 +1,16 @@
 use Rattle.std.proofs.Common.{◌≡◌, ℕ, ◌<◌, ◌≤◌, ◌-◌, List, length, drop, refl, arith}
 use Rattle.std.proofs.lemmas.Result.{err_from_is_err_and}
 use Rattle.block_trees.specs.Bodies.{Blocks, data_of, back, pointer_of}
-use Rattle.block_trees.specs.Reached.{Keeps}
 use Rattle.node_format.specs.Headers.{body_header}
 use Rattle.node_format.proofs.BodyFields.{spelled_node}
+use Rattle.node_store.specs.Words.{Keeps}
 use Rattle.skip_list_file.specs.Writing.{HoldsIndex}
 use Rattle.skip_list_file.proofs.Appended.{IsNext}
 use Rattle.skip_list_file.proofs.FirstPages.{write_refused}
 use Rattle.skip_list_file.proofs.Growth.{are_linked, back_stays, product_some, grown, is_next, head_full}
 use Rattle.skip_list_file.proofs.Marks.{linked_before, table_on}
 use Rattle.skip_list_file.proofs.new_nodes.append.Goals as goal
+use Rattle.node_store.specs.WordLaws.{keeps_nodes}
 
 pub write_new-requires-clause-whole : goal.write_new-requires-clause-whole
 write_new-requires-clause-whole g c =
@@ -27,10 +28,7 @@ returns-clause-grown g c =
     let some : 0 < length bytes = omega (arith, c.requires.spelled.used, c.requires.spelled.node.some) in
     let fits : length bytes ≤ capacity = omega (arith, c.requires.spelled.size, c.requires.fits) in
     let least : 0 < capacity = omega (arith, some, c.requires.spelled.size, c.requires.fits) in
-    let keeps : Keeps (g.N.Nodes.kept old) f (g.N.Nodes.kept new) (g.N.Nodes.node new) = record {
-      same = λ b kept. g.met.N.Nodes.same_node old new b c.requires.sound c.write_new.ensures.works.came kept;
-      stays = λ b kept. g.met.N.Nodes.stays_kept old new b c.write_new.ensures.works.came kept;
-    } in
+    let keeps : Keeps g.N.Nodes old new = keeps_nodes g.N.Nodes g.met.N.Nodes.same_node g.met.N.Nodes.stays_kept old new c.requires.sound c.write_new.ensures.works.came in
     let full : 0 < c.args.index → length (data_of (f c.args.head)) ≡ capacity = head_full (g.N.Nodes.limit old) capacity f c.args.head c.args.index refl least c.requires.stored.whole (λ bytes is. g.met.N.Nodes.whole old c.args.head bytes c.requires.sound is) in
     let node : IsNext f (g.N.Nodes.node new) c.args.head c.args.index next bytes =
     is_next f (g.N.Nodes.node new) c.args.head c.args.index next c.args.table.now.blocks bytes c.args.node.items c.in_ok-block.ensures.written c.requires.spelled c.requires.slots in
@@ -56,10 +54,7 @@ returns-clause-table g c last is =
     let f' : Blocks = g.N.Nodes.node new in
     let some : 0 < length bytes = omega (arith, c.requires.spelled.used, c.requires.spelled.node.some) in
     let least : 0 < capacity = omega (arith, some, c.requires.spelled.size, c.requires.fits) in
-    let keeps : Keeps (g.N.Nodes.kept old) f (g.N.Nodes.kept new) f' = record {
-      same = λ b kept. g.met.N.Nodes.same_node old new b c.requires.sound c.write_new.ensures.works.came kept;
-      stays = λ b kept. g.met.N.Nodes.stays_kept old new b c.write_new.ensures.works.came kept;
-    } in
+    let keeps : Keeps g.N.Nodes old new = keeps_nodes g.N.Nodes g.met.N.Nodes.same_node g.met.N.Nodes.stays_kept old new c.requires.sound c.write_new.ensures.works.came in
     let node : IsNext f f' head index next bytes =
     is_next f f' head index next c.args.table.now.blocks bytes c.args.node.items c.in_ok-block.ensures.written c.requires.spelled c.requires.slots in
     let before : 0 < index → pointer_of (f' next) 0 ≡ head = λ (some : 0 < index). node.slots 0 (omega arith, some, (index, omega arith)) in

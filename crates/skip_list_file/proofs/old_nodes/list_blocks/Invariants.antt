@@ -1,6 +1,6 @@
 use Rattle.std.proofs.Common.{◌≡◌, ◌+◌, ◌-◌, length}
 use Rattle.std.specs.Prelude.{vec_len, vec_capacity}
-use Rattle.node_store.specs.Frames.{OnlyLooks}
+use Rattle.node_store.specs.Words.{Looks}
 use Rattle.block_trees.specs.Bodies.{back}
 use Rattle.skip_list_file.specs.Reading.{AreBlocks, AsksPageEach}
 use Rattle.skip_list_file.proofs.old_nodes.list_blocks.Given as goal
@@ -15,5 +15,5 @@ invariant-loop-step g l = record {
   held : vec_capacity l.blocks ≡ l.count;
   reads : g.N.Nodes.reads l.nodes + 1 ≡ g.N.Nodes.reads l.initial.nodes + l._step;
   asks : AsksPageEach g.N.Nodes.asked g.N.Nodes.reads l.initial.nodes l.nodes;
-  looks : OnlyLooks g.N.Nodes.node g.N.Nodes.kept g.N.Nodes.writes g.N.Nodes.follows g.N.Nodes.is_sound g.N.Nodes.limit g.N.Nodes.blocks l.initial.nodes l.nodes;
+  looks : Looks g.N.Nodes l.initial.nodes l.nodes;
 }

@@ -1,6 +1,6 @@
 use Rattle.std.proofs.Common.{◌≡◌, ◌≢◌, ◌+◌, ◌-◌, ◌*◌, ◌/◌, ◌%◌, ◌<◌, ◌≤◌, false, length, take, drop}
 use Rattle.node_format.specs.Headers.{body_header}
-use Rattle.node_store.specs.Frames.{OnlyLooks}
+use Rattle.node_store.specs.Words.{Looks}
 use Rattle.node_store.specs.NodePages.{pages_for}
 use Rattle.node_store.specs.Parts.{pages_of_range}
 use Rattle.block_trees.specs.Bodies.{data_to}
@@ -24,5 +24,5 @@ invariant-loop-end g l = record {
       → (l.block ≡ l.initial.block) × (l.end ≡ l.initial.end) × (g.N.Nodes.asked l.nodes ≡ g.N.Nodes.asked l.initial.nodes) × (g.N.Nodes.partly l.nodes ≡ g.N.Nodes.partly l.initial.nodes);
   part : l.end ≤ l.start → l.whole ≡ false → l.start / l.capacity ≡ (l.initial.end - 1) / l.capacity → g.N.Nodes.partly l.initial.nodes ≢ l.initial.block
       → g.N.Nodes.asked l.nodes ≤ g.N.Nodes.asked l.initial.nodes + pages_of_range (g.N.Nodes.page l.initial.nodes) (body_header + l.start % l.capacity) (l.initial.end - l.start);
-  looks : OnlyLooks g.N.Nodes.node g.N.Nodes.kept g.N.Nodes.writes g.N.Nodes.follows g.N.Nodes.is_sound g.N.Nodes.limit g.N.Nodes.blocks l.initial.nodes l.nodes;
+  looks : Looks g.N.Nodes l.initial.nodes l.nodes;
 }

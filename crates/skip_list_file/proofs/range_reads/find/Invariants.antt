@@ -1,5 +1,5 @@
 use Rattle.std.proofs.Common.{◌≡◌, ◌-◌}
-use Rattle.node_store.specs.Frames.{OnlyLooks}
+use Rattle.node_store.specs.Words.{Looks}
 use Rattle.node_format.specs.Headers.{body_header}
 use Rattle.skip_list_file.specs.Reading.{AsksPageEach}
 use Rattle.skip_list_file.proofs.Chains.{IsOnWay, FewReads}
@@ -15,5 +15,5 @@ invariant-loop-at g l = record {
   few : FewReads l.head_index l.index l.at (g.N.Nodes.reads l.initial.nodes) (g.N.Nodes.reads l.nodes);
   asks : AsksPageEach g.N.Nodes.asked g.N.Nodes.reads l.initial.nodes l.nodes;
   partly : g.N.Nodes.partly l.nodes ≡ g.N.Nodes.partly l.initial.nodes;
-  looks : OnlyLooks g.N.Nodes.node g.N.Nodes.kept g.N.Nodes.writes g.N.Nodes.follows g.N.Nodes.is_sound g.N.Nodes.limit g.N.Nodes.blocks l.initial.nodes l.nodes;
+  looks : Looks g.N.Nodes l.initial.nodes l.nodes;
 }

@@ -1,5 +1,5 @@
 use Rattle.std.proofs.Common.{◌≡◌, ℕ, ◌+◌, ◌-◌, ◌%◌, ◌^◌, ◌<◌, ◌≤◌, length, slice_index}
-use Rattle.node_store.specs.Frames.{OnlyLooks}
+use Rattle.node_store.specs.Words.{Looks}
 use Rattle.block_trees.specs.Bodies.{back}
 use Rattle.skip_list_file.specs.Reading.{AsksPageEach}
 use Rattle.skip_list_file.proofs.table.start_table.Given as goal
@@ -13,5 +13,5 @@ invariant-loop-slot g l = record {
   reads : g.N.Nodes.reads l.nodes ≤ g.N.Nodes.reads l.initial.nodes + (l.slot - 1);
   few : (digits : ℕ) → l.index ≤ 2 ^ digits → g.N.Nodes.reads l.nodes ≤ g.N.Nodes.reads l.initial.nodes + digits;
   asks : AsksPageEach g.N.Nodes.asked g.N.Nodes.reads l.initial.nodes l.nodes;
-  looks : OnlyLooks g.N.Nodes.node g.N.Nodes.kept g.N.Nodes.writes g.N.Nodes.follows g.N.Nodes.is_sound g.N.Nodes.limit g.N.Nodes.blocks l.initial.nodes l.nodes;
+  looks : Looks g.N.Nodes l.initial.nodes l.nodes;
 }

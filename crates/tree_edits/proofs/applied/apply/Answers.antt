@@ -2,6 +2,7 @@ use Rattle.std.proofs.Common.{true, false, arith}
 use Rattle.tree_edits.proofs.Lookups.{file_below, file_named}
 use Rattle.tree_edits.proofs.Needs.{path_nodes-long, move_nodes-long, move_needs}
 use Rattle.tree_edits.proofs.applied.apply.Goals as goal
+use Rattle.node_store.specs.WordLaws.{keeps_nodes}
 
 -- what is put at a path or taken out needs a node, since the path has a name
 pub returns-in-PutEmptyFile-clause-still : goal.returns-in-PutEmptyFile-clause-still
@@ -21,10 +22,7 @@ returns-in-WriteFile-clause-still g c = λ none.
     absurd (omega arith)
 
 pub returns-in-WriteFile-clause-keeps : goal.returns-in-WriteFile-clause-keeps
-returns-in-WriteFile-clause-keeps g c = record {
-  same = λ b kept. g.met.N.Nodes.same_node c.args.nodes.now c.write_file.new.nodes b c.requires.sound c.write_file.ensures.applied.came kept;
-  stays = λ b kept. g.met.N.Nodes.stays_kept c.args.nodes.now c.write_file.new.nodes b c.write_file.ensures.applied.came kept;
-}
+returns-in-WriteFile-clause-keeps g c = keeps_nodes g.N.Nodes g.met.N.Nodes.same_node g.met.N.Nodes.stays_kept c.args.nodes.now c.write_file.new.nodes c.requires.sound c.write_file.ensures.applied.came
 
 pub returns-in-WriteFile-clause-why : goal.returns-in-WriteFile-clause-why
 returns-in-WriteFile-clause-why g c = c.write_file.ensures.applied.why
@@ -60,10 +58,7 @@ returns-in-Move-clause-still g c = λ none.
     absurd (omega arith)
 
 pub returns-in-MakeDirectory-clause-keeps : goal.returns-in-MakeDirectory-clause-keeps
-returns-in-MakeDirectory-clause-keeps g c = record {
-  same = λ b kept. g.met.N.Nodes.same_node c.args.nodes.now c.make.new.nodes b c.requires.sound c.make.ensures.applied.came kept;
-  stays = λ b kept. g.met.N.Nodes.stays_kept c.args.nodes.now c.make.new.nodes b c.make.ensures.applied.came kept;
-}
+returns-in-MakeDirectory-clause-keeps g c = keeps_nodes g.N.Nodes g.met.N.Nodes.same_node g.met.N.Nodes.stays_kept c.args.nodes.now c.make.new.nodes c.requires.sound c.make.ensures.applied.came
 
 pub returns-in-MakeDirectory-clause-why : goal.returns-in-MakeDirectory-clause-why
 returns-in-MakeDirectory-clause-why g c = c.make.ensures.applied.why
@@ -75,10 +70,7 @@ pub returns-in-MakeDirectory-clause-follows : goal.returns-in-MakeDirectory-clau
 returns-in-MakeDirectory-clause-follows g c = c.make.ensures.applied.came
 
 pub returns-in-PutEmptyFile-clause-keeps : goal.returns-in-PutEmptyFile-clause-keeps
-returns-in-PutEmptyFile-clause-keeps g c = record {
-  same = λ b kept. g.met.N.Nodes.same_node c.args.nodes.now c.put_empty.new.nodes b c.requires.sound c.put_empty.ensures.applied.came kept;
-  stays = λ b kept. g.met.N.Nodes.stays_kept c.args.nodes.now c.put_empty.new.nodes b c.put_empty.ensures.applied.came kept;
-}
+returns-in-PutEmptyFile-clause-keeps g c = keeps_nodes g.N.Nodes g.met.N.Nodes.same_node g.met.N.Nodes.stays_kept c.args.nodes.now c.put_empty.new.nodes c.requires.sound c.put_empty.ensures.applied.came
 
 pub returns-in-PutEmptyFile-clause-why : goal.returns-in-PutEmptyFile-clause-why
 returns-in-PutEmptyFile-clause-why g c = c.put_empty.ensures.applied.why
@@ -90,10 +82,7 @@ pub returns-in-PutEmptyFile-clause-follows : goal.returns-in-PutEmptyFile-clause
 returns-in-PutEmptyFile-clause-follows g c = c.put_empty.ensures.applied.came
 
 pub returns-in-Overwrite-clause-keeps : goal.returns-in-Overwrite-clause-keeps
-returns-in-Overwrite-clause-keeps g c = record {
-  same = λ b kept. g.met.N.Nodes.same_node c.args.nodes.now c.overwrite.new.nodes b c.requires.sound c.overwrite.ensures.applied.came kept;
-  stays = λ b kept. g.met.N.Nodes.stays_kept c.args.nodes.now c.overwrite.new.nodes b c.overwrite.ensures.applied.came kept;
-}
+returns-in-Overwrite-clause-keeps g c = keeps_nodes g.N.Nodes g.met.N.Nodes.same_node g.met.N.Nodes.stays_kept c.args.nodes.now c.overwrite.new.nodes c.requires.sound c.overwrite.ensures.applied.came
 
 pub returns-in-Overwrite-clause-why : goal.returns-in-Overwrite-clause-why
 returns-in-Overwrite-clause-why g c = c.overwrite.ensures.applied.why
@@ -105,10 +94,7 @@ pub returns-in-Overwrite-clause-follows : goal.returns-in-Overwrite-clause-follo
 returns-in-Overwrite-clause-follows g c = c.overwrite.ensures.applied.came
 
 pub returns-in-SetLength-clause-keeps : goal.returns-in-SetLength-clause-keeps
-returns-in-SetLength-clause-keeps g c = record {
-  same = λ b kept. g.met.N.Nodes.same_node c.args.nodes.now c.resize.new.nodes b c.requires.sound c.resize.ensures.applied.came kept;
-  stays = λ b kept. g.met.N.Nodes.stays_kept c.args.nodes.now c.resize.new.nodes b c.resize.ensures.applied.came kept;
-}
+returns-in-SetLength-clause-keeps g c = keeps_nodes g.N.Nodes g.met.N.Nodes.same_node g.met.N.Nodes.stays_kept c.args.nodes.now c.resize.new.nodes c.requires.sound c.resize.ensures.applied.came
 
 pub returns-in-SetLength-clause-why : goal.returns-in-SetLength-clause-why
 returns-in-SetLength-clause-why g c = c.resize.ensures.applied.why
@@ -120,10 +106,7 @@ pub returns-in-SetLength-clause-follows : goal.returns-in-SetLength-clause-follo
 returns-in-SetLength-clause-follows g c = c.resize.ensures.applied.came
 
 pub returns-in-Remove-clause-keeps : goal.returns-in-Remove-clause-keeps
-returns-in-Remove-clause-keeps g c = record {
-  same = λ b kept. g.met.N.Nodes.same_node c.args.nodes.now c.remove.new.nodes b c.requires.sound c.remove.ensures.applied.came kept;
-  stays = λ b kept. g.met.N.Nodes.stays_kept c.args.nodes.now c.remove.new.nodes b c.remove.ensures.applied.came kept;
-}
+returns-in-Remove-clause-keeps g c = keeps_nodes g.N.Nodes g.met.N.Nodes.same_node g.met.N.Nodes.stays_kept c.args.nodes.now c.remove.new.nodes c.requires.sound c.remove.ensures.applied.came
 
 pub returns-in-Remove-clause-why : goal.returns-in-Remove-clause-why
 returns-in-Remove-clause-why g c = c.remove.ensures.applied.why
@@ -135,10 +118,7 @@ pub returns-in-Remove-clause-follows : goal.returns-in-Remove-clause-follows
 returns-in-Remove-clause-follows g c = c.remove.ensures.applied.came
 
 pub returns-in-Move-clause-keeps : goal.returns-in-Move-clause-keeps
-returns-in-Move-clause-keeps g c = record {
-  same = λ b kept. g.met.N.Nodes.same_node c.args.nodes.now c.rename.new.nodes b c.requires.sound c.rename.ensures.applied.came kept;
-  stays = λ b kept. g.met.N.Nodes.stays_kept c.args.nodes.now c.rename.new.nodes b c.rename.ensures.applied.came kept;
-}
+returns-in-Move-clause-keeps g c = keeps_nodes g.N.Nodes g.met.N.Nodes.same_node g.met.N.Nodes.stays_kept c.args.nodes.now c.rename.new.nodes c.requires.sound c.rename.ensures.applied.came
 
 pub returns-in-Move-clause-why : goal.returns-in-Move-clause-why
 returns-in-Move-clause-why g c = c.rename.ensures.applied.why

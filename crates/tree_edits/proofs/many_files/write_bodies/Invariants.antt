@@ -1,6 +1,6 @@
 use Rattle.std.proofs.Common.{◌+◌, ◌-◌, ◌≤◌, length, take}
 use Rattle.node_format.specs.Headers.{body_header}
-use Rattle.node_store.specs.Frames.{Works}
+use Rattle.node_store.specs.Words.{Works}
 use Rattle.plain_trees.specs.Files.{bodies_need}
 use Rattle.tree_edits.specs.Edits.{chosen}
 use Rattle.tree_edits.specs.Roots.{AreNewFiles}
@@ -12,5 +12,5 @@ invariant-loop-i g l = record {
   written : AreNewFiles (g.N.Nodes.limit l.fn.nodes - body_header) (g.N.Nodes.kept l.fn.nodes) (g.N.Nodes.node l.nodes) (g.N.Nodes.kept l.nodes) (chosen (take l.i l.files) (take l.i l.changes)) l.puts.items;
   reads : g.N.Nodes.reads l.nodes ≤ g.N.Nodes.reads l.fn.nodes + length (chosen (take l.i l.files) (take l.i l.changes));
   writes : g.N.Nodes.writes l.nodes ≤ g.N.Nodes.writes l.fn.nodes + bodies_need (g.N.Nodes.limit l.fn.nodes - body_header) (chosen (take l.i l.files) (take l.i l.changes));
-  works : Works g.N.Nodes.follows g.N.Nodes.is_sound g.N.Nodes.limit g.N.Nodes.blocks l.fn.nodes l.nodes;
+  works : Works g.N.Nodes l.fn.nodes l.nodes;
 }

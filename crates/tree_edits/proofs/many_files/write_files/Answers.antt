@@ -6,7 +6,7 @@ use Rattle.plain_trees.specs.Trees.{nodes_for}
 use Rattle.node_format.specs.Headers.{body_header}
 use Rattle.node_format.specs.Items.{Item}
 use Rattle.node_format.specs.declared.place.Place.TheVariants.{Dir}
-use Rattle.block_trees.specs.Reached.{Keeps}
+use Rattle.node_store.specs.Words.{Keeps}
 use Rattle.block_trees.specs.Trees.{items_in}
 use Rattle.directory.specs.Counts.{nodes_in}
 use Rattle.directory.specs.Puts.{HasRoomFor, IsDirectoryPut}
@@ -19,6 +19,7 @@ use Rattle.tree_edits.specs.Edits.{chosen}
 use Rattle.tree_edits.proofs.ManyFiles.{keeps_on, list_nodes, news_room, news_counted, files_result}
 use Rattle.tree_edits.proofs.Needs.{path_nodes-later}
 use Rattle.tree_edits.proofs.many_files.write_files.Goals as goal
+use Rattle.node_store.specs.WordLaws.{keeps_nodes}
 
 pub put_in_directory-requires-clause-sound : goal.put_in_directory-requires-clause-sound
 put_in_directory-requires-clause-sound g c = c.write_bodies.ensures.works.sound
@@ -89,10 +90,7 @@ link_directory-requires-clause-held g c =
     let old = c.args.nodes.now in
     let mid = c.write_bodies.new.nodes in
     let new = c.put_in_directory.new.nodes in
-    let second : Keeps (g.N.Nodes.kept mid) (g.N.Nodes.node mid) (g.N.Nodes.kept new) (g.N.Nodes.node new) = record {
-      same = λ b kept. g.met.N.Nodes.same_node mid new b c.write_bodies.ensures.works.sound c.put_in_directory.ensures.works.came kept;
-      stays = λ b kept. g.met.N.Nodes.stays_kept mid new b c.put_in_directory.ensures.works.came kept;
-    } in
+    let second : Keeps g.N.Nodes mid new = keeps_nodes g.N.Nodes g.met.N.Nodes.same_node g.met.N.Nodes.stays_kept mid new c.write_bodies.ensures.works.sound c.put_in_directory.ensures.works.came in
     let both = keeps_on (g.N.Nodes.node old) (g.N.Nodes.node mid) (g.N.Nodes.node new) (g.N.Nodes.kept old) (g.N.Nodes.kept mid) (g.N.Nodes.kept new) c.write_bodies.ensures.keeps second in
     held_later (g.N.Nodes.node old) (g.N.Nodes.node new) (g.N.Nodes.kept old) (g.N.Nodes.kept new) both c.args.root c.requires.held
 
@@ -101,10 +99,7 @@ link_directory-requires-clause-way g c =
     let old = c.args.nodes.now in
     let mid = c.write_bodies.new.nodes in
     let new = c.put_in_directory.new.nodes in
-    let second : Keeps (g.N.Nodes.kept mid) (g.N.Nodes.node mid) (g.N.Nodes.kept new) (g.N.Nodes.node new) = record {
-      same = λ b kept. g.met.N.Nodes.same_node mid new b c.write_bodies.ensures.works.sound c.put_in_directory.ensures.works.came kept;
-      stays = λ b kept. g.met.N.Nodes.stays_kept mid new b c.put_in_directory.ensures.works.came kept;
-    } in
+    let second : Keeps g.N.Nodes mid new = keeps_nodes g.N.Nodes g.met.N.Nodes.same_node g.met.N.Nodes.stays_kept mid new c.write_bodies.ensures.works.sound c.put_in_directory.ensures.works.came in
     let both = keeps_on (g.N.Nodes.node old) (g.N.Nodes.node mid) (g.N.Nodes.node new) (g.N.Nodes.kept old) (g.N.Nodes.kept mid) (g.N.Nodes.kept new) c.write_bodies.ensures.keeps second in
     trail_later (g.N.Nodes.node old) (g.N.Nodes.node new) (g.N.Nodes.kept old) (g.N.Nodes.kept new) both c.args.directory.now c.args.root c.args.trail.now c.requires.held c.requires.writable.way
 
@@ -117,10 +112,7 @@ link_directory-requires-clause-led g c =
     let whole = rooted_leads (g.N.Nodes.limit old - body_header) (g.N.Nodes.node old) c.args.root c.requires.rooted in
     let led = found_leads (g.N.Nodes.node old) c.args.root c.args.directory.now c.args.block whole w.led in
     let held = held_leads (g.N.Nodes.node old) (g.N.Nodes.kept old) c.args.directory.now _ _ led c.requires.held in
-    let second : Keeps (g.N.Nodes.kept mid) (g.N.Nodes.node mid) (g.N.Nodes.kept new) (g.N.Nodes.node new) = record {
-      same = λ b kept. g.met.N.Nodes.same_node mid new b c.write_bodies.ensures.works.sound c.put_in_directory.ensures.works.came kept;
-      stays = λ b kept. g.met.N.Nodes.stays_kept mid new b c.put_in_directory.ensures.works.came kept;
-    } in
+    let second : Keeps g.N.Nodes mid new = keeps_nodes g.N.Nodes g.met.N.Nodes.same_node g.met.N.Nodes.stays_kept mid new c.write_bodies.ensures.works.sound c.put_in_directory.ensures.works.came in
     let both = keeps_on (g.N.Nodes.node old) (g.N.Nodes.node mid) (g.N.Nodes.node new) (g.N.Nodes.kept old) (g.N.Nodes.kept mid) (g.N.Nodes.kept new) c.write_bodies.ensures.keeps second in (
       c.args.block,
       look_later (g.N.Nodes.node old) (g.N.Nodes.node new) (g.N.Nodes.kept old) (g.N.Nodes.kept new) both c.args.directory.now c.args.root c.requires.held ∙ w.led,
@@ -132,10 +124,7 @@ returns-clause-applied g c =
     let old = c.args.nodes.now in
     let mid = c.write_bodies.new.nodes in
     let new = c.put_in_directory.new.nodes in
-    let second : Keeps (g.N.Nodes.kept mid) (g.N.Nodes.node mid) (g.N.Nodes.kept new) (g.N.Nodes.node new) = record {
-      same = λ b kept. g.met.N.Nodes.same_node mid new b c.write_bodies.ensures.works.sound c.put_in_directory.ensures.works.came kept;
-      stays = λ b kept. g.met.N.Nodes.stays_kept mid new b c.put_in_directory.ensures.works.came kept;
-    } in
+    let second : Keeps g.N.Nodes mid new = keeps_nodes g.N.Nodes g.met.N.Nodes.same_node g.met.N.Nodes.stays_kept mid new c.write_bodies.ensures.works.sound c.put_in_directory.ensures.works.came in
     let both = keeps_on (g.N.Nodes.node old) (g.N.Nodes.node mid) (g.N.Nodes.node new) (g.N.Nodes.kept old) (g.N.Nodes.kept mid) (g.N.Nodes.kept new) c.write_bodies.ensures.keeps second in
     let last = c.link_directory.new.nodes in
     let put : IsDirectoryPut (g.N.Nodes.node mid) (g.N.Nodes.node new) c.args.block c.in_ok-to.to c.in_ok-puts.puts.items = subst (IsDirectoryPut (g.N.Nodes.node mid) (g.N.Nodes.node new) c.args.block c.in_ok-to.to) c.as_slice.ensures.value c.in_ok-to.ensures.put in
@@ -161,10 +150,7 @@ returns-clause-writes g c =
     let whole = rooted_leads (g.N.Nodes.limit old - body_header) (g.N.Nodes.node old) c.args.root c.requires.rooted in
     let led = found_leads (g.N.Nodes.node old) c.args.root c.args.directory.now c.args.block whole w.led in
     let held = held_leads (g.N.Nodes.node old) (g.N.Nodes.kept old) c.args.directory.now _ _ led c.requires.held in
-    let second : Keeps (g.N.Nodes.kept mid) (g.N.Nodes.node mid) (g.N.Nodes.kept new) (g.N.Nodes.node new) = record {
-      same = λ b kept. g.met.N.Nodes.same_node mid new b c.write_bodies.ensures.works.sound c.put_in_directory.ensures.works.came kept;
-      stays = λ b kept. g.met.N.Nodes.stays_kept mid new b c.put_in_directory.ensures.works.came kept;
-    } in
+    let second : Keeps g.N.Nodes mid new = keeps_nodes g.N.Nodes g.met.N.Nodes.same_node g.met.N.Nodes.stays_kept mid new c.write_bodies.ensures.works.sound c.put_in_directory.ensures.works.came in
     let both = keeps_on (g.N.Nodes.node old) (g.N.Nodes.node mid) (g.N.Nodes.node new) (g.N.Nodes.kept old) (g.N.Nodes.kept mid) (g.N.Nodes.kept new) c.write_bodies.ensures.keeps second in
     let same = same_held_items (g.N.Nodes.node old) (g.N.Nodes.node mid) (g.N.Nodes.kept old) (g.N.Nodes.kept mid) c.write_bodies.ensures.keeps c.args.block held in
     let list = list_nodes (g.N.Nodes.limit old - body_header) (g.N.Nodes.kept old) (g.N.Nodes.node mid) (g.N.Nodes.kept mid) (items_in (g.N.Nodes.node old) c.args.block) (items_in (g.N.Nodes.node mid) c.args.block) (chosen c.args.files.now c.args.changes.now) c.in_ok-puts.puts.items c.as_slice.result.now
@@ -181,10 +167,7 @@ returns-clause-reads g c =
     let whole = rooted_leads (g.N.Nodes.limit old - body_header) (g.N.Nodes.node old) c.args.root c.requires.rooted in
     let led = found_leads (g.N.Nodes.node old) c.args.root c.args.directory.now c.args.block whole w.led in
     let held = held_leads (g.N.Nodes.node old) (g.N.Nodes.kept old) c.args.directory.now _ _ led c.requires.held in
-    let second : Keeps (g.N.Nodes.kept mid) (g.N.Nodes.node mid) (g.N.Nodes.kept new) (g.N.Nodes.node new) = record {
-      same = λ b kept. g.met.N.Nodes.same_node mid new b c.write_bodies.ensures.works.sound c.put_in_directory.ensures.works.came kept;
-      stays = λ b kept. g.met.N.Nodes.stays_kept mid new b c.put_in_directory.ensures.works.came kept;
-    } in
+    let second : Keeps g.N.Nodes mid new = keeps_nodes g.N.Nodes g.met.N.Nodes.same_node g.met.N.Nodes.stays_kept mid new c.write_bodies.ensures.works.sound c.put_in_directory.ensures.works.came in
     let both = keeps_on (g.N.Nodes.node old) (g.N.Nodes.node mid) (g.N.Nodes.node new) (g.N.Nodes.kept old) (g.N.Nodes.kept mid) (g.N.Nodes.kept new) c.write_bodies.ensures.keeps second in
     let same = same_held_items (g.N.Nodes.node old) (g.N.Nodes.node mid) (g.N.Nodes.kept old) (g.N.Nodes.kept mid) c.write_bodies.ensures.keeps c.args.block held in
     let list : nodes_in (g.N.Nodes.node mid) c.args.block ≡ nodes_in (g.N.Nodes.node old) c.args.block = ap (λ (items : List Item). nodes_for (length items)) same in

@@ -1,5 +1,5 @@
 use Rattle.std.proofs.Common.{◌≡◌, ◌+◌}
-use Rattle.node_store.specs.Frames.{OnlyLooks}
+use Rattle.node_store.specs.Words.{Looks}
 use Rattle.reclaim.specs.Kinds.{Knows, HasAsked}
 use Rattle.reclaim.specs.Passes.{IsPass, Advances}
 use Rattle.reclaim.proofs.pass.Pass.step.Given as goal
@@ -13,5 +13,5 @@ invariant-loop-done g l = record {
   next : l.self.next ≡ l.initial.self.next + l.done;
   reads : g.N.Nodes.reads l.nodes ≡ g.N.Nodes.reads l.initial.nodes + l.done;
   asked : HasAsked (g.N.Nodes.page l.initial.nodes) (g.N.Nodes.node l.initial.nodes) l.initial.self l.self (g.N.Nodes.asked l.initial.nodes) (g.N.Nodes.asked l.nodes);
-  looks : OnlyLooks g.N.Nodes.node g.N.Nodes.kept g.N.Nodes.writes g.N.Nodes.follows g.N.Nodes.is_sound g.N.Nodes.limit g.N.Nodes.blocks l.initial.nodes l.nodes;
+  looks : Looks g.N.Nodes l.initial.nodes l.nodes;
 }

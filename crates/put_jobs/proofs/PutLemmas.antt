@@ -176,15 +176,6 @@ grouped removed held base all p q r (Err failure) begun (inr (inr (first, later,
     let is : group_events removed things ≡ ((group_start ++ removed) ++ made) ++ rest = ap (λ (x : List Event). (group_start ++ removed) ++ x) begins ∙ sym (append_assoc (group_start ++ removed) made rest) in
     inr (inr (first, later, things, (group_start ++ removed) ++ made, rest, refusal, parts, are, is, halts_more p q r (group_start ++ removed) made refusal begun halts, why))
 
--- so many events end it
-pub ended_by : (p q : Place) (result : Result (Unit {0}) Refusal) (due : Bool) (count : ℕ) → due ≡ is_due p.system → count ≡ (if due then 2 else 1) → ServesPut p (take count (group_end true)) result q
-    → EndsGroup p result q
-ended_by p q result due count is so h = by due is (subst (λ (n : ℕ). ServesPut p (take n (group_end true)) result q) so h)
-  where
-    by : (due : Bool) → due ≡ is_due p.system → ServesPut p (take (if due then 2 else 1) (group_end true)) result q → EndsGroup p result q
-    by true is h = subst (λ (x : Bool). ServesPut p (group_end x) result q) is h
-    by false is h = subst (λ (x : Bool). ServesPut p (group_end x) result q) is h
-
 -- ---- sessions
 
 passes_run : (p q : Place) (events : List Event) → ServesAll p events q → (found : List (Past Tree)) → Stands (world p.device p.system found)

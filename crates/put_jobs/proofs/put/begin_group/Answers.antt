@@ -6,5 +6,5 @@ pub returns-in-Ok-clause-asks : goal.returns-in-Ok-clause-asks
 returns-in-Ok-clause-asks c =
     served_in (place c.args.mounted.now) (place c.ask_all.new.mounted) (place c.ask_all-in-Ok.new.mounted) c.args.events.now c.ask_all-in-Ok.result c.in-Ok.ensures.asks c.ask_all-in-Ok.ensures.asks
 
-pub returns-in-Err-clause-asks : goal.returns-in-Err-clause-asks
-returns-in-Err-clause-asks c = served_without (place c.args.mounted.now) (place c.ask_all.new.mounted) c.args.events.now c.in-Err.refusal c.in-Err.ensures.asks
+pub returns-clause-asks : goal.returns-clause-asks
+returns-clause-asks c = served_without (place c.args.mounted.now) (place c.ask_all.new.mounted) c.args.events.now c.in-Err.refusal c.in-Err.ensures.asks

@@ -12,7 +12,7 @@ returns-in-Ok-clause-ends g c =
     let each = subst (λ (sources : List Source). PutsEach held base (map source_found sources) (place c.begin_group.new.mounted) c.put_each.result (place c.put_each.new.mounted)) c.deref.ensures.value c.put_each.ensures.ends in
     grouped c.args.removed.now held base (map source_found c.args.batch.now.sources.items) (place c.args.mounted.now) (place c.begin_group.new.mounted) (place c.put_each.new.mounted) c.put_each.result c.in-Ok.ensures.asks each
 
-pub returns-clause-ends : goal.returns-clause-ends
-returns-clause-ends g c =
+pub returns-in-Err-clause-ends : goal.returns-in-Err-clause-ends
+returns-in-Err-clause-ends g c =
     unbegun c.args.removed.now (g.F.ImageFiles.held c.args.files.now) c.args.batch.now.base (map source_found c.args.batch.now.sources.items) (place c.args.mounted.now) (place c.begin_group.new.mounted) c.in-Err.refusal c.of_refusal.result
     c.in-Err.ensures.asks c.of_refusal.ensures

@@ -26,7 +26,7 @@ returns-in-Ok-carry_group-clause-ok g c = (
       c.in-Ok.ensures.ok c.mount.ensures.only_reads c.in-Ok-mount.ensures.ok c.in-Ok-mount.ensures.system c.in-Ok-carry_group.ensures,
 )
 
-pub returns-clause-err : goal.returns-clause-err
-returns-clause-err g c =
+pub returns-in-Err-carry_group-clause-err : goal.returns-in-Err-carry_group-clause-err
+returns-in-Err-carry_group-clause-err g c =
     unwritten_on (IsDecoded c.args.image.now) (DecodeCause c.args.image.now) c.args.path c.args.bytes c.in-Ok.flash c.mount.new.flash c.in-Ok-mount.system (place c.carry_group.new.mounted) c.in-Err-carry_group.refusal c.of_refusal.result
     c.in-Ok.ensures.ok c.mount.ensures.only_reads c.in-Ok-mount.ensures.ok c.in-Ok-mount.ensures.system c.in-Err-carry_group.ensures c.of_refusal.ensures

@@ -30,6 +30,8 @@ fn words_are_read_as_a_job(rt: HostRuntime) -> Result<(), Fail> {
         view: None,
         other: None,
         progress: false,
+        mirror: false,
+        skip_links: false,
     };
     assert_eq!(rt; job(rt.alloc(), words.as_slice()).ok(), Some(wanted));
     Ok(())

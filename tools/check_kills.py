@@ -88,7 +88,6 @@ def words_of(folder):
         ("undo", ["undo", image], b"", image),
         ("checkpoint", ["checkpoint", image, "kept"], b"", image),
         ("forget", ["forget", image, "1"], b"", image),
-        ("trim", ["trim", image], b"", image),
         ("to-part", ["to-part", image, part], b"", part),
         ("from-part", ["from-part", part, other], b"", other),
         ("raw", ["raw", image, raw], b"", raw),

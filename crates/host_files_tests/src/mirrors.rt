@@ -56,11 +56,19 @@ fn a_link_that_is_not_left_out_refuses_a_mirror(rt: HostRuntime) -> Result<(), F
     let link = name_in(alloc, source, "link")?;
     symlink(&rt, "x", link.as_str())?;
     let told = format!(in alloc; "uffs: cannot put {}: it is a link\n", link.as_str())?;
-    let words = ["put", image, source, "/", "--mirror"];
-    assert_given(&rt, &words, "", (1, "", told.as_str()))?;
+    assert_given(
+        &rt,
+        &["put", image, source, "/", "--mirror"],
+        "",
+        (1, "", told.as_str()),
+    )?;
     let told = "uffs: --mirror and --skip-links want a folder\n";
-    let words = ["put", image, link.as_str(), "/", "--skip-links"];
-    assert_given(&rt, &words, "", (2, "", told))?;
+    assert_given(
+        &rt,
+        &["put", image, link.as_str(), "/", "--skip-links"],
+        "",
+        (2, "", told),
+    )?;
     fs::remove_dir_all(&rt, folder.as_str())?;
     Ok(())
 }

@@ -96,14 +96,15 @@ def words_of(folder):
 
 
 def begin(program, folder):
-    """Makes what the words begin with: an image of a folder, its part, its bytes for a chip, and a file to be replaced."""
+    """Makes what the words begin with: an image of a folder, an older part and older bytes for a chip, and files to be
+    replaced."""
     image, source = os.path.join(folder, "image"), os.path.join(folder, "source")
     make_folder(source)
     run(program, ["format", image, *SIZES])
     run(program, ["put", image, source, "/old"])
-    run(program, ["run", image], SCRIPT)
     run(program, ["to-part", image, os.path.join(folder, "part")])
     run(program, ["raw", image, os.path.join(folder, "raw")])
+    run(program, ["run", image], SCRIPT)
     write(os.path.join(folder, "got"), b"as it was")
     write(os.path.join(folder, "other"), read(image))
     os.remove(os.path.join(source, "d1", "f5"))

@@ -46,29 +46,3 @@ fn a_folder_is_mirrored(rt: HostRuntime) -> Result<(), Fail> {
     fs::remove_dir_all(&rt, folder.as_str())?;
     Ok(())
 }
-
-#[test]
-fn a_link_that_is_not_left_out_refuses_a_mirror(rt: HostRuntime) -> Result<(), Fail> {
-    let alloc = rt.alloc();
-    let (folder, image, source) = begun(&rt, "mirror_link")?;
-    let (image, source) = (image.as_str(), source.as_str());
-    assert_formatted(&rt, image)?;
-    let link = name_in(alloc, source, "link")?;
-    symlink(&rt, "x", link.as_str())?;
-    let told = format!(in alloc; "uffs: cannot put {}: it is a link\n", link.as_str())?;
-    assert_given(
-        &rt,
-        &["put", image, source, "/", "--mirror"],
-        "",
-        (1, "", told.as_str()),
-    )?;
-    let told = "uffs: --mirror and --skip-links want a folder\n";
-    assert_given(
-        &rt,
-        &["put", image, link.as_str(), "/", "--skip-links"],
-        "",
-        (2, "", told),
-    )?;
-    fs::remove_dir_all(&rt, folder.as_str())?;
-    Ok(())
-}

@@ -200,7 +200,27 @@ def about(program, folder):
         want((printed[0], printed[1].startswith(begin), printed[2]), (0, True, b""))
 
 
-CASES = [closed_output, closed_errors, closed_input, all_closed, limited, not_utf8, fifos, in_use, full_disk, full_output, dash, about]
+def same_folder(program, folder):
+    """Two folders with the same files, made in another order and with other times, make the same image."""
+    files = [("a/one", b"1" * 5000), ("a/two", b""), ("b/c/three", b"3"), ("four", b"4" * 100)]
+    images = []
+    for name, order, time in (("first", files, 1), ("second", files[::-1], 10**9)):
+        source = os.path.join(folder, name)
+        for way, data in order:
+            path = os.path.join(source, way)
+            os.makedirs(os.path.dirname(path), exist_ok=True)
+            with open(path, "wb") as file:
+                file.write(data)
+            os.utime(path, (time, time))
+        image = made(program, folder, name + ".image")
+        want(run(program, ["put", image, source, "/"]), (0, b"", b""))
+        whole = os.path.join(folder, name + ".whole")
+        want(run(program, ["create", whole, source, "--blocks", "32"]), (0, b"", b""))
+        images += [read(image), read(whole)]
+    want([it == images[0] for it in images], [True] * 4)
+
+
+CASES = [closed_output, closed_errors, closed_input, all_closed, limited, not_utf8, fifos, in_use, full_disk, full_output, dash, about, same_folder]
 
 
 def try_case(case, program):

@@ -9,12 +9,14 @@ one from before or the one that a run to the end writes, byte for byte, and the 
 ever. Each word is a line `ok` or `WRONG` with how often the file was which; the status is the number of wrong ones.
 All files stand in a new folder that is removed again.
 """
+import io
 import os
 import random
 import shutil
 import signal
 import subprocess
 import sys
+import tarfile
 import tempfile
 import time
 
@@ -47,7 +49,9 @@ def kill(program, words, given, moment):
 
 
 def read(name):
-    """The bytes of a file; none where there is none."""
+    """The bytes of a file, or those of each file of a folder; none where there is none."""
+    if os.path.isdir(name):
+        return {os.path.join(at, file): read(os.path.join(at, file)) for at, _, files in os.walk(name) for file in files}
     try:
         with open(name, "rb") as file:
             return file.read()
@@ -58,7 +62,9 @@ def read(name):
 def write(name, data):
     """Makes a file of these bytes, or none."""
     if data is None:
-        if os.path.exists(name):
+        if os.path.isdir(name):
+            shutil.rmtree(name)
+        elif os.path.exists(name):
             os.remove(name)
         return
     with open(name, "wb") as file:
@@ -73,18 +79,31 @@ def make_folder(folder):
         write(name, bytes([number]) * (number * 150))
 
 
+def archive_of(folder):
+    """An archive of a folder."""
+    out = io.BytesIO()
+    with tarfile.open(fileobj=out, mode="w", format=tarfile.USTAR_FORMAT) as archive:
+        archive.add(folder, ".")
+    return out.getvalue()
+
+
 def words_of(folder):
-    """Each word that writes a file: its words, what it is given, and the file."""
+    """Each word that writes a file or a folder: its words, what it is given, and the file."""
     image, source, other = (os.path.join(folder, name) for name in ("image", "source", "other"))
-    part, raw, got = (os.path.join(folder, name) for name in ("part", "raw", "got"))
+    part, raw, got, out = (os.path.join(folder, name) for name in ("part", "raw", "got", "out"))
     return [
         ("format", ["format", image, *SIZES], b"", image),
         ("format --part", ["format", "--part", part, *SIZES], b"", part),
+        ("create", ["create", other, source], b"", other),
         ("run", ["run", image], SCRIPT, image),
         ("put", ["put", image, source, "/new"], b"", image),
         ("put --mirror", ["put", image, source, "/old", "--mirror"], b"", image),
         ("put -", ["put", image, "-", "/input"], b"z" * 5000, image),
+        ("untar", ["untar", image, "/untarred"], archive_of(source), image),
+        ("trim", ["trim", image], b"", image),
         ("get", ["get", image, "/old/d1/f5", got], b"", got),
+        ("get of a folder", ["get", image, "/old", out], b"", out),
+        ("map --html", ["map", image, "--html", got], b"", got),
         ("undo", ["undo", image], b"", image),
         ("checkpoint", ["checkpoint", image, "kept"], b"", image),
         ("forget", ["forget", image, "1"], b"", image),
@@ -112,7 +131,7 @@ def begin(program, folder):
 
 def keep(folder):
     """The bytes of all files of a folder, but for those that are put."""
-    return {name: read(os.path.join(folder, name)) for name in ("image", "part", "raw", "got", "other")}
+    return {name: read(os.path.join(folder, name)) for name in ("image", "part", "raw", "got", "other", "out")}
 
 
 def bring_back(folder, kept):
@@ -140,6 +159,9 @@ def kill_word(program, folder, kept, case, times):
             found["as after"] += 1
         else:
             raise Wrong(f"{name}: {file} is neither as before nor as after")
+        if os.path.isdir(file + ".new"):
+            # A folder that a killed run left has to be removed by hand.
+            shutil.rmtree(file + ".new")
         if left == before:
             run(program, words, given)
             if read(file) != after:

@@ -2,17 +2,21 @@
 _uffs() {
     local word="${COMP_WORDS[COMP_CWORD]}"
     if [ "$COMP_CWORD" -eq 1 ]; then
-        COMPREPLY=($(compgen -W "cat check checkpoint df diff explain forget format from-part from-raw get help log memory put raw redo rmcheckpoint rollback run serve to-part tree undo version versions --help --version" -- "$word"))
+        COMPREPLY=($(compgen -W "cat check checkpoint create df diff explain forget format from-part from-raw get help log map memory put raw redo rmcheckpoint rollback run serve tar to-part tree trim undo untar update version versions --help --version" -- "$word"))
         return
     fi
     local options="--help"
     case "${COMP_WORDS[1]}" in
+        create) options="--blocks --progress --skip-links --help" ;;
         diff) options="--exit-code --help" ;;
         forget) options="--free --help" ;;
+        format) options="--part --help" ;;
         from-raw) options="--page --pages --help" ;;
+        map) options="--html --help" ;;
         put) options="--progress --mirror --skip-links --help" ;;
         run) options="--stop --help" ;;
-        serve) options="--history --help" ;;
+        serve) options="--part --history --help" ;;
+        untar) options="--skip-links --help" ;;
     esac
     if [[ "$word" == -* ]]; then
         COMPREPLY=($(compgen -W "$options" -- "$word"))

@@ -17,7 +17,7 @@ COMPLETION = ROOT / "tools/uffs.bash"
 
 TEXT = r'"((?:[^"\\]|\\.)*)"'
 NAMES = re.compile(r'\b(with_)?(named|image|steps|checkpoint)_command\(\s*alloc,\s*(?:\w+,\s*)?' + TEXT + r',\s*' + TEXT + r',\s*(\w+),?\s*\)')
-ADDS = re.compile(r'\bwith_(word|optional_word|flag|number|count)\(\s*alloc,\s*\w+,\s*([^;]*?),?\s*\)\??[;\n]')
+ADDS = re.compile(r'\bwith_(word|optional_word|shown_word|flag|number|count|part|html)\(\s*alloc,\s*\w+,\s*([^;]*?),?\s*\)\??[;\n]')
 
 
 @dataclass
@@ -64,28 +64,40 @@ def added_word(kind, spelled, known):
         return Word(value_of(given[0], known), value_of(given[1], known))
     if kind == "optional_word":
         return Word(f"[{value_of(given[0], known)}]", value_of(given[1], known))
+    if kind == "shown_word":
+        return Word(value_of(given[1], known), value_of(given[2], known))
     if kind == "flag":
         option = "--" + value_of(given[0], known)
         return Word(f"[{option}]", value_of(given[1], known), option)
     if kind == "number":
         option = "--" + value_of(given[0], known)
         return Word(f"[{option} {value_of(given[1], known)}]", value_of(given[2], known), option)
+    if kind in ("part", "html"):
+        option = "--" + kind
+        return Word(f"[{option} {known['FILE']}]", value_of(given[0], known), option)
     count = known["COUNT"]
     return Word(count if given[0] == "true" else f"[{count}]", value_of(given[1], known))
 
 
 def made_subcommands(source, known, shapes):
     """The subcommands that a file makes. `shapes` has what a function of subcommands of one form adds."""
+    made, later = {}, []
     for function in re.split(r"\n(?=(?:pub\S* )?fn )", source):
-        named = list(NAMES.finditer(function))
         adds = [added_word(m.group(1), m.group(2), known) for m in ADDS.finditer(function) if '"' in m.group(2)]
-        for match in named:
+        begun = re.search(r"let command = (\w+)\(alloc\)\?;", function)
+        if begun:
+            later.append((begun.group(1), adds))
+        for match in NAMES.finditer(function):
             is_shape, form, name, about, constant = match.groups()
-            made = Subcommand(text_of(name), text_of(about), known[constant])
+            one = Subcommand(text_of(name), text_of(about), known[constant])
             if form != "named":
-                made.words.append(Word(known["IMAGE"], "The file of the image"))
-            made.words += shapes.get(form, []) if is_shape else adds
-            yield made
+                one.words.append(Word(known["IMAGE"], "The file of the image"))
+            one.words += shapes.get(form, []) if is_shape else adds
+            made.setdefault(function.split("fn ", 1)[-1].split("<")[0], []).append(one)
+    for function, adds in later:
+        for one in made[function]:
+            one.words += adds
+    return [one for several in made.values() for one in several]
 
 
 def subcommands():

@@ -68,6 +68,10 @@ abbrev pub RunsUnprinted : List ℕ → List ℕ → (List ℕ → Type 0) → H
 RunsUnprinted script name IsClaimed held result saved = (ended : Result (Unit {0}) Failure) × (left : Option (List ℕ)) × (replies : Option (List ℕ))
     × RunEnds true name IsClaimed (host_at held (Some script) (Some [])) ended (host_at saved left replies) × (result ≡ told ended)
 
+-- the script of a trim: all that the image reaches is marked, all other data blocks are cleaned then, and a sync
+abbrev pub trim_script : List ℕ
+trim_script = codes "reclaim 18446744073709551615\nclean 18446744073709551615\nsync\n"
+
 -- a call of the history is carried out on an image, and synced, by its script; or there is none, and no file changes
 abbrev pub HistoryEnds : Result (List ℕ) Failure → List ℕ → (List ℕ → Type 0) → Held → Result (Unit {0}) Failure → Held → Type 0
 HistoryEnds spelled name IsClaimed held result saved = ((script : List ℕ) × (spelled ≡ Ok script) × RunsUnprinted script name IsClaimed held result saved)

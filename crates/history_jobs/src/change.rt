@@ -1,13 +1,16 @@
-//! A call of the history on the file of an image.
+//! A call of the history on the file of an image, and a trim.
 ghost use Rattle.std.specs.Prelude.{◌≡◌};
 ghost use Rattle.host_files.specs.Files.{KeepsOthers, ReadsClaimed};
-ghost use Rattle.history_jobs.specs.Histories.{HistoryEnds, RunsUnprinted, history_spelled, unprinted};
+ghost use Rattle.history_jobs.specs.Histories.{HistoryEnds, RunsUnprinted, history_spelled, trim_script, unprinted};
 
 use crate::history_lines::history_script;
 use host_files::ImageFiles;
 use image_jobs::{Failure, run_image};
 use jobs::HistoryCall;
 use std::alloc::Global;
+
+/// All that the image reaches is marked, all other data blocks are cleaned then, and it is synced.
+const TRIM_SCRIPT: &[u8] = b"reclaim 18446744073709551615\nclean 18446744073709551615\nsync\n";
 
 /// Carries out a call of the history on an image, which is claimed first, and syncs it: steps `count`
 /// times, all of them or none. Nothing is printed. Where it is refused the image stays as it was.
@@ -27,6 +30,15 @@ pub fn change_history<F: ImageFiles>(
         Err(failure) => return Err(failure),
     };
     run_unprinted(files, alloc, name, script.as_bytes())
+}
+
+/// Erases the data blocks of an image that no version and no checkpoint reaches. It is claimed first.
+/// Nothing is printed. Where it is refused the image stays as it was.
+pub fn trim_image<F: ImageFiles>(files: &mut F, alloc: Global, name: &str) -> Result<(), Failure>
+    ensures ends { RunsUnprinted trim_script name.now (ReadsClaimed F.claims F.reads name.now) (F.held files.old) result (F.held files.new) }
+    ensures others { KeepsOthers name.now (F.held files.old) (F.held files.new) }
+{
+    run_unprinted(files, alloc, name, TRIM_SCRIPT)
 }
 
 /// Runs a script on an image up to its first refused line, and prints no reply.

@@ -1,4 +1,5 @@
 pub mod Files
+pub mod Folders
 pub mod Sources
 pub mod Steps
 pub mod Streams

@@ -5,10 +5,12 @@ mod claims;
 mod gathering;
 mod host_part;
 mod identity;
+mod new_folder;
 mod replaced;
 mod replacing;
 
 use crate::channels::Channels;
+use crate::folders::Folders;
 use crate::image_files::{FileFault, ImageFiles, MOST_BYTES, UnreadCause};
 use crate::parts::Parts;
 use crate::source::{Source, Sources};
@@ -16,6 +18,7 @@ use claims::Claim;
 use gathering::gather;
 pub use host_part::HostPart;
 use identity::Identity;
+use new_folder::NewFolder;
 use replaced::Replaced;
 use replacing::replace_file;
 use std::alloc::{AllocError, Global};
@@ -30,17 +33,24 @@ use std::{fs, io};
 /// one file are kept apart, and any other program is not. A file is replaced by a new one that is
 /// written beside it under its name with `.new` after it, has its mode, is brought to the disk and
 /// renamed; then the folder is brought to the disk. Where that fails, the new file is removed again. One
-/// that may not be written is not replaced.
+/// that may not be written is not replaced. A folder is made in the same way, but where something stands
+/// at its name or at that of the new one it is refused: between the last look and the renaming another
+/// program may put an empty folder there, which is replaced.
 #[derive(Drop)]
 pub struct HostFiles<'a, R> {
     rt: &'a R,
     claim: Option<Claim>,
+    folder: Option<NewFolder>,
 }
 
 impl<'a, R: Files<File = File>> HostFiles<'a, R> {
-    /// The files that a runtime reaches. No name is claimed.
+    /// The files that a runtime reaches. No name is claimed, and no folder is begun.
     pub fn new(rt: &'a R) -> HostFiles<'a, R> {
-        HostFiles { rt, claim: None }
+        HostFiles {
+            rt,
+            claim: None,
+            folder: None,
+        }
     }
 }
 
@@ -85,6 +95,65 @@ impl<R: Files<File = File>> ImageFiles for HostFiles<'_, R> {
         match replace_file(self.rt, alloc, &claim, bytes) {
             Ok(folder) => folder.sync_all().map_err(|_| FileFault::Unsynced),
             Err(error) => Err(fault_of(&error)),
+        }
+    }
+}
+
+impl<R: Files<File = File>> Folders for HostFiles<'_, R> {
+    fn begin_folder(&mut self, alloc: Global, name: &str) -> Result<(), FileFault> {
+        match NewFolder::begin(self.rt, alloc, name) {
+            Ok(folder) => {
+                self.folder = Some(folder);
+                Ok(())
+            }
+            Err(error) => Err(fault_of(&error)),
+        }
+    }
+
+    fn make_folder(&mut self, alloc: Global, name: &str, way: &str) -> Result<(), FileFault> {
+        match &mut self.folder {
+            Some(folder) if folder.is_named(name) => folder
+                .make_folder(self.rt, alloc, way)
+                .map_err(|error| fault_of(&error)),
+            _ => Err(FileFault::Failed),
+        }
+    }
+
+    fn make_file(
+        &mut self,
+        alloc: Global,
+        name: &str,
+        way: &str,
+        bytes: &[u8],
+    ) -> Result<(), FileFault> {
+        match &self.folder {
+            Some(folder) if folder.is_named(name) => folder
+                .make_file(self.rt, alloc, way, bytes)
+                .map_err(|error| fault_of(&error)),
+            _ => Err(FileFault::Failed),
+        }
+    }
+
+    fn finish_folder(&mut self, alloc: Global, name: &str) -> Result<(), FileFault> {
+        let Some(folder) = self.folder.take() else {
+            return Err(FileFault::Failed);
+        };
+        if !folder.is_named(name) {
+            folder.remove(self.rt, alloc);
+            return Err(FileFault::Failed);
+        }
+        match folder.finish(self.rt) {
+            Ok(above) => above.sync_all().map_err(|_| FileFault::Unsynced),
+            Err(error) => {
+                folder.remove(self.rt, alloc);
+                Err(fault_of(&error))
+            }
+        }
+    }
+
+    fn give_up_folder(&mut self, alloc: Global, _name: &str) {
+        if let Some(folder) = self.folder.take() {
+            folder.remove(self.rt, alloc);
         }
     }
 }

@@ -1,9 +1,10 @@
-//! The files of the host: images that are claimed, read and replaced, what is put into them, parts that
-//! are written in place, and streams that join the program to another one.
+//! The files of the host: images that are claimed, read and replaced, what is put into them, folders that
+//! are made whole, parts that are written in place, and streams that join the program to another one.
 #![tactic(auto)]
 
 mod backing;
 mod channels;
+mod folders;
 mod host_files;
 mod image_files;
 mod limits;
@@ -13,6 +14,7 @@ mod source;
 
 pub use backing::Backing;
 pub use channels::Channels;
+pub use folders::Folders;
 pub use host_files::{HostFiles, HostPart};
 pub use image_files::{FileFault, ImageFiles, MOST_BYTES, UnreadCause};
 pub use limits::read_limit_law;

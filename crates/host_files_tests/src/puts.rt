@@ -115,6 +115,84 @@ fn a_folder_is_put_as_one_version(rt: HostRuntime) -> Result<(), Fail> {
     Ok(())
 }
 
+/// Asserts that a folder is refused by what is told, and that the image stays as it was.
+fn assert_refused<R: Abort + Files<File = File> + AllocGlobal>(
+    rt: &R,
+    image: &str,
+    source: &str,
+    told: &str,
+) -> Result<(), Fail> {
+    let before = fs::read(rt, image)?;
+    assert_given(rt, &["put", image, source, "/"], "", (4, "", told))?;
+    assert_eq!(rt; fs::read(rt, image)?.as_slice(), before.as_slice());
+    Ok(())
+}
+
+// By hand: of 8 data blocks one has the root of the version before. While file 5 is written, 5 files and the
+// root of the group stand beside it, and it takes two blocks more.
+#[test]
+fn the_file_that_is_refused_of_many_is_told(rt: HostRuntime) -> Result<(), Fail> {
+    let (folder, image, source) = begun(&rt, "lot")?;
+    let (image, source) = (image.as_str(), source.as_str());
+    let sizes = ["format", image, "--blocks", "16", "--history", "2"];
+    assert_given(&rt, &sizes, "", (0, "", ""))?;
+    write_files(&rt, source, 10)?;
+    let full = "uffs: ENOSPC 15: /file0005, blocks for its bytes: 1\n";
+    assert_refused(&rt, image, source, full)?;
+    let lines = "mkdir /file0003\nsync\n";
+    assert_given(&rt, &["run", image], lines, (0, "ok\nok\n", ""))?;
+    assert_refused(&rt, image, source, "uffs: EISDIR 3: /file0003\n")?;
+    fs::remove_dir_all(&rt, folder.as_str())?;
+    Ok(())
+}
+
+/// How many pages of an image of so many blocks are programmed: each takes 256 bytes beside its state.
+fn programmed_pages(rt: &HostRuntime, image: &str, blocks: usize) -> Result<usize, Fail> {
+    let states = blocks.saturating_mul(17).saturating_add(20);
+    Ok(fs::read(rt, image)?.len().saturating_sub(states) / 256)
+}
+
+// By hand: the root of the version before, four files, two directories, the root and two records take a page
+// each. Each directory was empty first, and with it and with its files came a root of the group.
+#[test]
+fn what_a_put_left_behind_is_erased(rt: HostRuntime) -> Result<(), Fail> {
+    let (folder, image, source) = begun(&rt, "trim")?;
+    let image = image.as_str();
+    assert_formatted(&rt, image)?;
+    for word in ["a", "b"] {
+        let below = name_in(rt.alloc(), source.as_str(), word)?;
+        fs::create_dir(&rt, below.as_str())?;
+        write_files(&rt, below.as_str(), 2)?;
+    }
+    assert_put(&rt, image, source.as_str(), "uffs: 7 of 7\n")?;
+    assert_eq!(rt; programmed_pages(&rt, image, 128)?, 10);
+    let looked = "df\nlog\nread /a/file0001 0 9\nundo\nls /\nredo\nls /\n";
+    let seen =
+        "df data 120 bad 0 free 112 anchors 8\nlog next 3 dropped 0 versions 1 *2 checkpoints\ndata 31\nok\nentries 0\nok\nentries 2 a/ b/\n";
+    assert_given(&rt, &["run", image], looked, (0, seen, ""))?;
+    fs::remove_dir_all(&rt, folder.as_str())?;
+    Ok(())
+}
+
+// By hand: each file has a node of 87 bytes. The root has 31 nodes of 32 entries of 18 bytes, which are 592
+// bytes with their header, and one of 160 bytes: 94 pages. The root of the version before and the two records
+// have a page each.
+#[test]
+fn a_thousand_small_files_take_a_page_each(rt: HostRuntime) -> Result<(), Fail> {
+    let (folder, image, source) = begun(&rt, "small")?;
+    let image = image.as_str();
+    let sizes = ["format", image, "--blocks", "2048"];
+    assert_given(&rt, &sizes, "", (0, "", ""))?;
+    for number in 0..1000 {
+        let name = format!(in rt.alloc(); "{}/file{number:04}", source.as_str())?;
+        fs::write(&rt, name.as_str(), "7 bytes")?;
+    }
+    assert_given(&rt, &["put", image, source.as_str(), "/"], "", (0, "", ""))?;
+    assert_eq!(rt; programmed_pages(&rt, image, 2048)?, 1_097);
+    fs::remove_dir_all(&rt, folder.as_str())?;
+    Ok(())
+}
+
 #[test]
 fn a_folder_with_what_is_not_put_is_refused_whole(rt: HostRuntime) -> Result<(), Fail> {
     let alloc = rt.alloc();

@@ -1,6 +1,6 @@
 //! The program on the host's files: which it replaces, with which mode and past which links, and which
 //! it refuses.
-use host_files::{Channels, HostFiles, ImageFiles, Parts, Sources};
+use host_files::{Channels, Folders, HostFiles, ImageFiles, Parts, Sources};
 use program_calls::{Wanted, first_other, fresh_image};
 use std::alloc::Global;
 use std::fs::{File, Permissions};
@@ -26,7 +26,7 @@ pub(crate) fn name_in(alloc: Global, folder: &str, word: &str) -> Result<String,
 }
 
 /// Asserts what calls of the program give, one after the other.
-pub(crate) fn assert_calls<R: Abort + AllocGlobal, F: ImageFiles + Sources + Channels + Parts>(
+pub(crate) fn assert_calls<R: Abort + AllocGlobal, F: Folders + Sources + Channels + Parts>(
     rt: &R,
     files: &mut F,
     calls: &[Wanted<'_>],
@@ -38,7 +38,7 @@ pub(crate) fn assert_calls<R: Abort + AllocGlobal, F: ImageFiles + Sources + Cha
 
 /// Asserts that the words that ask something of an image have it told as one that cannot be read, or
 /// cannot be written, with this after its name.
-fn assert_cannot<R: Abort + AllocGlobal, F: ImageFiles + Sources + Channels + Parts>(
+fn assert_cannot<R: Abort + AllocGlobal, F: Folders + Sources + Channels + Parts>(
     rt: &R,
     files: &mut F,
     what: &str,
@@ -52,7 +52,7 @@ fn assert_cannot<R: Abort + AllocGlobal, F: ImageFiles + Sources + Channels + Pa
 }
 
 /// Asserts that an image is told as one that cannot be written.
-fn assert_unwritten<R: Abort + AllocGlobal, F: ImageFiles + Sources + Channels + Parts>(
+fn assert_unwritten<R: Abort + AllocGlobal, F: Folders + Sources + Channels + Parts>(
     rt: &R,
     files: &mut F,
     name: &str,

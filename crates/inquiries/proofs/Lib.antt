@@ -1,10 +1,11 @@
+pub mod Counted
 pub mod DifferenceLemmas
 pub mod Entries
-pub mod LineLemmas
-pub mod Readings
-pub mod VersionLemmas
-pub mod Sizes
-pub mod Counted
-pub mod Shared
+pub mod FolderLemmas
 pub mod KeptSpace
+pub mod LineLemmas
 pub mod PairLines
+pub mod Readings
+pub mod Shared
+pub mod Sizes
+pub mod VersionLemmas

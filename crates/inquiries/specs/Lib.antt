@@ -1,6 +1,7 @@
 pub mod Asked
 pub mod Counterparts
 pub mod Differences
+pub mod Folders
 pub mod Inquiries
 pub mod Items
 pub mod Printed

@@ -14,7 +14,7 @@ use undofs::Fs;
 
 /// What stands in another tree in the place of what stands in one.
 #[derive(Clone, Copy, Debug, PartialEq, Eq)]
-pub(crate) enum Counterpart {
+pub enum Counterpart {
     /// A directory for a directory.
     Directory,
     /// A file for a file.
@@ -24,7 +24,7 @@ pub(crate) enum Counterpart {
 }
 
 /// What stands in the tree of a view in the place of an item.
-pub(crate) fn find_counterpart<F: Flash>(
+pub fn find_counterpart<F: Flash>(
     fs: &mut Fs<'_, F>,
     view: &View,
     item: &Item,

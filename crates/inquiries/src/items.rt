@@ -41,7 +41,7 @@ pub(crate) fn items_of<F: Flash>(
 }
 
 /// Adds what stands below a directory, in so many levels.
-fn add_items<F: Flash>(
+pub(crate) fn add_items<F: Flash>(
     alloc: Global,
     fs: &mut Fs<'_, F>,
     view: &View,

@@ -5,6 +5,7 @@
 mod asking;
 mod counterpart;
 mod differences;
+mod folders;
 mod inquiry;
 mod items;
 mod listing;
@@ -14,7 +15,11 @@ mod tell_fault;
 mod versions;
 
 pub use asking::{AskFault, ask};
+pub use counterpart::{Counterpart, find_counterpart};
+pub use folders::{MAX_TREE_BYTES, list_folder};
 pub use inquiry::{Inquiry, tell};
 pub use items::Item;
 pub use listing::list;
+pub use printing::print_path;
+pub use reading::{read_file, stat_at};
 pub use tell_fault::{MAX_LINES, TellFault};

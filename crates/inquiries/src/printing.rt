@@ -105,7 +105,7 @@ fn print_item(out: &mut Vec<u8>, item: &Item) -> Result<(), AllocError>
 }
 
 /// Appends the path of these names, with a `/` before each.
-fn print_path(out: &mut Vec<u8>, names: &[Name]) -> Result<(), AllocError>
+pub fn print_path(out: &mut Vec<u8>, names: &[Name]) -> Result<(), AllocError>
     ensures { OnOk result (out.new.items ≡ out.old.items ++ path_text names.now) }
 {
     for name in names {

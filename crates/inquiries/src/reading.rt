@@ -20,8 +20,8 @@ use undofs::{Fs, HistorySpace, Log, TreeSize};
 /// So many bytes are asked for where all bytes of a file are: none has more.
 const ALL_BYTES: u64 = MAX_FILE_BYTES as u64;
 
-/// What stands at a path of a view.
-pub(crate) fn stat_at<F: Flash>(fs: &mut Fs<'_, F>, view: &View, path: &Path) -> Result<Stat, Fault>
+/// What stands at a path of a view. Refused as the call is.
+pub fn stat_at<F: Flash>(fs: &mut Fs<'_, F>, view: &View, path: &Path) -> Result<Stat, Fault>
     ensures same { IsUnchanged fs.old fs.new }
     ensures accepted { IfOk result (λ _. refusal (shown fs.old) (Call.Stat view.now path.now) ≡ None) }
     ensures ok { IfOk result (λ stat. stat ≡ stat_of (view_tree (shown fs.old) view.now) path.now (get (view_tree (shown fs.old) view.now) path.now)) }
@@ -100,8 +100,8 @@ pub(crate) fn kept_space<F: Flash>(alloc: Global, fs: &mut Fs<'_, F>) -> Result<
     fs.space_by_version(alloc)
 }
 
-/// All bytes of a file of a view.
-pub(crate) fn read_file<F: Flash>(
+/// All bytes of a file of a view. Refused as the call is that reads it.
+pub fn read_file<F: Flash>(
     alloc: Global,
     fs: &mut Fs<'_, F>,
     view: &View,

@@ -5,22 +5,8 @@ use Rattle.fs_types.specs.Names.{Path}
 use Rattle.fs_types.specs.declared.call.View.{View}
 use Rattle.inquiries.specs.declared.inquiry.Inquiry.{Inquiry}
 use Rattle.inquiry_jobs.specs.Asking.{IsMisspelled, file_at, file_in, tree_in, differences_between, differences_from}
-use Rattle.host_files.specs.Files.{Held, takes_away}
-use Rattle.image_jobs.specs.Images.{IsUnclaimed, Unsaved}
-use Rattle.inquiry_jobs.specs.Tellings.{DiffEnds, IsTold, GetEnds, TellEnds, status_of_told}
+use Rattle.inquiry_jobs.specs.Tellings.{DiffEnds, IsTold, TellEnds, status_of_told}
 use Rattle.image_jobs.specs.declared.failure.Failure.{Failure}
-
--- the bytes that are told are put into a file
-pub got_saved : (spelled : Result Inquiry Failure) (name file : List ℕ) (held saved : Held) (inquiry : Inquiry) (bytes lent : List ℕ) (result : Result (Unit {0}) Failure)
-    → takes_away file name ≡ false → spelled ≡ Ok inquiry → IsTold (held name) inquiry bytes → lent ≡ bytes → OnOk result (IfSome (saved file) (λ all. all ≡ lent))
-    → IfErr result (λ failure. (IsUnclaimed failure × (saved ≡ held)) ⊎ Unsaved (held file) (saved file) lent failure)
-    → GetEnds spelled name file held saved result
-got_saved spelled name file held saved inquiry bytes lent (Ok done) apart is told same ok err =
-    (apart, (lent, record { inquiry = inquiry; is = is; told = subst (IsTold (held name) inquiry) (sym same) told }, ok))
-got_saved spelled name file held saved inquiry bytes lent (Err failure) apart is told same ok err = elim err [
-  | inl unclaimed ↦ inl unclaimed
-  | inr unsaved ↦ inr (apart, inr (lent, record { inquiry = inquiry; is = is; told = subst (IsTold (held name) inquiry) (sym same) told }, unsaved))
-]
 
 -- they are written
 pub told_written : (spelled : Result Inquiry Failure) (held : Option (List ℕ)) (inquiry : Inquiry) (bytes lent : List ℕ) (old new : Option (List ℕ))

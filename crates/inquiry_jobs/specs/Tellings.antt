@@ -1,10 +1,9 @@
 -- How a job ends that tells something of an image.
-use Rattle.std.specs.Prelude.{◌≡◌, ◌⊎◌, ℕ, Bool, true, false, Option, Result, Ok, Err, IfSome, List, ◌∷◌, take}
+use Rattle.std.specs.Prelude.{◌≡◌, ◌⊎◌, ℕ, Bool, true, false, Option, Result, Ok, Err, List, ◌∷◌, take}
 use Rattle.std.specs.Io.KnownBytes.{Appends}
 use Rattle.inquiries.specs.declared.inquiry.Inquiry.{Inquiry}
 use Rattle.inquiry_jobs.specs.Asking.{IsMisspelled, IsToldBy, UntoldBy}
-use Rattle.image_jobs.specs.Images.{IsSpelledFlash, LoadCause, IsUnclaimed, Unsaved}
-use Rattle.host_files.specs.Files.{Held, takes_away}
+use Rattle.image_jobs.specs.Images.{IsSpelledFlash, LoadCause}
 use Rattle.image_jobs.specs.declared.failure.Failure.{Failure}
 
 -- these bytes are told of an image, or why nothing is
@@ -39,15 +38,3 @@ status_of_told _ _ = Ok tt
 abbrev pub DiffEnds : Bool → Result Inquiry Failure → Option (List ℕ) → Result (Unit {0}) Failure → Option (List ℕ) → Option (List ℕ) → Type 0
 DiffEnds exit_code spelled held result old new = ((bytes : List ℕ) × IsAnswer spelled held bytes × Appends old new bytes × (result ≡ status_of_told exit_code bytes))
     ⊎ ((failure : Failure) × (result ≡ Err failure) × TellEnds spelled held (Err failure) old new)
-
--- what is told of an image is not had: the words spell nothing, or nothing is told, and no file changes; or it is told, and not
--- written to a file, or not for good
-abbrev pub NotGot : Result Inquiry Failure → List ℕ → List ℕ → Held → Held → Failure → Type 0
-NotGot spelled name file held saved failure = (IsUnanswered spelled (held name) failure × (saved ≡ held))
-    ⊎ ((bytes : List ℕ) × IsAnswer spelled (held name) bytes × Unsaved (held file) (saved file) bytes failure)
-
--- what is told of an image is a file of the host then. Else the file is not claimed, and no file changes, as where to replace it
--- takes the image away; or it is not had
-abbrev pub GetEnds : Result Inquiry Failure → List ℕ → List ℕ → Held → Held → Result (Unit {0}) Failure → Type 0
-GetEnds spelled name file held saved (Ok done) = (takes_away file name ≡ false) × ((bytes : List ℕ) × IsAnswer spelled (held name) bytes × IfSome (saved file) (λ all. all ≡ bytes))
-GetEnds spelled name file held saved (Err failure) = (IsUnclaimed failure × (saved ≡ held)) ⊎ ((takes_away file name ≡ false) × NotGot spelled name file held saved failure)

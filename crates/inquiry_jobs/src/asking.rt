@@ -1,47 +1,18 @@
 //! What is asked of an image.
 ghost use Rattle.std.specs.Prelude.{◌≡◌, Ok, IfOk, IfErr};
 ghost use Rattle.inquiry_jobs.specs.Asking.{file_spelled, tree_spelled, differences_spelled, of_ask, IsMisspelled};
-ghost use Rattle.host_files.specs.Files.{KeepsOthers};
-ghost use Rattle.inquiry_jobs.specs.Tellings.{DiffEnds, status_of_told, IsTold, UntoldCause, TellEnds, GetEnds};
+ghost use Rattle.inquiry_jobs.specs.Tellings.{DiffEnds, status_of_told, IsTold, UntoldCause, TellEnds};
 
 use crate::path_word::path_of_word;
 use crate::view_word::view_of_word;
 use fs_types::Bytes;
 use host_files::ImageFiles;
-use image_jobs::{Failure, load, save_bytes, spare};
+use image_jobs::{Failure, load};
 use inquiries::{AskFault, Inquiry, ask};
 use script::write_out;
 use script_runs::Refusal;
 use std::alloc::Global;
 use std::io::Write;
-
-/// Puts the file at a path of an image into a file of the host, which is claimed then. Refused at once
-/// where that takes the image away.
-pub fn get_file<F: ImageFiles>(
-    files: &mut F,
-    alloc: Global,
-    name: &str,
-    path: &str,
-    view: Option<&str>,
-    file: &str,
-) -> Result<(), Failure>
-    ensures ends { GetEnds (file_spelled path.now view.entry) name.now file.now (F.held files.old) (F.held files.new) result }
-    ensures others { KeepsOthers file.now (F.held files.old) (F.held files.new) }
-{
-    match spare(files, alloc, file, name) {
-        Ok(()) => {}
-        Err(failure) => return Err(failure),
-    }
-    let inquiry = match file_inquiry(alloc, path, view) {
-        Ok(inquiry) => inquiry,
-        Err(failure) => return Err(failure),
-    };
-    let bytes = match ask_image(files, alloc, name, &inquiry) {
-        Ok(bytes) => bytes,
-        Err(failure) => return Err(failure),
-    };
-    save_bytes(files, alloc, file, bytes.as_slice())
-}
 
 /// Writes the bytes of the file at a path of an image.
 pub fn tell_file<F: ImageFiles, W: Write>(

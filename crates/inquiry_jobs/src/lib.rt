@@ -6,5 +6,6 @@ mod asking;
 mod path_word;
 mod view_word;
 
-pub use asking::{get_file, of_ask, tell_differences, tell_file, tell_tree, tell_versions};
+pub use asking::{of_ask, tell_differences, tell_file, tell_tree, tell_versions};
 pub use path_word::path_of_word;
+pub use view_word::view_of_word;

@@ -11,7 +11,7 @@ use std::alloc::{AllocError, Global};
 
 /// The view that a word spells, as the line `stat` of a script takes it, and the present version where
 /// there is no word. Refused as that line is.
-pub(crate) fn view_of_word(alloc: Global, word: Option<&str>) -> Result<View, Failure>
+pub fn view_of_word(alloc: Global, word: Option<&str>) -> Result<View, Failure>
     ensures ok { IfOk result (λ view. view_spelled word.entry ≡ Ok view) }
     ensures err { IfErr result (IsMisspelled (view_spelled word.entry)) }
 {

@@ -3,7 +3,7 @@ ghost use Rattle.std.specs.Prelude.{◌<◌};
 
 use flash_model::Geometry;
 use fs_types::{Fault, MAX_VERSIONS, MIN_BLOCK_BYTES, MIN_VERSIONS, Path};
-use host_files::{ImageFiles, Source, SourceKind, UnreadCause};
+use host_files::{ImageFiles, Source, UnreadCause};
 use image_jobs::{Failure, SourceFault, explain_refusal, explain_unread};
 use jobs::{Job, Task};
 use script::print_name;
@@ -21,8 +21,8 @@ const NODE_HEADER: usize = 80;
 /// Bytes of the largest flash.
 const MAX_FLASH_BYTES: usize = 67_108_864;
 
-/// Tells why a job did not run to its end, unless that was told before: a put tells by itself what was
-/// refused.
+/// Tells why a job did not run to its end, unless that was told before: a put and an archive tell by
+/// themselves what was refused.
 pub fn tell_failure<F: ImageFiles, E: Write>(
     files: &F,
     alloc: Global,
@@ -30,10 +30,15 @@ pub fn tell_failure<F: ImageFiles, E: Write>(
     failure: Failure,
     err: &mut E,
 ) {
-    let _ = match (job.command, failure) {
-        (Task::Put, Failure::Refused(_)) => Ok(()),
-        (Task::Format | Task::FormatPart | Task::ToRaw | Task::FromRaw, Failure::System(fault)) =>
-            tell_refused_sizes(alloc, job, fault, err),
+    let _ = match failure {
+        Failure::Refused(_) if tells_refusals(job.command) => Ok(()),
+        Failure::System(fault) if has_sizes(job.command) => {
+            tell_refused_sizes(alloc, job, fault, err)
+        }
+        Failure::NoFolder if job.command == Task::Create => {
+            writeln!(err, "uffs: {} is no folder", word_given(job.file))
+        }
+        Failure::CannotRead if job.command == Task::Update => tell_unread_of_two(files, job, err),
         _ => {
             let read = read_by(job);
             failure.explain(read, unread_cause(files, job, read), written_by(job), err);
@@ -42,9 +47,38 @@ pub fn tell_failure<F: ImageFiles, E: Write>(
     };
 }
 
+/// Whether a task tells by itself what is refused.
+fn tells_refusals(command: Task) -> bool {
+    matches!(command, Task::Put | Task::Create | Task::Tar | Task::Untar)
+}
+
+/// Whether a task is given sizes.
+fn has_sizes(command: Task) -> bool {
+    matches!(
+        command,
+        Task::Format | Task::FormatPart | Task::Create | Task::ToRaw | Task::FromRaw
+    )
+}
+
 /// A word of a job; the empty one where it has none.
 fn word_given(word: Option<&str>) -> &str {
     word.unwrap_or("")
+}
+
+/// Tells which of two images cannot be read, by a look at each; where that tells nothing, that one of them
+/// cannot.
+fn tell_unread_of_two<F: ImageFiles, E: Write>(
+    files: &F,
+    job: Job<'_>,
+    err: &mut E,
+) -> io::Result<()> {
+    let first = word_given(job.image);
+    let second = word_given(job.file);
+    match (files.unread_cause(first), files.unread_cause(second)) {
+        (None, None) => writeln!(err, "uffs: cannot read {first} or {second}"),
+        (None, cause) => explain_unread(second, cause, err),
+        (cause, _) => explain_unread(first, cause, err),
+    }
 }
 
 /// The name of what a job reads.
@@ -60,7 +94,7 @@ fn read_by(job: Job<'_>) -> &str {
 /// The name of what a job writes.
 fn written_by(job: Job<'_>) -> &str {
     match job.command {
-        Task::Get | Task::ToPart | Task::ToRaw => word_given(job.file),
+        Task::Get | Task::MapPage | Task::ToPart | Task::ToRaw => word_given(job.file),
         Task::Serve => word_given(job.orders),
         Task::ServePart | Task::FormatPart => word_given(job.part),
         _ => word_given(job.image),
@@ -96,6 +130,7 @@ fn refused_number(alloc: Global, job: Job<'_>, fault: Fault) -> Result<Option<St
             String::from_str(alloc, "its pages are not 256 bytes, 16 in a block")?
         }
         (Fault::BadGeometry, Task::FromRaw) => refused_raw(alloc, job)?,
+        (Fault::BadGeometry, Task::Create) if !job.is_blocks_given => return Ok(None),
         (Fault::BadGeometry, _) => refused_size(alloc, sizes_of(job))?,
         (Fault::Invalid, _) => {
             let history = job.history;
@@ -148,26 +183,6 @@ fn refused_size(alloc: Global, sizes: Geometry) -> Result<String, AllocError> {
     }
     let most = MAX_FLASH_BYTES / bytes;
     format!(in alloc; "--blocks {blocks} is not 16 to {most} for these blocks")
-}
-
-/// Tells why a source is not put: with its name, or with its place in the image where that was refused on
-/// a flash of these sizes.
-pub fn tell_unput<F: ImageFiles, E: Write>(
-    files: &F,
-    alloc: Global,
-    failure: Failure,
-    source: &Source,
-    place: Option<Path>,
-    sizes: Geometry,
-    err: &mut E,
-) {
-    match (failure, place) {
-        (Failure::Refused(refusal), Some(place)) => {
-            tell_refused(alloc, refusal, &place, bytes_of(source), sizes, err);
-        }
-        (Failure::Refused(refusal), None) => tell_refusal(refusal, "", err),
-        _ => tell_misplaced(files, failure, source, err),
-    }
 }
 
 /// Tells why what stands at a name of the host is not put.
@@ -244,14 +259,6 @@ fn refused_text(
         write!(text, ", blocks for its bytes: {blocks}")?;
     }
     Ok(text)
-}
-
-/// How many bytes a source has; none for a folder.
-fn bytes_of(source: &Source) -> u64 {
-    match source.kind {
-        SourceKind::File(bytes) => bytes,
-        _ => 0,
-    }
 }
 
 /// How many blocks so many bytes of a file take.

@@ -8,6 +8,10 @@ use Rattle.clap.specs.declared.builder.value_parser.ValueParser.{ValueParser}
 abbrev pub word_rule : Text → Rule
 word_rule name = record (new_rule name) { required = true; action = Some ArgAction.Set }
 
+-- a word that has to be given, told under another name
+abbrev pub shown_rule : Text → Rule
+shown_rule name = record (new_rule name) { value_names = 1; required = true; action = Some ArgAction.Set }
+
 -- a word that may be left out
 abbrev pub optional_rule : Text → Rule
 optional_rule name = record (new_rule name) { action = Some ArgAction.Set }
@@ -36,8 +40,12 @@ image_app name = with_rule (new_app name) (word_rule (codes "IMAGE"))
 abbrev pub formatted_app : App
 formatted_app = with_rule (with_rule (new_app (codes "format")) (optional_rule (codes "IMAGE"))) (named_rule (codes "part"))
 
+-- a subcommand with the sizes of a block
+abbrev pub with_block_rules : App → App
+with_block_rules app = with_rule (with_rule app (number_rule (codes "page"))) (number_rule (codes "pages"))
+
 abbrev pub format_app : App
-format_app = with_rule (with_rule (with_rule (with_rule formatted_app (number_rule (codes "page"))) (number_rule (codes "pages"))) (number_rule (codes "blocks"))) (number_rule (codes "history"))
+format_app = with_rule (with_rule (with_block_rules formatted_app) (number_rule (codes "blocks"))) (number_rule (codes "history"))
 
 abbrev pub run_app : App
 run_app = with_rule (image_app (codes "run")) (flag_rule (codes "stop"))
@@ -68,6 +76,13 @@ tree_app = with_rule (image_app (codes "tree")) (optional_rule (codes "VIEW"))
 abbrev pub diff_app : App
 diff_app = with_rule (with_rule (with_rule (image_app (codes "diff")) (word_rule (codes "VIEW"))) (optional_rule (codes "OTHER"))) (flag_rule (codes "exit-code"))
 
+-- the option `--html FILE`, of the file of a page
+abbrev pub html_rule : Rule
+html_rule = record (new_rule (codes "FILE")) { long = Some (codes "html"); value_names = 1; action = Some ArgAction.Set }
+
+abbrev pub map_app : App
+map_app = with_rule (image_app (codes "map")) html_rule
+
 -- a live file system on a part, whose driver is at the other end of two streams, or which stands in a flat file
 abbrev pub serve_app : App
 serve_app = with_rule (with_rule (with_rule (with_rule (new_app (codes "serve")) (optional_rule (codes "ANSWERS"))) (optional_rule (codes "ORDERS"))) (named_rule (codes "part"))) (number_rule (codes "history"))
@@ -85,6 +100,24 @@ raw_app = with_rule (image_app (codes "raw")) (word_rule (codes "FILE"))
 
 abbrev pub from_raw_app : App
 from_raw_app = with_rule (with_rule (with_rule (with_rule (new_app (codes "from-raw")) (word_rule (codes "FILE"))) (word_rule (codes "IMAGE"))) (number_rule (codes "page"))) (number_rule (codes "pages"))
+
+-- two images, of which the second has the new tree
+abbrev pub update_app : App
+update_app = with_rule (with_rule (new_app (codes "update")) (shown_rule (codes "IMAGE"))) (shown_rule (codes "FILE"))
+
+-- an image of a folder, before its flags, and with them
+abbrev pub sized_app : App
+sized_app = with_rule (with_rule (with_block_rules (with_rule (image_app (codes "create")) (shown_rule (codes "FILE")))) (number_rule (codes "blocks"))) (number_rule (codes "history"))
+
+abbrev pub create_app : App
+create_app = with_rule (with_rule sized_app (flag_rule (codes "progress"))) (flag_rule (codes "skip-links"))
+
+-- an archive of what stands in an image, and one that is put into an image
+abbrev pub tar_app : App
+tar_app = with_rule (image_app (codes "tar")) (optional_rule (codes "VIEW"))
+
+abbrev pub untar_app : App
+untar_app = with_rule (with_rule (image_app (codes "untar")) (word_rule (codes "PATH"))) (flag_rule (codes "skip-links"))
 
 abbrev pub explain_app : App
 explain_app = with_rule (new_app (codes "explain")) (word_rule (codes "REFUSAL"))
@@ -110,16 +143,16 @@ with_checkpoint_apps app = with_subcommand (with_subcommand (with_subcommand app
     (checkpoint_app (codes "rollback")).top) (checkpoint_app (codes "checkpoint")).top) (checkpoint_app (codes "rmcheckpoint")).top
 
 abbrev pub with_history_apps : App → App
-with_history_apps app = with_subcommand (with_checkpoint_apps (with_step_apps app)) forget_app.top
+with_history_apps app = with_subcommand (with_subcommand (with_checkpoint_apps (with_step_apps app)) forget_app.top) (image_app (codes "trim")).top
 
 -- a program with the subcommands more that read what stands in an image
 abbrev pub with_reading_apps : App → App
 with_reading_apps app = with_subcommand (with_subcommand (with_subcommand (with_subcommand app get_app.top) cat_app.top) tree_app.top) diff_app.top
 
--- a program with the subcommands more that take an image alone
+-- a program with the subcommands more that tell of an image as a whole
 abbrev pub with_image_apps : App → App
-with_image_apps app = with_subcommand (with_subcommand (with_subcommand (with_subcommand app
-    (image_app (codes "versions")).top) (image_app (codes "check")).top) (image_app (codes "log")).top) (image_app (codes "df")).top
+with_image_apps app = with_subcommand (with_subcommand (with_subcommand (with_subcommand (with_subcommand app
+    (image_app (codes "versions")).top) (image_app (codes "check")).top) (image_app (codes "log")).top) (image_app (codes "df")).top) map_app.top
 
 -- a program with the subcommands more that make a part of an image, and back
 abbrev pub with_part_apps : App → App
@@ -129,10 +162,18 @@ with_part_apps app = with_subcommand (with_subcommand app to_part_app.top) from_
 abbrev pub with_raw_apps : App → App
 with_raw_apps app = with_subcommand (with_subcommand app raw_app.top) from_raw_app.top
 
+-- a program with the subcommand more that makes an update
+abbrev pub with_update_apps : App → App
+with_update_apps app = with_subcommand app update_app.top
+
+-- a program with the subcommands more for archives
+abbrev pub with_archive_apps : App → App
+with_archive_apps app = with_subcommand (with_subcommand app tar_app.top) untar_app.top
+
 -- a program with the subcommands more that tell of the program itself
 abbrev pub with_about_apps : App → App
 with_about_apps app = with_subcommand (with_subcommand (with_subcommand app explain_app.top) (new_app (codes "help")).top) (new_app (codes "version")).top
 
 -- the program
 abbrev pub uffs : App
-uffs = with_about_apps (with_raw_apps (with_part_apps (with_subcommand (with_subcommand (with_image_apps (with_reading_apps (with_history_apps changing_app))) (new_app (codes "memory")).top) serve_app.top)))
+uffs = with_about_apps (with_subcommand (with_archive_apps (with_update_apps (with_raw_apps (with_part_apps (with_subcommand (with_subcommand (with_image_apps (with_reading_apps (with_history_apps changing_app))) (new_app (codes "memory")).top) serve_app.top))))) create_app.top)

@@ -25,6 +25,7 @@ task_named name = if bytes_eq name (codes "format") then Some Task.Format
     else if bytes_eq name (codes "checkpoint") then Some (Task.History HistoryCall.Checkpoint)
     else if bytes_eq name (codes "rmcheckpoint") then Some (Task.History HistoryCall.RemoveCheckpoint)
     else if bytes_eq name (codes "forget") then Some (Task.History HistoryCall.Forget)
+    else if bytes_eq name (codes "trim") then Some Task.Trim
     else if bytes_eq name (codes "get") then Some Task.Get
     else if bytes_eq name (codes "cat") then Some Task.Cat
     else if bytes_eq name (codes "tree") then Some Task.Tree
@@ -33,12 +34,17 @@ task_named name = if bytes_eq name (codes "format") then Some Task.Format
     else if bytes_eq name (codes "check") then Some Task.Check
     else if bytes_eq name (codes "log") then Some Task.Log
     else if bytes_eq name (codes "df") then Some Task.Df
+    else if bytes_eq name (codes "map") then Some Task.Map
     else if bytes_eq name (codes "memory") then Some Task.Memory
     else if bytes_eq name (codes "serve") then Some Task.Serve
     else if bytes_eq name (codes "to-part") then Some Task.ToPart
     else if bytes_eq name (codes "from-part") then Some Task.FromPart
     else if bytes_eq name (codes "raw") then Some Task.ToRaw
     else if bytes_eq name (codes "from-raw") then Some Task.FromRaw
+    else if bytes_eq name (codes "update") then Some Task.Update
+    else if bytes_eq name (codes "create") then Some Task.Create
+    else if bytes_eq name (codes "tar") then Some Task.Tar
+    else if bytes_eq name (codes "untar") then Some Task.Untar
     else if bytes_eq name (codes "explain") then Some Task.Explain
     else if bytes_eq name (codes "help") then Some Task.Help
     else if bytes_eq name (codes "version") then Some Task.Version
@@ -62,6 +68,11 @@ serve_task true false false = Some Task.ServePart
 serve_task false true true = Some Task.Serve
 serve_task _ _ _ = None
 
+-- a map is printed, or it is put into a file as a page
+abbrev pub map_task : Bool → Task
+map_task true = Task.MapPage
+map_task false = Task.Map
+
 -- whether a word of this name is given
 abbrev pub has_word : Text → List Row → Bool
 has_word name rows = is_some (first_of name rows)
@@ -71,6 +82,7 @@ abbrev pub task_with : List Row → Task → Option Task
 task_with rows (Task.History HistoryCall.Forget) = forget_task (has_word (codes "N") rows) (has_word (codes "free") rows)
 task_with rows Task.Format = format_task (has_word (codes "part") rows) (has_word (codes "IMAGE") rows)
 task_with rows Task.Serve = serve_task (has_word (codes "part") rows) (has_word (codes "ANSWERS") rows) (has_word (codes "ORDERS") rows)
+task_with rows Task.Map = Some (map_task (has_word (codes "FILE") rows))
 task_with rows task = Some task
 
 abbrev pub task_asked : Text → List Row → Option Task
@@ -135,6 +147,7 @@ pub record IsJobOf (name : Text) (rows : List Row) (job : Job) : Type 0 where
   pub count : IsNumberOf (one_of (count_word job.command) rows) 1 job.count
   pub refusal : word_text job.refusal ≡ first_of (codes "REFUSAL") rows
   pub checkpoint : word_text job.checkpoint ≡ first_of (codes "NAME") rows
+  pub is_blocks_given : job.is_blocks_given ≡ is_some (first_of (codes "blocks") rows)
   pub is_history_given : job.is_history_given ≡ is_some (first_of (codes "history") rows)
   pub answers : word_text job.answers ≡ first_of (codes "ANSWERS") rows
   pub orders : word_text job.orders ≡ first_of (codes "ORDERS") rows

@@ -2,13 +2,16 @@
 ghost use Rattle.std.specs.Prelude.{◌≡◌, IfOk, codes, false};
 ghost use Rattle.clap.specs.Words.{app_of, rule_of, new_app, with_rule, with_subcommand};
 ghost use Rattle.clap.specs.declared.builder.command.Command.TheViews.{out-Command};
-ghost use Rattle.jobs.specs.Grammar.{uffs, bare_app, changing_app, format_app, run_app, put_app, get_app, tree_app, diff_app, serve_app, cat_app, image_app};
-ghost use Rattle.jobs.specs.Grammar.{formatted_app, named_rule, with_part_apps, with_history_apps, with_reading_apps, with_image_apps, with_about_apps, flag_rule, number_rule, word_rule, optional_rule};
+ghost use Rattle.jobs.specs.Grammar.{uffs, bare_app, changing_app, format_app, run_app, put_app, get_app, tree_app, diff_app, serve_app, cat_app, image_app, map_app, html_rule};
+ghost use Rattle.jobs.specs.Grammar.{formatted_app, named_rule, with_block_rules, with_part_apps, with_history_apps, with_reading_apps, with_image_apps, with_about_apps, with_update_apps, flag_rule, number_rule, word_rule, optional_rule};
 
 use crate::about_commands::with_about_commands;
+use crate::archive_commands::with_archive_commands;
+use crate::create_commands::create_command;
 use crate::history_commands::with_history_commands;
 use crate::part_commands::with_part_commands;
 use crate::raw_commands::with_raw_commands;
+use crate::update_commands::with_update_commands;
 use clap::{Arg, ArgAction, Command, value_parser};
 use std::alloc::{AllocError, Global};
 
@@ -87,14 +90,17 @@ Example: uffs put disk.image ./site /site --mirror --progress";
 
 const GET_HELP: &str =
     "The file at PATH of the image is written to FILE, whole or not at all: it is written as FILE.new,
-which is renamed. A file that is there is replaced. As - for FILE it is printed. Without VIEW it is the file of the present
-version; @5 is the version of serial 5, and =name a checkpoint. PATH and VIEW are spelled as in a
-script. Nothing is written to IMAGE.
+which is renamed. A file that is there is replaced. As - for FILE it is printed. A directory becomes a
+folder, with all that is below it, whole or not at all: FILE must not be there, nor FILE.new, under
+which it is made. Without VIEW it is that of the present version; @5 is the version of serial 5, and
+=name a checkpoint. PATH and VIEW are spelled as in a script. Nothing is written to IMAGE.
 
 Status: 0 it is there; 1 IMAGE cannot be read, FILE cannot be written, or memory; 2 the words; 3
-IMAGE holds no image, or its mount was refused; 4 it was refused, told as uffs: ENOENT 1.
+IMAGE holds no image, or its mount was refused; 4 it was refused, told as uffs: ENOENT 1, or the
+directory's tree has too much, told as uffs: TOOMANYLINES.
 
-Example: uffs get disk.image /site/index.html ./index.html @5";
+Example: uffs get disk.image /site/index.html ./index.html @5
+         uffs get disk.image /site ./site";
 
 const CAT_HELP: &str =
     "Prints the bytes of the file at PATH of the image, and nothing else. VIEW is as of get. Nothing is
@@ -162,6 +168,19 @@ Status: as of check.
 
 Example: uffs df disk.image";
 
+const MAP_HELP: &str =
+    "Prints a sign for each block of the flash, 64 a line; then a line for each sign, with how many blocks
+have it and what it means; and a line of sums. A sign tells the first of these that holds of its block:
+R the anchor with the newest record, A another anchor, X bad, P reached by the present version alone, S
+by it and others, V by other versions, C by checkpoints alone, - free and not erased, . free and erased.
+Nothing is written to IMAGE. With --html the same is written to FILE as a page that needs no other file,
+and nothing is printed. FILE is the old file or the new one, whole, and is never IMAGE.
+
+Status: as of check; 1 also where FILE cannot be written.
+
+Example: uffs map disk.image
+         uffs map disk.image --html map.html";
+
 const MEMORY_HELP: &str =
     "The flash has 32 blocks of 16 pages of 256 bytes, and 8 versions are kept. No file is read or
 written.
@@ -195,6 +214,9 @@ pub(crate) fn program<'a>(alloc: Global) -> Result<Command<'a>, AllocError>
     let program = program.subcommand(serve_command(alloc)?)?;
     let program = with_part_commands(alloc, program)?;
     let program = with_raw_commands(alloc, program)?;
+    let program = with_update_commands(alloc, program)?;
+    let program = with_archive_commands(alloc, program)?;
+    let program = program.subcommand(create_command(alloc)?)?;
     with_about_commands(alloc, program)
 }
 
@@ -217,7 +239,7 @@ fn with_reading_commands<'a>(alloc: Global, program: Command<'a>) -> Result<Comm
     program.subcommand(diff_command(alloc)?)
 }
 
-/// The program with the subcommands more that take an image alone.
+/// The program with the subcommands more that tell of an image as a whole.
 fn with_image_commands<'a>(alloc: Global, program: Command<'a>) -> Result<Command<'a>, AllocError>
     ensures { IfOk result (λ command. app_of command ≡ with_image_apps (app_of program.entry)) }
 {
@@ -242,17 +264,18 @@ fn with_image_commands<'a>(alloc: Global, program: Command<'a>) -> Result<Comman
         "Prints the versions and checkpoints of an image",
         LOG_HELP,
     )?;
-    with_image_command(
+    let program = with_image_command(
         alloc,
         program,
         "df",
         "Prints how many blocks of an image are free",
         DF_HELP,
-    )
+    )?;
+    program.subcommand(map_command(alloc)?)
 }
 
 /// The program with a subcommand more that takes an image.
-fn with_image_command<'a>(
+pub(crate) fn with_image_command<'a>(
     alloc: Global,
     program: Command<'a>,
     name: &'a str,
@@ -284,21 +307,7 @@ fn format_command<'a>(alloc: Global) -> Result<Command<'a>, AllocError>
     ensures app { IfOk result (λ command. app_of command ≡ format_app) }
     ensures local { IfOk result (λ command. (out-Command command).has_globals ≡ false) }
 {
-    let command = formatted_command(alloc)?;
-    let command = with_number(
-        alloc,
-        command,
-        "page",
-        "P",
-        "Bytes of a page: 256, 512, 1024, 2048 or 4096 [default: 256]",
-    )?;
-    let command = with_number(
-        alloc,
-        command,
-        "pages",
-        "K",
-        "Pages of a block, which has 4096 to 262144 bytes [default: 16]",
-    )?;
+    let command = with_block_sizes(alloc, formatted_command(alloc)?)?;
     let command = with_number(
         alloc,
         command,
@@ -306,6 +315,41 @@ fn format_command<'a>(alloc: Global) -> Result<Command<'a>, AllocError>
         "N",
         "Blocks, 16 to 16384, in at most 67108864 bytes [default: 32]",
     )?;
+    with_history(alloc, command)
+}
+
+/// The subcommand with the options more of the sizes of a block.
+pub(crate) fn with_block_sizes<'a>(
+    alloc: Global,
+    command: Command<'a>,
+) -> Result<Command<'a>, AllocError>
+    ensures app { IfOk result (λ more. app_of more ≡ with_block_rules (app_of command.entry)) }
+    ensures local { IfOk result (λ more. (out-Command more).has_globals ≡ (out-Command command.entry).has_globals) }
+{
+    let command = with_number(
+        alloc,
+        command,
+        "page",
+        "P",
+        "Bytes of a page: 256, 512, 1024, 2048 or 4096 [default: 256]",
+    )?;
+    with_number(
+        alloc,
+        command,
+        "pages",
+        "K",
+        "Pages of a block, which has 4096 to 262144 bytes [default: 16]",
+    )
+}
+
+/// The subcommand with the option more of how many versions are kept.
+pub(crate) fn with_history<'a>(
+    alloc: Global,
+    command: Command<'a>,
+) -> Result<Command<'a>, AllocError>
+    ensures app { IfOk result (λ more. app_of more ≡ with_rule (app_of command.entry) (number_rule (codes "history"))) }
+    ensures local { IfOk result (λ more. (out-Command more).has_globals ≡ (out-Command command.entry).has_globals) }
+{
     with_number(
         alloc,
         command,
@@ -387,11 +431,16 @@ fn get_command<'a>(alloc: Global) -> Result<Command<'a>, AllocError>
     let command = image_command(
         alloc,
         "get",
-        "Puts a file of an image into a file of the host",
+        "Puts a file or a directory of an image into one of the host",
         GET_HELP,
     )?;
-    let command = with_word(alloc, command, PATH, "The path of the file in the image")?;
-    let command = with_word(alloc, command, FILE, "The file of the host")?;
+    let command = with_word(
+        alloc,
+        command,
+        PATH,
+        "The path of the file or the directory in the image",
+    )?;
+    let command = with_word(alloc, command, FILE, "The file or the folder of the host")?;
     with_optional_word(
         alloc,
         command,
@@ -467,6 +516,19 @@ fn diff_command<'a>(alloc: Global) -> Result<Command<'a>, AllocError>
     )
 }
 
+fn map_command<'a>(alloc: Global) -> Result<Command<'a>, AllocError>
+    ensures app { IfOk result (λ command. app_of command ≡ map_app) }
+    ensures local { IfOk result (λ command. (out-Command command).has_globals ≡ false) }
+{
+    let command = image_command(
+        alloc,
+        "map",
+        "Prints what each block of an image is",
+        MAP_HELP,
+    )?;
+    with_html(alloc, command, "Writes it as a page of HTML to this file")
+}
+
 fn serve_command<'a>(alloc: Global) -> Result<Command<'a>, AllocError>
     ensures app { IfOk result (λ command. app_of command ≡ serve_app) }
     ensures local { IfOk result (λ command. (out-Command command).has_globals ≡ false) }
@@ -512,7 +574,7 @@ pub(crate) fn with_word<'a>(
 }
 
 /// The subcommand with a word more that may be left out.
-fn with_optional_word<'a>(
+pub(crate) fn with_optional_word<'a>(
     alloc: Global,
     command: Command<'a>,
     name: &'a str,
@@ -525,7 +587,7 @@ fn with_optional_word<'a>(
 }
 
 /// The subcommand with a flag more.
-fn with_flag<'a>(
+pub(crate) fn with_flag<'a>(
     alloc: Global,
     command: Command<'a>,
     name: &'a str,
@@ -547,6 +609,18 @@ fn with_part<'a>(
     ensures local { IfOk result (λ more. (out-Command more).has_globals ≡ (out-Command command.entry).has_globals) }
 {
     command.arg(part_arg(alloc, help))
+}
+
+/// The subcommand with the option more that names the file of a page.
+fn with_html<'a>(
+    alloc: Global,
+    command: Command<'a>,
+    help: &'a str,
+) -> Result<Command<'a>, AllocError>
+    ensures app { IfOk result (λ more. app_of more ≡ with_rule (app_of command.entry) html_rule) }
+    ensures local { IfOk result (λ more. (out-Command more).has_globals ≡ (out-Command command.entry).has_globals) }
+{
+    command.arg(html_arg(alloc, help))
 }
 
 /// The subcommand with an option more that takes a number.
@@ -639,6 +713,18 @@ fn part_arg<'a>(alloc: Global, help: &'a str) -> Arg<'a>
 {
     Arg::new(alloc, PART)
         .long(PART)
+        .value_name(FILE)
+        .action(ArgAction::Set)
+        .help(help)
+}
+
+/// The option that names the file of a page.
+fn html_arg<'a>(alloc: Global, help: &'a str) -> Arg<'a>
+    ensures rule { rule_of result ≡ html_rule }
+    ensures local { result.global ≡ false }
+{
+    Arg::new(alloc, FILE)
+        .long("html")
         .value_name(FILE)
         .action(ArgAction::Set)
         .help(help)

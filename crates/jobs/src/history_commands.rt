@@ -4,7 +4,7 @@ ghost use Rattle.clap.specs.Words.{app_of, rule_of, with_rule, with_subcommand};
 ghost use Rattle.clap.specs.declared.builder.command.Command.TheViews.{out-Command};
 ghost use Rattle.jobs.specs.Grammar.{checkpoint_app, count_rule, forget_app, steps_app, with_checkpoint_apps, with_history_apps, with_step_apps};
 
-use crate::grammar::{image_command, with_number, with_word};
+use crate::grammar::{image_command, with_image_command, with_number, with_word};
 use clap::{Arg, ArgAction, Command, value_parser};
 use std::alloc::{AllocError, Global};
 
@@ -70,7 +70,17 @@ Status: as of undo.
 Example: uffs forget disk.image 3
 Example: uffs forget disk.image --free 8";
 
-/// The program with the subcommands more that move or change the history of an image.
+const TRIM_HELP: &str =
+    "The data blocks that no version and no checkpoint reaches are erased, so that IMAGE packs small, and
+has few pages to be programmed into a part. The tree, the versions and what log and df print stay. It is
+synced. Nothing is printed. Where it is refused IMAGE stays as it was.
+
+Status: as of undo.
+
+Example: uffs trim disk.image";
+
+/// The program with the subcommands more that move or change the history of an image, and the one that
+/// erases what it does not reach.
 pub(crate) fn with_history_commands<'a>(
     alloc: Global,
     program: Command<'a>,
@@ -79,7 +89,14 @@ pub(crate) fn with_history_commands<'a>(
 {
     let program = with_step_commands(alloc, program)?;
     let program = with_checkpoint_commands(alloc, program)?;
-    program.subcommand(forget_command(alloc)?)
+    let program = program.subcommand(forget_command(alloc)?)?;
+    with_image_command(
+        alloc,
+        program,
+        "trim",
+        "Erases the data blocks that nothing reaches",
+        TRIM_HELP,
+    )
 }
 
 /// The program with the subcommands more that step in the history.

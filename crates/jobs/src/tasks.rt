@@ -30,6 +30,8 @@ pub enum Task {
     Put,
     /// The history of an image is moved or changed.
     History(HistoryCall),
+    /// The data blocks of an image that nothing reaches are erased.
+    Trim,
     /// A file of an image is put into a file of the host.
     Get,
     /// The bytes of a file of an image are printed.
@@ -46,6 +48,10 @@ pub enum Task {
     Log,
     /// The line `df` is run on an image.
     Df,
+    /// What each block of an image is is printed.
+    Map,
+    /// It is put into a file of the host, as a page of HTML.
+    MapPage,
     /// A script is run on a flash in memory.
     Memory,
     /// A script is run on the part of a driver in another process.
@@ -62,6 +68,14 @@ pub enum Task {
     ToRaw,
     /// The bytes of a serial NOR part are written as an image.
     FromRaw,
+    /// What brings the tree of an image to that of another one is told.
+    Update,
+    /// An image is made of a folder of the host.
+    Create,
+    /// An archive of what stands in an image is printed.
+    Tar,
+    /// The archive on the input is put into an image.
+    Untar,
     /// What refusals mean is told.
     Explain,
     /// What can be asked for is told.
@@ -83,9 +97,11 @@ pub struct Job<'a> {
     pub pages: u32,
     /// Blocks of the flash.
     pub blocks: u32,
+    /// Whether a word gives how many blocks.
+    pub is_blocks_given: bool,
     /// Versions that are kept.
     pub history: u32,
-    /// Whether a word gives how many.
+    /// Whether a word gives how many versions.
     pub is_history_given: bool,
     /// The name under which a driver answers; none where none is named.
     pub answers: Option<&'a str>,
@@ -105,8 +121,8 @@ pub struct Job<'a> {
     pub stop: bool,
     /// The path in the image; none where none is named.
     pub path: Option<&'a str>,
-    /// The file of the host, or that of a part which is made of an image or becomes one, or of its bytes;
-    /// none where none is named.
+    /// The file of the host, or that of a part which is made of an image or becomes one, or of its bytes,
+    /// or that of a page; none where none is named.
     pub file: Option<&'a str>,
     /// The view of the image; none where none is named.
     pub view: Option<&'a str>,

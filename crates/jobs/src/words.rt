@@ -3,7 +3,7 @@ ghost use Rattle.std.specs.Prelude.{◌≡◌, ℕ, [], codes, IfOk, OnOk, IfErr
 ghost use Rattle.clap.specs.Words.{HasKind, app_of, fault_of, found_of, rows_of, subcommand_rows_of};
 ghost use Rattle.clap.specs.Walk.{one_of, first_of};
 ghost use Rattle.jobs.specs.Grammar.{uffs};
-ghost use Rattle.jobs.specs.Jobs.{AreNumbersOf, AsksFor, IsImageOf, IsNumberOf, SaysJob, count_word, flag_of, forget_task, format_task, has_no_image, has_word, serve_task, task_asked, task_named, task_with};
+ghost use Rattle.jobs.specs.Jobs.{AreNumbersOf, AsksFor, IsImageOf, IsNumberOf, SaysJob, count_word, flag_of, forget_task, format_task, has_no_image, has_word, map_task, serve_task, task_asked, task_named, task_with};
 ghost use Rattle.jobs.specs.declared.tasks.Job.{Job};
 ghost use Rattle.jobs.specs.declared.words.Numbers.{Numbers};
 
@@ -108,6 +108,7 @@ fn said<'a>(matches: &ArgMatches<'a>) -> Option<Job<'a>>
         count,
         refusal: word(given, REFUSAL),
         checkpoint: word(given, NAME),
+        is_blocks_given: is_given(given, "blocks"),
         is_history_given: is_given(given, "history"),
         answers: word(given, ANSWERS),
         orders: word(given, ORDERS),
@@ -169,6 +170,7 @@ fn task_with(task: Task, given: &ArgMatches<'_>) -> Option<Task>
             is_given(given, ANSWERS),
             is_given(given, ORDERS),
         ),
+        Task::Map => Some(map_task(is_given(given, FILE))),
         _ => Some(task),
     }
 }
@@ -181,6 +183,17 @@ fn forget_task(is_count_given: bool, is_free_given: bool) -> Option<Task>
         (true, false) => Some(Task::History(HistoryCall::Forget)),
         (false, true) => Some(Task::History(HistoryCall::ForgetFree)),
         _ => None,
+    }
+}
+
+/// A map is printed, or it is put into a file as a page.
+fn map_task(is_file_given: bool) -> Task
+    ensures { result ≡ map_task is_file_given }
+{
+    if is_file_given {
+        Task::MapPage
+    } else {
+        Task::Map
     }
 }
 
@@ -197,6 +210,7 @@ fn task_named(name: &str) -> Option<Task>
         "checkpoint" => Some(Task::History(HistoryCall::Checkpoint)),
         "rmcheckpoint" => Some(Task::History(HistoryCall::RemoveCheckpoint)),
         "forget" => Some(Task::History(HistoryCall::Forget)),
+        "trim" => Some(Task::Trim),
         "get" => Some(Task::Get),
         "cat" => Some(Task::Cat),
         "tree" => Some(Task::Tree),
@@ -205,12 +219,17 @@ fn task_named(name: &str) -> Option<Task>
         "check" => Some(Task::Check),
         "log" => Some(Task::Log),
         "df" => Some(Task::Df),
+        "map" => Some(Task::Map),
         "memory" => Some(Task::Memory),
         "serve" => Some(Task::Serve),
         "to-part" => Some(Task::ToPart),
         "from-part" => Some(Task::FromPart),
         "raw" => Some(Task::ToRaw),
         "from-raw" => Some(Task::FromRaw),
+        "update" => Some(Task::Update),
+        "create" => Some(Task::Create),
+        "tar" => Some(Task::Tar),
+        "untar" => Some(Task::Untar),
         "explain" => Some(Task::Explain),
         "help" => Some(Task::Help),
         "version" => Some(Task::Version),

@@ -1,6 +1,7 @@
 //! Tells how many reads, programs and erases calls ask of a flash, and a format and mounts, beside
 //! the nodes that they may write: pages of 256 bytes, 16 a block, so that each node is erased once
-//! and programmed page by page. Reads are told cold, with no node in memory, and warm, with the eight
+//! and programmed page by page. Of the erases it tells how many are of blocks that were blank, of which a
+//! driver may answer the erase at once. Reads are told cold, with no node in memory, and warm, with the eight
 //! that the calls before used last. Then what calls one after the other ask on the average, on such a
 //! flash and on one of large pages and blocks.
 #![tactic(auto)]
@@ -10,16 +11,17 @@ mod measures;
 mod mount;
 mod series;
 mod texts;
+mod watched;
 
 use anyhow::{Context, Result};
-use flash_model::Counters;
 use measures::{Asked, MEASURES, asked_by, asked_by_format};
 use mount::{MOUNTS, asked_by_mount};
 use series::{SERIES, Series, asked_by_each};
+use watched::Counts;
 
 fn main(rt: HostRuntime) -> Result<()> {
     println!(rt;
-        "call                                        nodes    cold    warm  programs  erases"
+        "call                                        nodes    cold    warm  programs  erases   blank"
     )?;
     tell_calls(&rt)?;
     tell_format(&rt)?;
@@ -40,7 +42,7 @@ fn tell_calls<R: AllocGlobal + Print>(rt: &R) -> Result<()> {
 /// calls before it used last.
 fn tell_series<R: AllocGlobal + Print>(rt: &R) -> Result<()> {
     println!(rt;
-        "\ncalls one after the other          page   block  calls   reads  programs  erases"
+        "\ncalls one after the other          page   block  calls   reads  programs  erases   blank"
     )?;
     for row in SERIES {
         let asked = asked_by_each(rt.alloc(), row).context(row.name)?;
@@ -50,12 +52,12 @@ fn tell_series<R: AllocGlobal + Print>(rt: &R) -> Result<()> {
 }
 
 /// Tells what was asked of a flash by each call.
-fn tell_each<R: Print>(rt: &R, row: &Series, asked: Counters) -> Result<()> {
+fn tell_each<R: Print>(rt: &R, row: &Series, asked: Counts) -> Result<()> {
     let page = row.sizes.page;
     let block = row.sizes.block_bytes();
     println!(rt;
-        "{:<32}{:>7}{:>8}{:>7}{:>8}{:>10}{:>8}",
-        row.name, page, block, row.calls, asked.reads, asked.programs, asked.erases
+        "{:<32}{:>7}{:>8}{:>7}{:>8}{:>10}{:>8}{:>8}",
+        row.name, page, block, row.calls, asked.reads, asked.programs, asked.erases, asked.blank
     )?;
     Ok(())
 }
@@ -75,7 +77,7 @@ fn tell_mounts<R: AllocGlobal + Print>(rt: &R) -> Result<()> {
 }
 
 /// Tells what was asked of a flash where no node was in memory before.
-fn tell_one<R: Print>(rt: &R, name: &str, nodes: u32, asked: Counters) -> Result<()> {
+fn tell_one<R: Print>(rt: &R, name: &str, nodes: u32, asked: Counts) -> Result<()> {
     let asked = Asked {
         cold: asked,
         warm: asked,
@@ -87,8 +89,8 @@ fn tell_one<R: Print>(rt: &R, name: &str, nodes: u32, asked: Counters) -> Result
 fn tell<R: Print>(rt: &R, name: &str, nodes: u32, asked: Asked) -> Result<()> {
     let Asked { cold, warm } = asked;
     println!(rt;
-        "{:<42}{:>7}{:>8}{:>8}{:>10}{:>8}",
-        name, nodes, cold.reads, warm.reads, cold.programs, cold.erases
+        "{:<42}{:>7}{:>8}{:>8}{:>10}{:>8}{:>8}",
+        name, nodes, cold.reads, warm.reads, cold.programs, cold.erases, cold.blank
     )?;
     Ok(())
 }

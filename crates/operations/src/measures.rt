@@ -1,7 +1,8 @@
 //! The calls that are measured.
 use crate::error::MeasureError;
 use crate::texts::{HISTORY, SMALL_BLOCKS, counts_after, formatted};
-use flash_model::{Counters, Geometry};
+use crate::watched::Counts;
+use flash_model::Geometry;
 use std::alloc::{AllocError, Global};
 
 /// A call that is measured: what is called before, the call, and the nodes that it may write.
@@ -16,8 +17,8 @@ pub struct Measure {
 /// What a call asks of the flash, with no node in memory and with those that the calls before it left.
 #[derive(Clone, Copy)]
 pub struct Asked {
-    pub cold: Counters,
-    pub warm: Counters,
+    pub cold: Counts,
+    pub warm: Counts,
 }
 
 /// What a call asks of the flash.
@@ -35,11 +36,11 @@ fn asked_after(
     alloc: Global,
     row: &Measure,
     still: &[&'static str],
-    before: Counters,
-) -> Result<Counters, MeasureError> {
+    before: Counts,
+) -> Result<Counts, MeasureError> {
     let lines = lines_of(alloc, row, still)?;
     let after = counts_of(alloc, SMALL_BLOCKS, &lines)?;
-    Ok(beyond(after, before))
+    Ok(after.beyond(before))
 }
 
 /// The lines of a measure.
@@ -56,23 +57,14 @@ fn lines_of(
 }
 
 /// What a format, a mount and these lines ask of a flash of these sizes.
-pub fn counts_of(alloc: Global, sizes: Geometry, lines: &[&str]) -> Result<Counters, MeasureError> {
+pub fn counts_of(alloc: Global, sizes: Geometry, lines: &[&str]) -> Result<Counts, MeasureError> {
     let mut flash = formatted(alloc, sizes, HISTORY)?;
     counts_after(alloc, &mut flash, lines)
 }
 
 /// What format asks of an erased flash.
-pub fn asked_by_format(alloc: Global) -> Result<Counters, MeasureError> {
+pub fn asked_by_format(alloc: Global) -> Result<Counts, MeasureError> {
     Ok(formatted(alloc, SMALL_BLOCKS, HISTORY)?.counts())
-}
-
-/// What was asked beyond what was asked before.
-pub fn beyond(after: Counters, before: Counters) -> Counters {
-    Counters {
-        reads: after.reads.saturating_sub(before.reads),
-        programs: after.programs.saturating_sub(before.programs),
-        erases: after.erases.saturating_sub(before.erases),
-    }
 }
 
 const EMPTY_FILE: &[&str] = &["open /f 7"];
@@ -98,6 +90,8 @@ const LONG_RECORD: &[&str] = &[
 ];
 
 const THOUSAND_ENTRIES: &[&str] = &["wide 1000"];
+
+const THOUSAND_ENTRIES_CLEANED: &[&str] = &["wide 1000", "reclaim 9999", "clean 9999"];
 
 const THOUSAND_FILES: &[&str] = &["flat 1000"];
 
@@ -244,6 +238,12 @@ pub const MEASURES: &[Measure] = &[
     Measure {
         name: "mkdir in a directory of 1,000 entries",
         before: THOUSAND_ENTRIES,
+        call: "mkdir /a",
+        nodes: 33,
+    },
+    Measure {
+        name: "mkdir among 1,000 entries after cleaning",
+        before: THOUSAND_ENTRIES_CLEANED,
         call: "mkdir /a",
         nodes: 33,
     },

@@ -1,8 +1,8 @@
 //! The mounts that are measured.
 use crate::error::MeasureError;
-use crate::measures::beyond;
 use crate::texts::{HISTORY, MANY_BLOCKS, SMALL_BLOCKS, counts_after, formatted};
-use flash_model::{Counters, Geometry, SimFlash};
+use crate::watched::{Counts, Watched};
+use flash_model::Geometry;
 use std::alloc::Global;
 
 /// A mount that is measured: the sizes of the flash, how many versions are kept, and what is called
@@ -16,7 +16,7 @@ pub struct Mount {
 }
 
 /// What a mount asks of the flash.
-pub fn asked_by_mount(alloc: Global, row: &Mount) -> Result<Counters, MeasureError> {
+pub fn asked_by_mount(alloc: Global, row: &Mount) -> Result<Counts, MeasureError> {
     let mut flash = formatted(alloc, row.sizes, row.history)?;
     asked_by_second_mount(alloc, &mut flash, row.before)
 }
@@ -24,12 +24,12 @@ pub fn asked_by_mount(alloc: Global, row: &Mount) -> Result<Counters, MeasureErr
 /// Carries out lines on a flash, and answers what a mount asks after them.
 fn asked_by_second_mount(
     alloc: Global,
-    flash: &mut SimFlash,
+    flash: &mut Watched,
     lines: &[&str],
-) -> Result<Counters, MeasureError> {
+) -> Result<Counts, MeasureError> {
     let before = counts_after(alloc, flash, lines)?;
     let after = counts_after(alloc, flash, &[])?;
-    Ok(beyond(after, before))
+    Ok(after.beyond(before))
 }
 
 /// The mounts.

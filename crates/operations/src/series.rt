@@ -1,8 +1,9 @@
 //! Calls one after the other that are measured together.
 use crate::error::MeasureError;
-use crate::measures::{beyond, counts_of};
+use crate::measures::counts_of;
 use crate::texts::{LARGE_BLOCKS, MANY_BLOCKS, SMALL_BLOCKS};
-use flash_model::{Counters, Geometry};
+use crate::watched::Counts;
+use flash_model::Geometry;
 use std::alloc::Global;
 
 /// Calls that are measured together: the sizes of the flash, what is called before, the calls with
@@ -17,20 +18,10 @@ pub struct Series {
 }
 
 /// What the calls ask of the flash, each on the average, where a part counts as a whole.
-pub fn asked_by_each(alloc: Global, series: &Series) -> Result<Counters, MeasureError> {
+pub fn asked_by_each(alloc: Global, series: &Series) -> Result<Counts, MeasureError> {
     let before = counts_of(alloc, series.sizes, series.before)?;
     let after = counts_of(alloc, series.sizes, series.after)?;
-    let Counters {
-        reads,
-        programs,
-        erases,
-    } = beyond(after, before);
-    let calls = series.calls.max(1);
-    Ok(Counters {
-        reads: reads.div_ceil(calls),
-        programs: programs.div_ceil(calls),
-        erases: erases.div_ceil(calls),
-    })
+    Ok(after.beyond(before).each_of(series.calls))
 }
 
 const QUARTER: &[&str] = &["open /f 7", "fill 262144"];

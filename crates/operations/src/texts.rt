@@ -1,6 +1,7 @@
 //! Calls from short texts, carried out on a flash that was formatted.
 use crate::error::MeasureError;
-use flash_model::{Counters, Geometry, SimFlash};
+use crate::watched::{Counts, Watched};
+use flash_model::{Geometry, SimFlash};
 use fs_types::{Call, Event, Name, NamedFile, Path, Sequence};
 use put_lots::{Thing, events_of, take_in};
 use script::{Line, read_line};
@@ -35,8 +36,8 @@ const MIB: usize = 1_048_576;
 pub const HISTORY: u32 = 8;
 
 /// A flash of these sizes on which an empty file system was made that keeps so many versions.
-pub fn formatted(alloc: Global, sizes: Geometry, history: u32) -> Result<SimFlash, MeasureError> {
-    let mut flash = SimFlash::new(alloc, sizes, &[])?;
+pub fn formatted(alloc: Global, sizes: Geometry, history: u32) -> Result<Watched, MeasureError> {
+    let mut flash = Watched::new(SimFlash::new(alloc, sizes, &[])?);
     format(alloc, &mut flash, history)?;
     Ok(flash)
 }
@@ -44,19 +45,20 @@ pub fn formatted(alloc: Global, sizes: Geometry, history: u32) -> Result<SimFlas
 /// Mounts what is on a flash, carries out the calls of a text, and answers what was asked of the
 /// flash since it was made.
 ///
-/// A line is one of a script, or `fill N`, which writes N bytes at the start of descriptor 0, `whole N`,
-/// which writes a whole file `/a/f` of N bytes, `many N`, which writes N files of 1,000 bytes in `/a` in
-/// one call, `lots N`, which writes N files of 20,000 bytes in `/a/a` in lots as a put does, `deep N`, which
-/// makes N directories `a`, each in the one before, `wide N`, which makes N directories in the root, named
-/// by numbers from 1000 on, `flat N`, which writes N files without bytes there, `broad N`, which makes N
-/// directories of 100 files in `/b`, `scatter N`, which writes a byte at each of the places 8,192 and 16,384
-/// further on N times of descriptor 0, `scan N`, which reads 1 MiB of descriptor 0 in pieces of N bytes,
-/// `gather N`, which reads N bytes at each of 64 places of it, or `cold`, which forgets the nodes in memory.
+/// A line is a call or a step of a script, or `fill N`, which writes N bytes at the start of descriptor
+/// 0, `whole N`, which writes a whole file `/a/f` of N bytes, `many N`, which writes N files of 1,000
+/// bytes in `/a` in one call, `lots N`, which writes N files of 20,000 bytes in `/a/a` in lots as a put
+/// does, `deep N`, which makes N directories `a`, each in the one before, `wide N`, which makes N
+/// directories in the root, named by numbers from 1000 on, `flat N`, which writes N files without bytes
+/// there, `broad N`, which makes N directories of 100 files in `/b`, `scatter N`, which writes a byte at
+/// each of the places 8,192 and 16,384 further on N times of descriptor 0, `scan N`, which reads 1 MiB of
+/// descriptor 0 in pieces of N bytes, `gather N`, which reads N bytes at each of 64 places of it, or
+/// `cold`, which forgets the nodes in memory.
 pub fn counts_after(
     alloc: Global,
-    flash: &mut SimFlash,
+    flash: &mut Watched,
     lines: &[&str],
-) -> Result<Counters, MeasureError> {
+) -> Result<Counts, MeasureError> {
     let mut system = Fs::mount(alloc, flash)?;
     carry_out_lines(alloc, &mut system, lines)?;
     Ok(system.into_flash().counts())
@@ -64,7 +66,7 @@ pub fn counts_after(
 
 fn carry_out_lines(
     alloc: Global,
-    system: &mut Fs<'_, SimFlash>,
+    system: &mut Fs<'_, Watched>,
     lines: &[&str],
 ) -> Result<(), MeasureError> {
     for (i, line) in lines.iter().enumerate() {
@@ -75,12 +77,11 @@ fn carry_out_lines(
 
 fn carry_out(
     alloc: Global,
-    system: &mut Fs<'_, SimFlash>,
+    system: &mut Fs<'_, Watched>,
     line: &str,
     number: usize,
 ) -> Result<(), MeasureError> {
-    if line == "cold" {
-        system.forget_nodes();
+    if take_step(alloc, system, line)? {
         return Ok(());
     }
     if let Some(depth) = number_after(line, "deep ") {
@@ -111,7 +112,28 @@ fn carry_out(
     ask(alloc, system, &call)
 }
 
-fn ask(alloc: Global, system: &mut Fs<'_, SimFlash>, call: &Call) -> Result<(), MeasureError> {
+/// Carries out a line that asks no call, and tells whether it is one.
+fn take_step(
+    alloc: Global,
+    system: &mut Fs<'_, Watched>,
+    line: &str,
+) -> Result<bool, MeasureError> {
+    if line == "cold" {
+        system.forget_nodes();
+        return Ok(true);
+    }
+    if let Some(budget) = number_after(line, "reclaim ") {
+        system.reclaim_step(alloc, budget as u64)?;
+        return Ok(true);
+    }
+    if let Some(budget) = number_after(line, "clean ") {
+        system.clean_step(budget as u64)?;
+        return Ok(true);
+    }
+    Ok(false)
+}
+
+fn ask(alloc: Global, system: &mut Fs<'_, Watched>, call: &Call) -> Result<(), MeasureError> {
     system.call(alloc, call)?;
     Ok(())
 }
@@ -181,7 +203,7 @@ fn many(alloc: Global, count: usize) -> Result<Call, MeasureError> {
 /// Makes so many directories, each in the one before.
 fn make_directories(
     alloc: Global,
-    system: &mut Fs<'_, SimFlash>,
+    system: &mut Fs<'_, Watched>,
     depth: usize,
 ) -> Result<(), MeasureError> {
     let mut text = String::new(alloc);
@@ -195,7 +217,7 @@ fn make_directories(
 /// Makes so many directories in the root, named by numbers from 1000 on.
 fn make_siblings(
     alloc: Global,
-    system: &mut Fs<'_, SimFlash>,
+    system: &mut Fs<'_, Watched>,
     count: usize,
 ) -> Result<(), MeasureError> {
     for number in 1_000..count.saturating_add(1_000) {
@@ -208,7 +230,7 @@ fn make_siblings(
 /// Writes so many files without bytes in a directory, named by numbers from 1000 on.
 fn write_siblings(
     alloc: Global,
-    system: &mut Fs<'_, SimFlash>,
+    system: &mut Fs<'_, Watched>,
     directory: &str,
     count: usize,
 ) -> Result<(), MeasureError> {
@@ -226,7 +248,7 @@ fn write_siblings(
 /// Writes so many files of 20,000 bytes in `/a/a` in lots, named by numbers from 1000 on.
 fn write_lots(
     alloc: Global,
-    system: &mut Fs<'_, SimFlash>,
+    system: &mut Fs<'_, Watched>,
     count: usize,
 ) -> Result<(), MeasureError> {
     let mut last = None;
@@ -247,7 +269,7 @@ fn write_lots(
 /// Carries out the events that put a thing, if there is one.
 fn put(
     alloc: Global,
-    system: &mut Fs<'_, SimFlash>,
+    system: &mut Fs<'_, Watched>,
     thing: Option<Thing>,
 ) -> Result<(), MeasureError> {
     let Some(thing) = thing else {
@@ -265,7 +287,7 @@ fn put(
 /// and moved.
 fn make_full_directories(
     alloc: Global,
-    system: &mut Fs<'_, SimFlash>,
+    system: &mut Fs<'_, Watched>,
     count: usize,
 ) -> Result<(), MeasureError> {
     make_directory(alloc, system, "/b")?;
@@ -284,7 +306,7 @@ fn make_full_directories(
 
 fn make_directory(
     alloc: Global,
-    system: &mut Fs<'_, SimFlash>,
+    system: &mut Fs<'_, Watched>,
     path: &str,
 ) -> Result<(), MeasureError> {
     let path = Path::parse(alloc, path.as_bytes())?;
@@ -295,7 +317,7 @@ fn make_directory(
 /// Writes a byte at each of so many places of descriptor 0: at 8,192, and each 16,384 bytes further on.
 fn write_places(
     alloc: Global,
-    system: &mut Fs<'_, SimFlash>,
+    system: &mut Fs<'_, Watched>,
     count: usize,
 ) -> Result<(), MeasureError> {
     for number in 0..count {
@@ -310,7 +332,7 @@ fn write_places(
 /// Reads 1 MiB of descriptor 0, in pieces of so many bytes.
 fn read_pieces(
     alloc: Global,
-    system: &mut Fs<'_, SimFlash>,
+    system: &mut Fs<'_, Watched>,
     size: usize,
 ) -> Result<(), MeasureError> {
     for number in 0..MIB.div_ceil(size.max(1)) {
@@ -323,7 +345,7 @@ fn read_pieces(
 /// further on, from the start again past its end.
 fn read_places(
     alloc: Global,
-    system: &mut Fs<'_, SimFlash>,
+    system: &mut Fs<'_, Watched>,
     size: usize,
 ) -> Result<(), MeasureError> {
     for number in 0..64usize {
@@ -336,7 +358,7 @@ fn read_places(
 /// Reads so many bytes of descriptor 0 from an offset on.
 fn read_at(
     alloc: Global,
-    system: &mut Fs<'_, SimFlash>,
+    system: &mut Fs<'_, Watched>,
     offset: usize,
     size: usize,
 ) -> Result<(), MeasureError> {

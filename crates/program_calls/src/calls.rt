@@ -1,5 +1,5 @@
 //! Calls of the program, as its `main` makes them, over any files.
-use host_files::{Channels, ImageFiles, Parts, Sources};
+use host_files::{Channels, Folders, Parts, Sources};
 use shell::tool;
 use std::alloc::{AllocError, Global};
 
@@ -24,7 +24,7 @@ pub struct Outcome {
 }
 
 /// Calls the program with words and an input.
-pub fn call<F: ImageFiles + Sources + Channels + Parts>(
+pub fn call<F: Folders + Sources + Channels + Parts>(
     files: &mut F,
     alloc: Global,
     words: &[&str],
@@ -48,7 +48,7 @@ pub type Wanted<'a> = (&'a [&'a str], &'a str, (u8, &'a str, &'a str));
 
 /// Makes calls of the program one after the other: what the first one gave that did not give what is
 /// wanted. None is made after it.
-pub fn first_other<F: ImageFiles + Sources + Channels + Parts>(
+pub fn first_other<F: Folders + Sources + Channels + Parts>(
     files: &mut F,
     alloc: Global,
     calls: &[Wanted<'_>],

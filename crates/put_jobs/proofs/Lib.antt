@@ -1,4 +1,6 @@
 pub mod BatchLemmas
+pub mod FlashLemmas
+pub mod GroupLemmas
 pub mod InputLemmas
 pub mod MirrorLemmas
 pub mod PutLemmas

@@ -2,7 +2,6 @@
 use Rattle.std.proofs.Common.{◌≡◌, ◌<◌, ◌+◌, ◌≤◌, ℕ, List, [], ◌∷◌, ◌++◌, take, drop, map, length, get_or, Option, Some, None, Result, Ok, Err, Bool, true, false, if◌then◌else◌, IfSome, IfOk, IfErr, OnOk, ◌⊎◌, inl, inr, refl, sym, ap, ◌∙◌, subst, append_assoc, append-nil, take_all, take-append-drop}
 use Rattle.std.specs.List.{flat_map, Contains}
 use Rattle.std.proofs.lemmas.List.{take_more, map_more, map-append}
-use Rattle.std.proofs.lemmas.List.Concat.{flat_map-append}
 use Rattle.std.proofs.lemmas.List.Elements.{All-push, Contains-push, Contains-append_left}
 use Rattle.history_machine.specs.History.{Past}
 use Rattle.plain_trees.specs.Trees.{Tree}
@@ -21,9 +20,9 @@ use Rattle.undofs.specs.Sessions.{Stands, world}
 use Rattle.undofs.proofs.SessionSteps.{mount_begins, serve_law}
 use Rattle.image_jobs.specs.Failures.{of_refusal}
 use Rattle.host_files.specs.Files.{Held, AreBytesRead, takes_away}
-use Rattle.put_jobs.specs.Puts.{thing_events, group_start, put_events, group_events, group_end, is_due, stop_of, GoOn, StopLast, IsThingBy, IsThing, AreThings, Carries, StopsWithin, StopsAtEnd, IsUnput, PutsBy, PutCause, FoundCause, GatherCause}
+use Rattle.put_jobs.specs.Puts.{group_start, lot_events, put_events, group_events, group_end, mark_all, clean_all, Trims, is_due, stop_of, GoOn, StopLast, IsThingBy, IsThing, AreThings, Carries, StopsWithin, StopsAtEnd, IsUnput, PutsBy, PutCause, FoundCause, GatherCause}
 use Rattle.inquiry_jobs.specs.PathWords.{SpellingCause, path_spelled}
-use Rattle.put_jobs.specs.Served.{Place, place, Turns, ServesAll, Halts, ServesPut, PutsOne, PutsEach, PutsGroup, EndsGroup, PutsAll}
+use Rattle.put_jobs.specs.Served.{Place, place, Turns, ServesAll, Halts, ServesPut, PutsReady, PutsNext, PutsEach, PutsGroup, ClosesGroup, IsTrimmed, IsTrimmedWhere, EndsGroup, PutsAll}
 use Rattle.host_files.specs.Sources.{Found, source_found}
 use Rattle.put_jobs.specs.Places.{put_place, way_fault, kind_fault, either_fault, source_fault, Unplaced, AreOthers}
 use Rattle.script_runs.specs.Flashes.{IsDecoded}
@@ -36,8 +35,13 @@ use Rattle.put_jobs.specs.declared.put.Mounted.{Mounted}
 use Rattle.script_runs.specs.declared.scripts.Refusal.{Refusal}
 use Rattle.host_files.specs.declared.source.Source.{Source}
 use Rattle.host_files.specs.declared.source.SourceKind.{SourceKind}
-use Rattle.put_jobs.specs.declared.thing.Thing.{Thing}
+use Rattle.put_lots.specs.Lots.{taken_in, listed}
+use Rattle.put_lots.specs.Things.{thing_events}
+use Rattle.put_lots.specs.declared.lots.Taken.{Taken}
+use Rattle.put_lots.specs.declared.thing.Thing.{Thing}
+use Rattle.put_lots.proofs.Cuts.{IsCut, cut_none, cut_next, cut_events, events_more, events_until}
 use Rattle.image_jobs.proofs.ImageLemmas.{loaded_front, cause_front, cause_unread}
+use Rattle.put_jobs.proofs.FlashLemmas.{puts_as, cause_as}
 
 -- ---- events
 
@@ -88,15 +92,12 @@ things_more held base [] (other ∷ things) found thing h is = absurd h
 things_more held base (other ∷ all) [] found thing h is = absurd h
 things_more held base (one ∷ all) (other ∷ things) found thing h is = (h.0, things_more held base all things found thing h.1 is)
 
-events_more : (things : List Thing) (thing : Thing) → flat_map thing_events (things ++ thing ∷ []) ≡ flat_map thing_events things ++ thing_events thing
-events_more things thing = flat_map-append thing_events things (thing ∷ []) ∙ ap (λ (x : List Event). flat_map thing_events things ++ x) (append-nil (thing_events thing))
+-- so many sources were taken in so far: some are put, and the last of them may wait
+abbrev pub HasTaken : Held → Path → List Found → Option Thing → Place → Place → Type 0
+HasTaken held base all last p q = (things : List Thing) × (done : List Thing) × AreThings held base all things × IsCut things done last × ServesAll p (flat_map thing_events done) q
 
--- so many sources were put so far
-abbrev pub HasPut : Held → Path → List Found → Place → Place → Type 0
-HasPut held base all p q = PutsEach held base all p (Ok tt) q
-
-pub none_put : (held : Held) (base : Path) (p : Place) → HasPut held base [] p p
-none_put held base p = ([], tt, refl)
+pub none_taken : (held : Held) (base : Path) (p : Place) → HasTaken held base [] None p p
+none_taken held base p = ([], [], tt, cut_none, refl)
 
 found_more : (sources : List Source) (i : ℕ) (source : Source) → i < length sources → source ≡ get_or sources i source
     → map source_found (take (i + 1) sources) ≡ map source_found (take i sources) ++ source_found source ∷ []
@@ -115,38 +116,60 @@ among sources i source below is =
     subst (λ (x : List Found). Contains x (source_found source)) (sym (parted sources i source below is))
     (Contains-append_left (first ++ source_found source ∷ []) (map source_found (drop (i + 1) sources)) (source_found source) (Contains-push first (source_found source)))
 
-pub puts_next : (held : Held) (base : Path) (sources : List Source) (i : ℕ) (source : Source) (p q r : Place) → i < length sources → source ≡ get_or sources i source
-    → HasPut held base (map source_found (take i sources)) p q → PutsOne held base (source_found source) q (Ok tt) r → HasPut held base (map source_found (take (i + 1) sources)) p r
-puts_next held base sources i source p q r below is (things, are, passes) (thing, one, more) =
-    let all : ServesAll p (flat_map thing_events things ++ thing_events thing) r = passes_more p q r (flat_map thing_events things) (thing_events thing) passes more in
-    subst (λ (x : List Found). HasPut held base x p r) (sym (found_more sources i source below is)) (
+pub puts_next : (held : Held) (base : Path) (sources : List Source) (i : ℕ) (source : Source) (last : Option Thing) (next : Thing) (p q r : Place) → i < length sources → source ≡ get_or sources i source
+    → HasTaken held base (map source_found (take i sources)) last p q → PutsNext held base (source_found source) last q (Ok next) r → HasTaken held base (map source_found (take (i + 1) sources)) (Some next) p r
+puts_next held base sources i source last next p q r below is (things, done, are, cut, passes) (thing, one, waits, more) =
+    let ready : List Thing = listed (taken_in last thing).ready in
+    let all : ServesAll p (flat_map thing_events done ++ flat_map thing_events ready) r = passes_more p q r (flat_map thing_events done) (flat_map thing_events ready) passes more in
+    subst (λ (x : List Found). HasTaken held base x (Some next) p r) (sym (found_more sources i source below is)) (
       things ++ thing ∷ [],
+      done ++ ready,
       things_more held base (map source_found (take i sources)) things (source_found source) thing are one,
-      subst (λ (x : List Event). ServesAll p x r) (sym (events_more things thing)) all,
+      subst (λ (x : Thing). IsCut (things ++ thing ∷ []) (done ++ ready) (Some x)) (sym waits) (cut_next things done last thing cut),
+      subst (λ (x : List Event). ServesAll p x r) (sym (events_more done ready)) all,
     )
 
-pub puts_all : (held : Held) (base : Path) (sources : List Source) (i : ℕ) (p q : Place) → length sources ≤ i → HasPut held base (map source_found (take i sources)) p q
-    → PutsEach held base (map source_found sources) p (Ok tt) q
-puts_all held base sources i p q over h = subst (λ (x : List Source). HasPut held base (map source_found x) p q) (take_all i sources over) h
-
-pub puts_broken : (held : Held) (base : Path) (sources : List Source) (i : ℕ) (source : Source) (p q r : Place) (failure : Failure) → i < length sources → source ≡ get_or sources i source
-    → HasPut held base (map source_found (take i sources)) p q → PutsOne held base (source_found source) q (Err failure) r → PutsEach held base (map source_found sources) p (Err failure) r
-puts_broken held base sources i source p q r failure below is h (inl unput) = inr (inl (source_found source, among sources i source below is, unput))
-puts_broken held base sources i source p q r failure below is (things, are, passes) (inr (thing, made, rest, refusal, one, begins, halts, why)) =
-    let earlier : List Event = flat_map thing_events things in
+pub puts_broken : (held : Held) (base : Path) (sources : List Source) (i : ℕ) (source : Source) (last : Option Thing) (p q r : Place) (failure : Failure) → i < length sources → source ≡ get_or sources i source
+    → HasTaken held base (map source_found (take i sources)) last p q → PutsNext held base (source_found source) last q (Err failure) r → PutsEach held base (map source_found sources) p (Err failure) r
+puts_broken held base sources i source last p q r failure below is h (inl unput) = inr (inl (source_found source, among sources i source below is, unput))
+puts_broken held base sources i source last p q r failure below is (things, done, are, cut, passes) (inr (thing, one, (made, rest, refusal, at, begins, halts, why))) =
+    let earlier : List Event = flat_map thing_events done in
     inr (inr (
       map source_found (take i sources) ++ source_found source ∷ [],
       map source_found (drop (i + 1) sources),
       things ++ thing ∷ [],
-      earlier ++ made,
-      rest,
-      refusal,
       parted sources i source below is,
       things_more held base (map source_found (take i sources)) things (source_found source) thing are one,
-      events_more things thing ∙ ap (λ (x : List Event). earlier ++ x) begins ∙ sym (append_assoc earlier made rest),
-      halts_more p q r earlier made refusal passes halts,
-      why,
+      (earlier ++ made, rest ++ thing_events (taken_in last thing).last, refusal, at, events_until things done last thing made rest cut begins, halts_more p q at earlier made refusal passes halts, why),
     ))
+
+-- all were taken in, and what waits is put, or not
+all_taken : (held : Held) (base : Path) (all : List Found) (last : Option Thing) (p q r : Place) (result : Result (Unit {0}) Failure) → HasTaken held base all last p q → PutsReady last q result r → PutsEach held base all p result r
+all_taken held base all last p q r (Ok done) (things, put, are, cut, passes) more =
+    (things, are, subst (λ (x : List Event). ServesAll p x r) (sym (cut_events things put last cut)) (passes_more p q r (flat_map thing_events put) (flat_map thing_events (listed last)) passes more))
+all_taken held base all last p q r (Err failure) h (inl memory) = inl memory
+all_taken held base all last p q r (Err failure) (things, put, are, cut, passes) (inr (made, rest, refusal, at, begins, halts, why)) =
+    let earlier : List Event = flat_map thing_events put in
+    inr (inr (
+      all,
+      [],
+      things,
+      sym (append-nil all),
+      are,
+      (
+        earlier ++ made,
+        rest,
+        refusal,
+        at,
+        cut_events things put last cut ∙ ap (λ (x : List Event). earlier ++ x) begins ∙ sym (append_assoc earlier made rest),
+        halts_more p q at earlier made refusal passes halts,
+        why,
+      ),
+    ))
+
+pub puts_all : (held : Held) (base : Path) (sources : List Source) (i : ℕ) (last : Option Thing) (p q r : Place) (result : Result (Unit {0}) Failure) → length sources ≤ i
+    → HasTaken held base (map source_found (take i sources)) last p q → PutsReady last q result r → PutsEach held base (map source_found sources) p result r
+puts_all held base sources i last p q r result over h ready = subst (λ (x : List Source). PutsEach held base (map source_found x) p result r) (take_all i sources over) (all_taken held base (map source_found (take i sources)) last p q r result h ready)
 
 -- ---- the change group
 
@@ -164,17 +187,21 @@ served_without p q events refusal (made, rest, is, halts) = (made, rest ++ event
 pub unbegun : (removed : List Event) (held : Held) (base : Path) (all : List Found) (p q : Place) (refusal : Refusal) (failure : Failure) → ServesPut p (group_start ++ removed) (Err refusal) q
     → failure ≡ of_refusal refusal → PutsGroup removed held base all p (Err failure) q
 unbegun removed held base all p q refusal failure (made, rest, begins, halts) why =
-    inr (inr ([], all, [], made, rest, refusal, refl, tt, ap (λ (x : List Event). group_start ++ x) (append-nil removed) ∙ begins, halts, why))
+    inr (inr ([], all, [], refl, tt, (made, rest, refusal, q, ap (λ (x : List Event). group_start ++ x) (append-nil removed) ∙ begins, halts, why)))
 
 -- it begins, and sources are put in it
 pub grouped : (removed : List Event) (held : Held) (base : Path) (all : List Found) (p q r : Place) (result : Result (Unit {0}) Failure) → ServesAll p (group_start ++ removed) q
     → PutsEach held base all q result r → PutsGroup removed held base all p result r
-grouped removed held base all p q r (Ok done) begun (things, are, passes) = (things, are, passes_more p q r (group_start ++ removed) (flat_map thing_events things) begun passes)
+grouped removed held base all p q r (Ok done) begun (things, are, passes) = (things, are, passes_more p q r (group_start ++ removed) (lot_events things) begun passes)
 grouped removed held base all p q r (Err failure) begun (inl memory) = inl memory
 grouped removed held base all p q r (Err failure) begun (inr (inl cause)) = inr (inl cause)
-grouped removed held base all p q r (Err failure) begun (inr (inr (first, later, things, made, rest, refusal, parts, are, begins, halts, why))) =
+grouped removed held base all p q r (Err failure) begun (inr (inr (first, later, things, parts, are, (made, rest, refusal, at, begins, halts, why)))) =
     let is : group_events removed things ≡ ((group_start ++ removed) ++ made) ++ rest = ap (λ (x : List Event). (group_start ++ removed) ++ x) begins ∙ sym (append_assoc (group_start ++ removed) made rest) in
-    inr (inr (first, later, things, (group_start ++ removed) ++ made, rest, refusal, parts, are, is, halts_more p q r (group_start ++ removed) made refusal begun halts, why))
+    inr (inr (first, later, things, parts, are, ((group_start ++ removed) ++ made, rest, refusal, at, is, halts_more p q at (group_start ++ removed) made refusal begun halts, why)))
+
+-- it is ended, and then a trim follows, or nothing
+pub ended_trimmed : (p closed q : Place) (due : Bool) → due ≡ is_due p.system → ClosesGroup p (Ok tt) closed → IsTrimmedWhere due closed q → EndsGroup p (Ok tt) q
+ended_trimmed p closed q due is closes trimmed = (closed, closes, subst (λ (x : Bool). IsTrimmedWhere x closed q) is trimmed)
 
 -- ---- sessions
 
@@ -187,6 +214,16 @@ passes_run p q (event ∷ events) (answer, between, turns, goes, rest) found sta
     let one = serve_law p.device between.device p.system between.system event answer found turns stands in
     let all = passes_run between q events rest one.0 one.2 in
     (all.0, answer ∷ all.1, (world between.device between.system one.0, one.1, all.2), (goes, all.3), all.4)
+
+-- a trim follows, or nothing
+trims_run : (due : Bool) (p q : Place) → IsTrimmedWhere due p q → (found : List (Past Tree)) → Stands (world p.device p.system found)
+    → (more : List (Past Tree)) × Trims due (world p.device p.system found) (world q.device q.system more)
+trims_run true p q trimmed found stands =
+    let between = trimmed.between in
+    let one = serve_law p.device between.device p.system between.system mark_all trimmed.marked found trimmed.marks stands in
+    let two = serve_law between.device q.device between.system q.system clean_all trimmed.cleaned one.0 trimmed.cleans one.2 in
+    (two.0, (trimmed.marked ∷ trimmed.cleaned ∷ [], (world between.device between.system one.0, one.1, (world q.device q.system two.0, two.1, refl))))
+trims_run false p q same found stands = (found, ap (λ (x : Place). world x.device x.system found) same)
 
 run_more : (u v w : World) (events : List Event) (answers : List Answer) (event : Event) (answer : Answer) → Run u events answers v → Happens v event answer w
     → Run u (events ++ event ∷ []) (answers ++ answer ∷ []) w
@@ -206,19 +243,22 @@ stop_last (e ∷ next ∷ events) (a ∷ answers) event answer refusal h is = (h
 
 pub put_session : (start mid : SimFlash) (m : System) (inside : Place) (end : Mounted) (events : List Event) → OnlyReads (device_of start) (device_of mid) → IsMountOf (device_of start) (device_of mid) m
     → IsSystem (device_of mid) m → ServesAll (record { device = device_of mid; system = Some m }) (group_start ++ events) inside → EndsGroup inside (Ok tt) (place end) → Carries start events end.flash
-put_session start mid m inside end events reads begins system passes ended =
+put_session start mid m inside end events reads begins system passes (closed, ended, trimmed) =
     let first = mount_begins (device_of start) (device_of mid) m reads begins system in
     let all = passes_run (record { device = device_of mid; system = Some m }) inside (group_start ++ events) passes (first.0 ∷ []) first.3 in
-    let last = passes_run inside (place end) (group_end (is_due inside.system)) ended all.0 all.4 in
+    let last = passes_run inside closed (group_end (is_due inside.system)) ended all.0 all.4 in
+    let left = trims_run (is_due inside.system) closed (place end) trimmed last.0 last.4 in
     let u : World = world (device_of mid) (Some m) (first.0 ∷ []) in
     let w : World = world inside.device inside.system all.0 in (
       w,
-      world (device_of end.flash) end.system last.0,
+      world closed.device closed.system last.0,
+      world (device_of end.flash) end.system left.0,
       last.1,
       record { answers = all.1; run = (first.0, u, first.1, first.2, all.2); goes = all.3 },
       last.2,
-      refl,
       last.3,
+      left.1,
+      refl,
     )
 
 -- from a world on, the first of some events are carried out, and the answer to the last of them ends the put
@@ -280,13 +320,26 @@ unput_unplaced held base found Failure.Memory h = tt
 unput_unplaced held base found (Failure.Source fault) h = inl h
 unput_unplaced held base found failure h = absurd h
 
-pub one_put : (held : Held) (base : Path) (found : Found) (thing : Thing) (events lent : List Event) (p q : Place) → IsThing held base found thing → lent ≡ events → events ≡ thing_events thing
-    → ServesPut p lent (Ok tt) q → PutsOne held base found p (Ok tt) q
-one_put held base found thing events lent p q is same are h = (thing, is, subst (λ (x : List Event). ServesAll p x q) (same ∙ are) h)
+-- what is ready is put, or an answer ends it
+pub ready_put : (thing : Thing) (events lent : List Event) (p q : Place) → lent ≡ events → events ≡ thing_events thing → ServesPut p lent (Ok tt) q → PutsReady (Some thing) p (Ok tt) q
+ready_put thing events lent p q same are h = subst (λ (x : List Event). ServesAll p x q) (same ∙ are ∙ sym (append-nil (thing_events thing))) h
 
-pub one_stopped : (held : Held) (base : Path) (found : Found) (thing : Thing) (events lent : List Event) (p q : Place) (refusal : Refusal) (failure : Failure) → IsThing held base found thing
-    → lent ≡ events → events ≡ thing_events thing → ServesPut p lent (Err refusal) q → failure ≡ of_refusal refusal → PutsOne held base found p (Err failure) q
-one_stopped held base found thing events lent p q refusal failure is same are (made, rest, begins, halts) why = inr (thing, made, rest, refusal, is, sym (same ∙ are) ∙ begins, halts, why)
+pub ready_stopped : (thing : Thing) (events lent : List Event) (p q r : Place) (refusal : Refusal) (failure : Failure) → lent ≡ events → events ≡ thing_events thing → ServesPut p lent (Err refusal) q
+    → failure ≡ of_refusal refusal → PutsReady (Some thing) p (Err failure) r
+ready_stopped thing events lent p q r refusal failure same are (made, rest, begins, halts) why =
+    inr (made, rest, refusal, q, append-nil (thing_events thing) ∙ sym (same ∙ are) ∙ begins, halts, why)
+
+-- and with it the source that was taken in
+pub next_put : (held : Held) (base : Path) (found : Found) (last : Option Thing) (thing next : Thing) (ready : Option Thing) (p q : Place) → IsThing held base found thing → record { ready = ready; last = next } ≡ taken_in last thing
+    → PutsReady ready p (Ok tt) q → PutsNext held base found last p (Ok next) q
+next_put held base found last thing next ready p q is taken h =
+    (thing, is, ap (λ (x : Taken). x.last) taken, subst (λ (x : Taken). ServesAll p (flat_map thing_events (listed x.ready)) q) taken h)
+
+pub next_stopped : (held : Held) (base : Path) (found : Found) (last : Option Thing) (thing next : Thing) (ready : Option Thing) (p q : Place) (failure : Failure) → IsThing held base found thing
+    → record { ready = ready; last = next } ≡ taken_in last thing → PutsReady ready p (Err failure) q → PutsNext held base found last p (Err failure) q
+next_stopped held base found last thing next ready p q failure is taken (inl memory) = inl (subst (IsUnput held base found) (sym memory) tt)
+next_stopped held base found last thing next ready p q failure is taken (inr (made, rest, refusal, at, begins, halts, why)) =
+    inr (thing, is, (made, rest, refusal, at, subst (λ (x : Taken). flat_map thing_events (listed x.ready) ≡ made ++ rest) taken begins, halts, why))
 
 -- ---- on what is mounted
 
@@ -301,8 +354,8 @@ pub not_put : (IsThere : SimFlash → Type 0) (Cause : Failure → Type 0) (remo
     → PutsAll removed held base all (record { device = device_of mid; system = Some m }) (Err failure) q → PutCause IsThere Cause removed held base all failure
 not_put IsThere Cause removed held base all start mid m q failure there reads begins system (inl (inl memory)) = inr (inl memory)
 not_put IsThere Cause removed held base all start mid m q failure there reads begins system (inl (inr (inl cause))) = inr (inr (inl cause))
-not_put IsThere Cause removed held base all start mid m q failure there reads begins system (inl (inr (inr (first, later, things, made, rest, refusal, parts, are, is, halts, why)))) =
-    inr (inr (inr (inr (start, first, later, things, refusal, there, parts, are, inl (stopped_session start mid m q (put_events removed things) made rest refusal reads begins system is halts), why))))
+not_put IsThere Cause removed held base all start mid m q failure there reads begins system (inl (inr (inr (first, later, things, parts, are, (made, rest, refusal, at, is, halts, why))))) =
+    inr (inr (inr (inr (start, first, later, things, refusal, there, parts, are, inl (stopped_session start mid m at (put_events removed things) made rest refusal reads begins system is halts), why))))
 not_put IsThere Cause removed held base all start mid m q failure there reads begins system (inr (inside, refusal, (things, are, passes), ended, why)) =
     inr (inr (inr (inr (start, all, [], things, refusal, there, sym (append-nil all), are, inr (unended_session start mid m inside q (put_events removed things) refusal reads begins system passes ended), why))))
 
@@ -321,17 +374,12 @@ over_undone IsThere Cause held base kept all removed lent (Err failure) same are
 
 puts_front : (held : Held) (name bytes : List ℕ) → AreBytesRead (held name) bytes → (removed : List Event) (base : Path) (all : List Found) (start end : SimFlash) → PutsBy (IsDecoded bytes) removed held base all start end
     → PutsBy (IsSpelledFlash (held name)) removed held base all start end
-puts_front held name bytes front removed base all start end (things, there, are, puts) = (things, loaded_front (held name) bytes front start there, are, puts)
+puts_front held name bytes front removed = puts_as (IsDecoded bytes) (IsSpelledFlash (held name)) (loaded_front (held name) bytes front) removed held
 
 put_cause : (held : Held) (name bytes : List ℕ) → AreBytesRead (held name) bytes → (removed : List Event) (base : Path) (all : List Found) (failure : Failure)
     → PutCause (IsDecoded bytes) (DecodeCause bytes) removed held base all failure → PutCause (IsSpelledFlash (held name)) (LoadCause (held name)) removed held base all failure
-put_cause held name bytes front removed base all failure (inl cause) = inl (cause_front (held name) bytes front failure cause)
-put_cause held name bytes front removed base all failure (inr (inl memory)) = inr (inl memory)
-put_cause held name bytes front removed base all failure (inr (inr (inl cause))) = inr (inr (inl cause))
-put_cause held name bytes front removed base all failure (inr (inr (inr (inl (start, end, fault, there, unmounted, why))))) =
-    inr (inr (inr (inl (start, end, fault, loaded_front (held name) bytes front start there, unmounted, why))))
-put_cause held name bytes front removed base all failure (inr (inr (inr (inr (start, first, later, things, refusal, there, parts, are, stops, why))))) =
-    inr (inr (inr (inr (start, first, later, things, refusal, loaded_front (held name) bytes front start there, parts, are, stops, why))))
+put_cause held name bytes front removed =
+    cause_as (IsDecoded bytes) (IsSpelledFlash (held name)) (DecodeCause bytes) (LoadCause (held name)) (loaded_front (held name) bytes front) (cause_front (held name) bytes front) removed held
 
 removed_front : (held : Held) (name bytes : List ℕ) → AreBytesRead (held name) bytes → (base : Path) (kept : Option (List Kept)) (removed : List Event)
     → AreRemoved (IsDecoded bytes) base kept removed → AreRemoved (IsSpelledFlash (held name)) base kept removed

@@ -1,4 +1,5 @@
 pub mod Batches
+pub mod Groups
 pub mod Inputs
 pub mod Mirrors
 pub mod Places

@@ -15,31 +15,32 @@ use Rattle.history_machine.specs.History.{due_root}
 use Rattle.fs_types.specs.declared.call.Call.{Call}
 use Rattle.fs_types.specs.declared.call.Reply.{Reply}
 use Rattle.fs_types.specs.declared.call.Stat.{Stat}
-use Rattle.fs_types.specs.declared.call.View.{View}
 use Rattle.fs_types.specs.declared.event.Answer.{Answer}
 use Rattle.fs_types.specs.declared.event.Event.{Event}
 use Rattle.fs_types.specs.declared.fault.Fault.{Fault}
+use Rattle.system.specs.Rooms.{no_limit}
 use Rattle.system.specs.declared.systems.System.{System}
 use Rattle.undofs.specs.Runs.{World, Run}
 use Rattle.undofs.specs.Sessions.{Session}
 use Rattle.script_runs.specs.declared.scripts.Refusal.{Refusal}
 use Rattle.image_jobs.specs.declared.source_fault.SourceFault.{SourceFault}
 use Rattle.host_files.specs.declared.source.SourceKind.{SourceKind}
-use Rattle.put_jobs.specs.declared.thing.Thing.{Thing}
+use Rattle.put_lots.specs.Lots.{lots_of}
+use Rattle.put_lots.specs.Things.{thing_events}
+use Rattle.put_lots.specs.declared.thing.Thing.{Thing}
 use Rattle.inquiry_jobs.specs.PathWords.{path_spelled}
-
--- the events that put a thing: a directory is made, and has to be there then; a file is written whole
-abbrev pub thing_events : Thing → List Event
-thing_events (Thing.Directory path) = Event.Call (Call.Mkdir path) ∷ Event.Call (Call.Stat View.Present path) ∷ []
-thing_events (Thing.File path bytes) = Event.Call (Call.WriteFile path bytes) ∷ []
 
 -- things are put in one change group
 abbrev pub group_start : List Event
 group_start = Event.Call Call.Begin ∷ []
 
+-- the events that put things: those that may go together are put by one call
+abbrev pub lot_events : List Thing → List Event
+lot_events things = flat_map thing_events (lots_of things)
+
 -- things are put after what is removed first
 abbrev pub put_events : List Event → List Thing → List Event
-put_events removed things = removed ++ flat_map thing_events things
+put_events removed things = removed ++ lot_events things
 
 abbrev pub group_events : List Event → List Thing → List Event
 group_events removed things = group_start ++ put_events removed things
@@ -52,6 +53,13 @@ is_due system = is_some (option_and_then (λ s. due_root s.state.group) system)
 abbrev pub group_end : Bool → List Event
 group_end true = Event.Call Call.End ∷ Event.Call Call.Sync ∷ []
 group_end false = Event.Call Call.End ∷ []
+
+-- a trim: all that is kept is marked, and then each data block is erased that is free and not blank
+abbrev pub mark_all : Event
+mark_all = Event.ReclaimStep no_limit
+
+abbrev pub clean_all : Event
+clean_all = Event.CleanStep no_limit
 
 abbrev pub makes_directory : Call → Bool
 makes_directory (Call.Mkdir path) = true
@@ -117,10 +125,15 @@ pub record IsGrouped (start : SimFlash) (events : List Event) (w : World) : Type
   pub run : Session (device_of start) (group_start ++ events) (Answer.Mounted ∷ answers) w
   pub goes : GoOn (group_start ++ events) answers
 
+-- where a version was made a trim follows, whatever it is answered; else nothing
+abbrev pub Trims : Bool → World → World → Type 0
+Trims true w v = (answers : List Answer) × Run w (mark_all ∷ clean_all ∷ []) answers v
+Trims false w v = v ≡ w
+
 -- it carries out events in one change group, and no answer ends the put
 abbrev pub Carries : SimFlash → List Event → SimFlash → Type 0
-Carries start events end = (w : World) × (v : World) × (answers : List Answer) × IsGrouped start events w × Run w (group_end (is_due w.system)) answers v
-    × (v.device ≡ device_of end) × GoOn (group_end (is_due w.system)) answers
+Carries start events end = (w : World) × (v : World) × (left : World) × (answers : List Answer) × IsGrouped start events w × Run w (group_end (is_due w.system)) answers v
+    × GoOn (group_end (is_due w.system)) answers × Trims (is_due w.system) v left × (left.device ≡ device_of end)
 
 -- it carries out the first events of the group, and the answer to the last of them ends the put
 abbrev pub StopsWithin : SimFlash → List Event → Refusal → Type 0
@@ -148,6 +161,14 @@ PlaceCause image base all failure = (found : Found) × Contains all found × IsM
 -- one of them is not put
 abbrev pub SourceCause : Held → Path → List Found → Failure → Type 0
 SourceCause held base all failure = (found : Found) × Contains all found × IsUnput held base found failure
+
+-- a flash is this one
+abbrev pub Is : SimFlash → SimFlash → Type 0
+Is flash start = start ≡ flash
+
+-- there is no such cause
+abbrev pub IsNever : Failure → Type 0
+IsNever failure = ⊥
 
 -- all sources are put below a path, after what is removed first, on a flash that is found so, which gives the flash as it is left
 abbrev pub PutsBy : (SimFlash → Type 0) → List Event → Held → Path → List Found → SimFlash → SimFlash → Type 0

@@ -1,5 +1,5 @@
 -- Events of a put that are served one after the other, and how they end.
-use Rattle.std.specs.Prelude.{◌≡◌, ◌⊎◌, Option, Some, None, Result, Ok, Err, List, [], ◌∷◌, ◌++◌}
+use Rattle.std.specs.Prelude.{◌≡◌, ◌⊎◌, Bool, true, false, Option, Some, None, Result, Ok, Err, List, [], ◌∷◌, ◌++◌}
 use Rattle.std.specs.List.{flat_map}
 use Rattle.fs_types.specs.Names.{Path}
 use Rattle.fs_types.specs.declared.event.Answer.{Answer}
@@ -10,12 +10,14 @@ use Rattle.system.specs.declared.systems.System.{System}
 use Rattle.undofs.specs.Sessions.{Serves}
 use Rattle.image_jobs.specs.Failures.{of_refusal}
 use Rattle.host_files.specs.Files.{Held}
-use Rattle.put_jobs.specs.Puts.{stop_of, thing_events, group_events, group_end, is_due, IsThing, AreThings, IsUnput, SourceCause}
+use Rattle.put_jobs.specs.Puts.{stop_of, lot_events, group_events, group_end, mark_all, clean_all, is_due, IsThing, AreThings, IsUnput, SourceCause}
 use Rattle.host_files.specs.Sources.{Found}
 use Rattle.image_jobs.specs.declared.failure.Failure.{Failure}
 use Rattle.put_jobs.specs.declared.put.Mounted.{Mounted}
 use Rattle.script_runs.specs.declared.scripts.Refusal.{Refusal}
-use Rattle.put_jobs.specs.declared.thing.Thing.{Thing}
+use Rattle.put_lots.specs.Lots.{taken_in, listed}
+use Rattle.put_lots.specs.Things.{thing_events}
+use Rattle.put_lots.specs.declared.thing.Thing.{Thing}
 
 -- a flash, and the system on it, where one is mounted
 pub record Place : Type 0 where
@@ -50,30 +52,57 @@ abbrev pub ServesPut : Place → List Event → Result (Unit {0}) Refusal → Pl
 ServesPut p events (Ok done) q = ServesAll p events q
 ServesPut p events (Err refusal) q = (made : List Event) × (rest : List Event) × (events ≡ made ++ rest) × Halts p made refusal q
 
--- how a source is put
-abbrev pub PutsOne : Held → Path → Found → Place → Result (Unit {0}) Failure → Place → Type 0
-PutsOne held base found p (Ok done) q = (thing : Thing) × IsThing held base found thing × ServesAll p (thing_events thing) q
-PutsOne held base found p (Err failure) q = IsUnput held base found failure
-    ⊎ ((thing : Thing) × (made : List Event) × (rest : List Event) × (refusal : Refusal) × IsThing held base found thing × (thing_events thing ≡ made ++ rest) × Halts p made refusal q
-    × (failure ≡ of_refusal refusal))
+-- the answer to one of some events ends the put, for which that is the failure. What is left is given up
+abbrev pub HaltsAmong : Place → List Event → Failure → Type 0
+HaltsAmong p events failure = (made : List Event) × (rest : List Event) × (refusal : Refusal) × (at : Place)
+    × (events ≡ made ++ rest) × Halts p made refusal at × (failure ≡ of_refusal refusal)
+
+-- how what is ready is put
+abbrev pub PutsReady : Option Thing → Place → Result (Unit {0}) Failure → Place → Type 0
+PutsReady ready p (Ok done) q = ServesAll p (flat_map thing_events (listed ready)) q
+PutsReady ready p (Err failure) q = (failure ≡ Failure.Memory) ⊎ HaltsAmong p (flat_map thing_events (listed ready)) failure
+
+-- how a source is taken in after what waits: what is ready then is put
+abbrev pub PutsNext : Held → Path → Found → Option Thing → Place → Result Thing Failure → Place → Type 0
+PutsNext held base found last p (Ok next) q = (thing : Thing) × IsThing held base found thing × (next ≡ (taken_in last thing).last)
+    × ServesAll p (flat_map thing_events (listed (taken_in last thing).ready)) q
+PutsNext held base found last p (Err failure) q = IsUnput held base found failure
+    ⊎ ((thing : Thing) × IsThing held base found thing × HaltsAmong p (flat_map thing_events (listed (taken_in last thing).ready)) failure)
 
 -- how sources are put, where these are the events of their things
 abbrev pub PutsThrough : (List Thing → List Event) → Held → Path → List Found → Place → Result (Unit {0}) Failure → Place → Type 0
 PutsThrough events held base all p (Ok done) q = (things : List Thing) × AreThings held base all things × ServesAll p (events things) q
 PutsThrough events held base all p (Err failure) q = (failure ≡ Failure.Memory) ⊎ (SourceCause held base all failure
-    ⊎ ((first : List Found) × (later : List Found) × (things : List Thing) × (made : List Event) × (rest : List Event) × (refusal : Refusal) × (all ≡ first ++ later)
-    × AreThings held base first things × (events things ≡ made ++ rest) × Halts p made refusal q × (failure ≡ of_refusal refusal)))
+    ⊎ ((first : List Found) × (later : List Found) × (things : List Thing) × (all ≡ first ++ later) × AreThings held base first things × HaltsAmong p (events things) failure))
 
 -- how all sources are put, and how they are in a change group that begins with what is removed first
 abbrev pub PutsEach : Held → Path → List Found → Place → Result (Unit {0}) Failure → Place → Type 0
-PutsEach = PutsThrough (λ things. flat_map thing_events things)
+PutsEach = PutsThrough lot_events
 
 abbrev pub PutsGroup : List Event → Held → Path → List Found → Place → Result (Unit {0}) Failure → Place → Type 0
 PutsGroup removed = PutsThrough (group_events removed)
 
 -- the group that is open is ended, and synced where a version is due in it
+abbrev pub ClosesGroup : Place → Result (Unit {0}) Refusal → Place → Type 0
+ClosesGroup p result q = ServesPut p (group_end (is_due p.system)) result q
+
+-- a trim is served, whatever it is answered
+pub record IsTrimmed (p q : Place) : Type 0 where
+  pub marked : Answer
+  pub cleaned : Answer
+  pub between : Place
+  pub marks : Turns p mark_all marked between
+  pub cleans : Turns between clean_all cleaned q
+
+-- where a version was made a trim follows; else nothing
+abbrev pub IsTrimmedWhere : Bool → Place → Place → Type 0
+IsTrimmedWhere true p q = IsTrimmed p q
+IsTrimmedWhere false p q = q ≡ p
+
+-- and then what is left is trimmed, where that made a version
 abbrev pub EndsGroup : Place → Result (Unit {0}) Refusal → Place → Type 0
-EndsGroup p result q = ServesPut p (group_end (is_due p.system)) result q
+EndsGroup p (Ok done) q = (closed : Place) × ClosesGroup p (Ok tt) closed × IsTrimmedWhere (is_due p.system) closed q
+EndsGroup p (Err refusal) q = ClosesGroup p (Err refusal) q
 
 -- how all sources are put in one change group, which is ended
 abbrev pub PutsAll : List Event → Held → Path → List Found → Place → Result (Unit {0}) Failure → Place → Type 0

@@ -17,13 +17,13 @@ use std::io::Write;
 
 /// What is put into an image.
 #[derive(Drop)]
-pub(crate) struct Batch {
+pub struct Batch {
     /// The path below which it is put.
-    pub(crate) base: Path,
+    pub base: Path,
     /// What is left below the path, where all else there is removed.
-    pub(crate) kept: Option<Vec<Kept>>,
+    pub kept: Option<Vec<Kept>>,
     /// What is put, each in its turn.
-    pub(crate) sources: Vec<Source>,
+    pub sources: Vec<Source>,
 }
 
 /// What is put of all that was found at a name of the host. Refused where that is a plain file or a link,

@@ -3,7 +3,6 @@ ghost use Rattle.std.specs.Prelude.{◌≡◌, ◌≤◌, ◌<◌, ℕ, List, []
 ghost use Rattle.std.specs.Io.KnownBytes.{Consumes, IsAtEnd};
 ghost use Rattle.put_jobs.specs.Inputs.{IsWholeInput, IsUnreadInput};
 
-use fs_types::MAX_FILE_BYTES;
 use image_jobs::{Failure, SourceFault};
 use std::alloc::Global;
 use std::io::{ErrorKind, Read};
@@ -11,12 +10,12 @@ use std::io::{ErrorKind, Read};
 /// So many bytes are read at a time.
 const CHUNK: usize = 4096;
 
-/// All bytes of the input, where it has no more than a file may have. Of a longer one no more is read
-/// than tells that it is.
-pub(crate) fn read_input<R: Read>(alloc: Global, reader: &mut R) -> Result<Vec<u8>, Failure>
+/// All bytes of the input, where it has no more than so many. Of a longer one no more is read than tells
+/// that it is.
+pub fn read_input<R: Read>(alloc: Global, reader: &mut R, most: usize) -> Result<Vec<u8>, Failure>
     ensures ok { IfOk result (λ bytes. IsWholeInput (R.remaining reader.old) bytes.items (R.remaining reader.new)) }
-    ensures short { IfOk result (λ bytes. vec_len bytes ≤ MAX_FILE_BYTES) }
-    ensures err { IfErr result (IsUnreadInput (R.remaining reader.old) (R.remaining reader.new)) }
+    ensures short { IfOk result (λ bytes. vec_len bytes ≤ most) }
+    ensures err { IfErr result (IsUnreadInput most (R.remaining reader.old) (R.remaining reader.new)) }
 {
     let mut bytes = Vec::new(alloc);
     let mut chunk = [0; CHUNK];
@@ -30,7 +29,7 @@ pub(crate) fn read_input<R: Read>(alloc: Global, reader: &mut R) -> Result<Vec<u
             Ok(()) => {}
             Err(_) => return Err(Failure::Memory),
         }
-        if bytes.len() > MAX_FILE_BYTES as usize {
+        if bytes.len() > most {
             return Err(Failure::Source(SourceFault::TooBig));
         }
     }

@@ -7,8 +7,13 @@ mod mirror;
 mod place;
 mod put;
 mod put_of_input;
+mod put_of_lots;
+mod refused;
 mod thing;
+mod trim;
 
-pub use batch::wants_folder;
-pub use put::{Order, put_into_image};
+pub use batch::{Batch, wants_folder};
+pub use input::read_input;
+pub use put::{Order, gather, put_into_image, put_on_flash, told_path};
 pub use put_of_input::put_input;
+pub use put_of_lots::put_lots;

@@ -4,9 +4,9 @@ ghost use Rattle.flash_model.specs.Simulation.{device_of};
 ghost use Rattle.flash_model.specs.declared.sim_flash.SimFlash.{SimFlash};
 ghost use Rattle.system.specs.Systems.{IsSystem};
 ghost use Rattle.host_files.specs.Files.{KeepsOthers, ReadsClaimed, takes_away};
-ghost use Rattle.put_jobs.specs.Puts.{stop_of, stop_of_reply, refused_by, is_mkdir, makes_directory, is_due, group_start, PutsBy, PutCause, PlaceCause, FoundCause};
+ghost use Rattle.put_jobs.specs.Puts.{Is, IsNever, stop_of, stop_of_reply, refused_by, is_mkdir, makes_directory, is_due, group_start, PutsBy, PutCause, PlaceCause, FoundCause};
 ghost use Rattle.inquiry_jobs.specs.PathWords.{path_spelled, SpellingCause};
-ghost use Rattle.put_jobs.specs.Served.{place, ServesPut, PutsOne, PutsEach, PutsGroup, EndsGroup, PutsAll};
+ghost use Rattle.put_jobs.specs.Served.{place, ServesPut, PutsReady, PutsNext, PutsEach, PutsGroup, ClosesGroup, EndsGroup, PutsAll};
 ghost use Rattle.host_files.specs.Sources.{Found, source_found};
 ghost use Rattle.put_jobs.specs.Places.{AreOthers, IsMisplaced};
 ghost use Rattle.script_runs.specs.Flashes.{IsDecoded};
@@ -18,13 +18,16 @@ ghost use Rattle.put_jobs.specs.Putting.{SourcesEnd, PutEnds};
 use crate::batch::{Batch, batch_of};
 use crate::mirror::removed_from;
 use crate::place::place_of;
-use crate::thing::{events_of, thing_of};
-use flash_model::{Flash, SimFlash};
+use crate::refused::tell_stopped;
+use crate::thing::thing_of;
+use crate::trim::trim_made;
+use flash_model::SimFlash;
 use fs_types::{Answer, Call, Event, Fault, Path, Reply, Stat};
 use host_files::{ImageFiles, Source, Sources, takes_away};
 use image_jobs::{Failure, SourceFault, flash_of, save_changed, take_image};
 use inquiry_jobs::path_of_word;
-use job_messages::{tell_misplaced, tell_refusal, tell_unput};
+use job_messages::{tell_misplaced, tell_refusal};
+use put_lots::{Taken, Thing, events_of, take_in};
 use script_runs::Refusal;
 use std::alloc::Global;
 use std::io::Write;
@@ -79,7 +82,7 @@ pub fn put_into_image<F: ImageFiles + Sources, E: Write>(
 }
 
 /// The path that a word spells. A refused one is told.
-pub(crate) fn told_path<E: Write>(alloc: Global, word: &str, err: &mut E) -> Result<Path, Failure>
+pub fn told_path<E: Write>(alloc: Global, word: &str, err: &mut E) -> Result<Path, Failure>
     ensures ok { IfOk result (λ path. path_spelled word.now ≡ Ok path) }
     ensures err { IfErr result (SpellingCause word.now) }
 {
@@ -100,7 +103,7 @@ fn tell_path<E: Write>(failure: Failure, word: &str, err: &mut E) {
 }
 
 /// All that stands at a name of the host, but for what is left out, where each has a place below a path.
-fn gather<F: ImageFiles + Sources, E: Write>(
+pub fn gather<F: ImageFiles + Sources, E: Write>(
     files: &F,
     alloc: Global,
     image: &str,
@@ -223,10 +226,26 @@ fn put_on<F: ImageFiles, E: Write>(
     ensures ok { IfOk result (λ end. (start : SimFlash) × PutsBy (IsDecoded bytes.now) removed.now (F.held files.now) batch.now.base (map source_found batch.now.sources.items) start end) }
     ensures err { IfErr result (PutCause (IsDecoded bytes.now) (DecodeCause bytes.now) removed.now (F.held files.now) batch.now.base (map source_found batch.now.sources.items)) }
 {
-    let mut flash = match flash_of(alloc, bytes) {
-        Ok(flash) => flash,
-        Err(failure) => return Err(failure),
-    };
+    match flash_of(alloc, bytes) {
+        Ok(flash) => put_on_flash(files, alloc, flash, removed, batch, progress, err),
+        Err(failure) => Err(failure),
+    }
+}
+
+/// Removes and puts sources on a flash, as one version, and gives the flash as it is left.
+pub fn put_on_flash<F: ImageFiles, E: Write>(
+    files: &F,
+    alloc: Global,
+    flash: SimFlash,
+    removed: &[Event],
+    batch: &Batch,
+    progress: bool,
+    err: &mut E,
+) -> Result<SimFlash, Failure>
+    ensures ok { IfOk result (λ end. PutsBy (Is flash) removed.now (F.held files.now) batch.now.base (map source_found batch.now.sources.items) flash end) }
+    ensures err { IfErr result (PutCause (Is flash) IsNever removed.now (F.held files.now) batch.now.base (map source_found batch.now.sources.items)) }
+{
+    let mut flash = flash;
     let system = match mount(alloc, &mut flash) {
         Ok(system) => Some(system),
         Err(fault) => return Err(Failure::of_system(fault)),
@@ -312,10 +331,26 @@ pub(crate) fn begin_group(
     }
 }
 
-/// Ends the change group, and syncs where it makes a version: nothing is written where it makes none.
+/// Ends the change group. Where it makes a version that is synced, and what nothing keeps is erased then; where
+/// it makes none nothing is written.
 pub(crate) fn end_group(alloc: Global, mounted: &mut Mounted) -> Result<(), Refusal>
     requires { IfSome mounted.old.system (IsSystem (device_of mounted.old.flash)) }
     ensures { EndsGroup (place mounted.old) result (place mounted.new) }
+{
+    let is_made = is_due(&mounted.system);
+    match close_group(alloc, mounted) {
+        Ok(()) => {}
+        Err(refusal) => return Err(refusal),
+    }
+    trim_made(alloc, is_made, mounted);
+    Ok(())
+}
+
+/// Ends the change group, and syncs where it makes a version: nothing is written where it makes none.
+fn close_group(alloc: Global, mounted: &mut Mounted) -> Result<(), Refusal>
+    requires { IfSome mounted.old.system (IsSystem (device_of mounted.old.flash)) }
+    ensures mounted { IfSome mounted.new.system (IsSystem (device_of mounted.new.flash)) }
+    ensures closes { ClosesGroup (place mounted.old) result (place mounted.new) }
 {
     let end = [Event::Call(Call::End), Event::Call(Call::Sync)];
     let count = if is_due(&mounted.system) { 2 } else { 1 };
@@ -335,7 +370,8 @@ fn is_due(system: &Option<System>) -> bool
     }
 }
 
-/// Puts sources, in order. Which one is not put is told, and how far it has come.
+/// Puts sources, in order, and files that go together at once. Which one is not put is told, and how far
+/// it has come.
 fn put_each<F: ImageFiles, E: Write>(
     files: &F,
     alloc: Global,
@@ -349,21 +385,17 @@ fn put_each<F: ImageFiles, E: Write>(
     ensures mounted { IfSome mounted.new.system (IsSystem (device_of mounted.new.flash)) }
     ensures ends { PutsEach (F.held files.now) base.now (map source_found sources.now) (place mounted.old) result (place mounted.new) }
 {
+    let mut last = None;
     for (at, source) in sources.iter().enumerate() {
-        match put_one(files, alloc, base, source, mounted) {
-            Ok(()) => {}
-            Err(failure) => {
-                let place = place_of(alloc, base, source).ok();
-                let sizes = mounted.flash.geometry();
-                tell_unput(files, alloc, failure, source, place, sizes, err);
-                return Err(failure);
-            }
+        match put_next(files, alloc, base, source, last, mounted, err) {
+            Ok(next) => last = Some(next),
+            Err(failure) => return Err(failure),
         }
         if progress {
             tell_progress(at + 1, sources.len(), err);
         }
     }
-    Ok(())
+    put_ready(alloc, last, mounted, err)
 }
 
 /// Tells how many of how many things are put, for each [`THINGS_A_LINE`] of them and for the last.
@@ -373,21 +405,51 @@ fn tell_progress<E: Write>(done: usize, all: usize, err: &mut E) {
     }
 }
 
-/// Puts a source.
-fn put_one<F: ImageFiles>(
+/// Reads a source, and puts what waited before it where that does not go together with it. Answers what
+/// waits then.
+fn put_next<F: ImageFiles, E: Write>(
     files: &F,
     alloc: Global,
     base: &Path,
     source: &Source,
+    last: Option<Thing>,
     mounted: &mut Mounted,
-) -> Result<(), Failure>
+    err: &mut E,
+) -> Result<Thing, Failure>
     requires { IfSome mounted.old.system (IsSystem (device_of mounted.old.flash)) }
     ensures mounted { IfSome mounted.new.system (IsSystem (device_of mounted.new.flash)) }
-    ensures ends { PutsOne (F.held files.now) base.now (source_found source.now) (place mounted.old) result (place mounted.new) }
+    ensures ends { PutsNext (F.held files.now) base.now (source_found source.now) last (place mounted.old) result (place mounted.new) }
 {
     let thing = match thing_of(files, alloc, base, source) {
         Ok(thing) => thing,
-        Err(failure) => return Err(failure),
+        Err(failure) => {
+            tell_misplaced(files, failure, source, err);
+            return Err(failure);
+        }
+    };
+    let Taken { ready, last } = match take_in(alloc, last, thing) {
+        Ok(taken) => taken,
+        Err(_) => return Err(Failure::Memory),
+    };
+    match put_ready(alloc, ready, mounted, err) {
+        Ok(()) => Ok(last),
+        Err(failure) => Err(failure),
+    }
+}
+
+/// Puts what is ready, if anything is. What is refused of it is told.
+pub(crate) fn put_ready<E: Write>(
+    alloc: Global,
+    ready: Option<Thing>,
+    mounted: &mut Mounted,
+    err: &mut E,
+) -> Result<(), Failure>
+    requires { IfSome mounted.old.system (IsSystem (device_of mounted.old.flash)) }
+    ensures mounted { IfSome mounted.new.system (IsSystem (device_of mounted.new.flash)) }
+    ensures ends { PutsReady ready (place mounted.old) result (place mounted.new) }
+{
+    let Some(thing) = ready else {
+        return Ok(());
     };
     let events = match events_of(alloc, thing) {
         Ok(events) => events,
@@ -395,7 +457,10 @@ fn put_one<F: ImageFiles>(
     };
     match ask_all(alloc, mounted, &events) {
         Ok(()) => Ok(()),
-        Err(refusal) => Err(Failure::of_refusal(refusal)),
+        Err(refusal) => {
+            tell_stopped(alloc, refusal, &events, mounted, err);
+            Err(Failure::of_refusal(refusal))
+        }
     }
 }
 

@@ -6,17 +6,19 @@ ghost use Rattle.system.specs.Systems.{IsSystem};
 ghost use Rattle.host_files.specs.Files.{KeepsOthers, ReadsClaimed};
 ghost use Rattle.image_jobs.specs.Images.{DecodeCause, host_at};
 ghost use Rattle.script_runs.specs.Flashes.{IsDecoded};
-ghost use Rattle.put_jobs.specs.Inputs.{CarriesGroup, WritesBy, WriteCause, BytesEnd, InputEnds, IsWholeInput, IsUnreadInput};
+ghost use Rattle.put_jobs.specs.Groups.{CarriesGroup, WritesBy, WriteCause, EventsEnd};
+ghost use Rattle.put_jobs.specs.Inputs.{written, InputEnds, IsWholeInput, IsUnreadInput};
 ghost use Rattle.put_jobs.specs.Served.{place};
 ghost use Rattle.fs_types.specs.declared.limits.TheConstants.{MAX_FILE_BYTES};
 
 use crate::input::read_input;
 use crate::put::{Mounted, begin_group, end_group, told_path};
-use flash_model::{Flash, Geometry, SimFlash};
-use fs_types::{Bytes, Call, Event, Path};
+use crate::refused::tell_event;
+use flash_model::{Flash, SimFlash};
+use fs_types::{Bytes, Call, Event, MAX_FILE_BYTES, Path};
 use host_files::ImageFiles;
 use image_jobs::{Failure, flash_of, save_changed, take_image};
-use job_messages::{tell_fault, tell_refusal, tell_refused};
+use job_messages::tell_fault;
 use script_runs::Refusal;
 use std::alloc::Global;
 use std::io::{Read, Write};
@@ -56,9 +58,9 @@ fn told_input<R: Read, E: Write>(
 ) -> Result<Vec<u8>, Failure>
     ensures ok { IfOk result (λ bytes. IsWholeInput (R.remaining reader.old) bytes.items (R.remaining reader.new)) }
     ensures short { IfOk result (λ bytes. vec_len bytes ≤ MAX_FILE_BYTES) }
-    ensures err { IfErr result (IsUnreadInput (R.remaining reader.old) (R.remaining reader.new)) }
+    ensures err { IfErr result (IsUnreadInput MAX_FILE_BYTES (R.remaining reader.old) (R.remaining reader.new)) }
 {
-    match read_input(alloc, reader) {
+    match read_input(alloc, reader, MAX_FILE_BYTES as usize) {
         Ok(bytes) => Ok(bytes),
         Err(failure) => {
             tell_failed(failure, err);
@@ -83,7 +85,7 @@ fn put_bytes<F: ImageFiles, E: Write>(
     bytes: Bytes,
     err: &mut E,
 ) -> Result<(), Failure>
-    ensures ends { BytesEnd name.now (ReadsClaimed F.claims F.reads name.now) path bytes (F.held files.old) (F.held files.new) result }
+    ensures ends { EventsEnd name.now (ReadsClaimed F.claims F.reads name.now) (written path bytes) (F.held files.old) (F.held files.new) result }
     ensures others { KeepsOthers name.now (F.held files.old) (F.held files.new) }
 {
     let image = match take_image(files, alloc, name) {
@@ -104,8 +106,8 @@ fn write_on<E: Write>(
     bytes: Bytes,
     err: &mut E,
 ) -> Result<SimFlash, Failure>
-    ensures ok { IfOk result (λ end. (start : SimFlash) × WritesBy (IsDecoded image.now) path bytes start end) }
-    ensures err { IfErr result (WriteCause (IsDecoded image.now) (DecodeCause image.now) path bytes) }
+    ensures ok { IfOk result (λ end. (start : SimFlash) × WritesBy (IsDecoded image.now) (written path bytes) start end) }
+    ensures err { IfErr result (WriteCause (IsDecoded image.now) (DecodeCause image.now) (written path bytes)) }
 {
     let mut flash = match flash_of(alloc, image) {
         Ok(flash) => flash,
@@ -120,7 +122,7 @@ fn write_on<E: Write>(
     match carry_group(alloc, &mut mounted, &events) {
         Ok(()) => Ok(mounted.flash),
         Err(refusal) => {
-            tell_unwritten(alloc, refusal, &events, mounted.flash.geometry(), err);
+            tell_event(alloc, refusal, &events, mounted.flash.geometry(), err);
             Err(Failure::of_refusal(refusal))
         }
     }
@@ -134,22 +136,5 @@ fn carry_group(alloc: Global, mounted: &mut Mounted, events: &[Event]) -> Result
     match begin_group(alloc, events, mounted) {
         Ok(()) => end_group(alloc, mounted),
         Err(refusal) => Err(refusal),
-    }
-}
-
-/// Tells that what writes a file is refused, with its path.
-fn tell_unwritten<E: Write>(
-    alloc: Global,
-    refusal: Refusal,
-    events: &[Event],
-    sizes: Geometry,
-    err: &mut E,
-) {
-    match events {
-        [Event::Call(Call::WriteFile { path, bytes })] => {
-            let count = bytes.as_slice().len() as u64;
-            tell_refused(alloc, refusal, path, count, sizes, err);
-        }
-        _ => tell_refusal(refusal, "", err),
     }
 }

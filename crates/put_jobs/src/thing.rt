@@ -1,22 +1,14 @@
 //! What is put at a path of an image.
-ghost use Rattle.std.specs.Prelude.{◌≡◌, IfOk, IfErr};
-ghost use Rattle.put_jobs.specs.Puts.{thing_events, IsThing, IsUnput};
+ghost use Rattle.std.specs.Prelude.{IfOk, IfErr};
+ghost use Rattle.put_jobs.specs.Puts.{IsThing, IsUnput};
 ghost use Rattle.host_files.specs.Sources.{source_found};
 
 use crate::place::place_of;
-use fs_types::{Bytes, Call, Event, Path, View};
+use fs_types::{Bytes, Path};
 use host_files::{FileFault, ImageFiles, Source, SourceKind};
 use image_jobs::{Failure, SourceFault};
-use std::alloc::{AllocError, Global};
-
-/// What is put at a path.
-#[derive(Debug, Drop)]
-pub(crate) enum Thing {
-    /// A directory, which may be there already.
-    Directory(Path),
-    /// A file of these bytes, in the place of one that is there.
-    File(Path, Bytes),
-}
+use put_lots::Thing;
+use std::alloc::Global;
 
 /// What a source is put as, below a path.
 pub(crate) fn thing_of<F: ImageFiles>(
@@ -39,27 +31,5 @@ pub(crate) fn thing_of<F: ImageFiles>(
             Err(FileFault::Memory) => Err(Failure::Memory),
             Err(_) => Err(Failure::Source(SourceFault::Unreadable)),
         },
-    }
-}
-
-/// The events that put a thing.
-pub(crate) fn events_of(alloc: Global, thing: Thing) -> Result<Vec<Event>, AllocError>
-    ensures { IfOk result (λ events. events.items ≡ thing_events thing) }
-{
-    match thing {
-        Thing::Directory(path) => {
-            let made = Call::Mkdir {
-                path: path.clone()?,
-            };
-            let looked = Call::Stat {
-                view: View::Present,
-                path,
-            };
-            Ok(vec![in alloc; Event::Call(made), Event::Call(looked)]?)
-        }
-        Thing::File(path, bytes) => {
-            let written = Call::WriteFile { path, bytes };
-            Ok(vec![in alloc; Event::Call(written)]?)
-        }
     }
 }

@@ -7,7 +7,7 @@ use crate::tool_calls::append_given;
 use flash_image::decode;
 use flash_model::SimFlash;
 use fs_types::{Answer, Fault, Reply};
-use host_files::{Channels, ImageFiles, Parts, Sources};
+use host_files::{Channels, Folders, ImageFiles, Parts, Sources};
 use plain_machine::{PlainMachine, Space};
 use script::{Line, LineAnswer, print_answer, read_line};
 use script_runs::run_script;
@@ -128,7 +128,7 @@ fn script_of(alloc: Global, row: &Row<'_>) -> Result<String, AllocError> {
 
 /// Runs a row by the program on an image of this name, which is put there or which the program makes
 /// first, makes the calls that come after its lines, and looks at the flash of the image.
-pub fn run_on_image<F: ImageFiles + Sources + Channels + Parts>(
+pub fn run_on_image<F: Folders + Sources + Channels + Parts>(
     files: &mut F,
     alloc: Global,
     name: &str,
@@ -162,7 +162,7 @@ fn put_image<F: ImageFiles>(
 }
 
 /// Makes an image of the sizes of a row.
-fn make_image<F: ImageFiles + Sources + Channels + Parts>(
+fn make_image<F: Folders + Sources + Channels + Parts>(
     files: &mut F,
     alloc: Global,
     name: &str,
@@ -204,7 +204,7 @@ fn add_size(
 
 /// Makes the calls of the program that a row has after its lines, and appends what they give and the
 /// row does not want.
-fn make_calls<F: ImageFiles + Sources + Channels + Parts>(
+fn make_calls<F: Folders + Sources + Channels + Parts>(
     files: &mut F,
     alloc: Global,
     name: &str,
@@ -221,7 +221,7 @@ fn make_calls<F: ImageFiles + Sources + Channels + Parts>(
 }
 
 /// Calls the program, and spells what it gives.
-fn give<F: ImageFiles + Sources + Channels + Parts>(
+fn give<F: Folders + Sources + Channels + Parts>(
     files: &mut F,
     alloc: Global,
     words: &[String],
@@ -239,7 +239,7 @@ fn give<F: ImageFiles + Sources + Channels + Parts>(
 }
 
 /// Calls the program, which has to run to its end, and gives what it writes.
-fn call<F: ImageFiles + Sources + Channels + Parts>(
+fn call<F: Folders + Sources + Channels + Parts>(
     files: &mut F,
     alloc: Global,
     words: &[String],

@@ -4,7 +4,7 @@ use std::alloc::{AllocError, Global};
 /// A call of the program: its words, its input, and what is wanted of it.
 #[derive(Drop)]
 pub struct ToolCall<'a> {
-    /// The words, parted by one space; IMAGE and FILE stand for names of files.
+    /// The words, parted by one space; IMAGE, FILE, FOLDER and OTHER stand for names of the host.
     pub words: &'a str,
     /// The lines of its input.
     input: Vec<&'a str>,
@@ -31,7 +31,7 @@ impl<'a> ToolCall<'a> {
         Ok(())
     }
 
-    /// The words, with names in the place of IMAGE and FILE.
+    /// The words, with names in the place of IMAGE, FILE, FOLDER and OTHER.
     pub fn words(&self, alloc: Global, image: &str) -> Result<Vec<String>, AllocError> {
         let mut words = Vec::new(alloc);
         for word in self.words.split(' ') {
@@ -75,6 +75,8 @@ fn named(alloc: Global, word: &str, image: &str) -> Result<String, AllocError> {
     match word {
         "IMAGE" => String::from_str(alloc, image),
         "FILE" => format!(in alloc; "{image}.file"),
+        "FOLDER" => format!(in alloc; "{image}.folder"),
+        "OTHER" => format!(in alloc; "{image}.other"),
         word => String::from_str(alloc, word),
     }
 }

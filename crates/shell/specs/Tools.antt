@@ -21,7 +21,8 @@ use Rattle.put_jobs.specs.Mirrors.{wants_folder}
 use Rattle.script_runs.specs.Scripts.{Streams}
 use Rattle.host_files.specs.Sources.{Found, Gathered}
 use Rattle.host_files.specs.Streams.{Written}
-use Rattle.history_jobs.specs.Histories.{HistoryEnds, history_spelled}
+use Rattle.history_jobs.specs.Histories.{HistoryEnds, RunsUnprinted, history_spelled, trim_script}
+use Rattle.map_jobs.specs.Mapping.{MapEnds, MapPageEnds}
 use Rattle.part_jobs.specs.Making.{FormatPartEnds, ToPartEnds, FromPartEnds}
 use Rattle.part_jobs.specs.Serving.{ServePartEnds}
 use Rattle.raw_jobs.specs.Making.{RawEnds, FromRawEnds}
@@ -30,8 +31,14 @@ use Rattle.script_runs.specs.declared.scripts.ScriptFault.{ScriptFault}
 use Rattle.told_flash.specs.declared.start.StartFault.{StartFault}
 use Rattle.told_sessions.specs.Sessions.{SessionEnds}
 use Rattle.told_sessions.specs.declared.session_fault.SessionFault.{SessionFault}
-use Rattle.inquiry_jobs.specs.Tellings.{TellEnds, DiffEnds, GetEnds}
+use Rattle.inquiry_jobs.specs.Tellings.{TellEnds, DiffEnds}
+use Rattle.update_jobs.specs.Updated.{UpdateEnds}
+use Rattle.folder_jobs.specs.Gets.{GetEnds}
 use Rattle.put_jobs.specs.Putting.{PutEnds}
+use Rattle.create_jobs.specs.Creations.{CreateEnds}
+use Rattle.create_jobs.specs.declared.creation.NewImage.{NewImage}
+use Rattle.archive_jobs.specs.Tars.{TarEnds}
+use Rattle.archive_jobs.specs.Untars.{UntarEnds}
 
 -- the word of a standard stream in the place of a file
 abbrev pub is_stream : List ℕ → Bool
@@ -80,6 +87,10 @@ word_given None = []
 abbrev pub sizes_of : Job → Geometry
 sizes_of job = record { page = job.page; pages = job.pages; blocks = job.blocks }
 
+-- what a job asks that a new image has
+abbrev pub image_asked : Job → NewImage
+image_asked job = record { page = job.page; pages = job.pages; blocks = if job.is_blocks_given then Some job.blocks else None; history = job.history }
+
 -- no file changes, and no input is read
 pub record OnlyPrints (before after : Host) : Type 0 where
   pub files : after.files ≡ before.files
@@ -90,11 +101,10 @@ pub record OnlyWrites (before after : Host) : Type 0 where
   pub unread : after.input ≡ before.input
   pub unprinted : after.out ≡ before.out
 
--- a file of an image is written to a file of the host, or to the output
+-- a file of an image is printed; or it becomes a file of the host, or a directory a folder
 abbrev pub GetsTo : Bool → Job → List ℕ → Host → Result (Unit {0}) Failure → Host → Type 0
 GetsTo true job name before result after = TellEnds (file_spelled (word_given job.path) job.view) (before.files name) result before.out after.out × OnlyPrints before after
-GetsTo false job name before result after = GetEnds (file_spelled (word_given job.path) job.view) name (word_given job.file) before.files after.files result
-    × KeepsOthers (word_given job.file) before.files after.files × OnlyWrites before after
+GetsTo false job name before result after = GetEnds (word_given job.path) job.view name (word_given job.file) (λ _. Unit {0}) before.files after.files result × OnlyWrites before after
 
 -- the input is put into an image; it is refused where a folder is wanted
 abbrev pub StreamEnds : Bool → List ℕ → List ℕ → (List ℕ → Type 0) → Host → Result (Unit {0}) Failure → Host → Type 0
@@ -139,15 +149,22 @@ EndsOn job name known before result after = elim (job.command) as (λ task. Type
   | Task.Format ↦ FormatEnds (sizes_of job) job.history (before.files name) (after.files name) result × KeepsOthers name before.files after.files × OnlyWrites before after
   | Task.Run ↦ RunEnds job.stop name (known.claimed name) before result after × KeepsOthers name before.files after.files
   | Task.Put ↦ PutsFrom (is_stream (word_given job.file)) job.mirror job.skip_links (word_given job.path) name (known.claimed name) (known.gathered (word_given job.file) name) before result after
+  | Task.Create ↦ CreateEnds (image_asked job) job.skip_links name before.files after.files (known.gathered (word_given job.file) name) result × KeepsOthers name before.files after.files × OnlyWrites before after
   | Task.History call ↦ HistoryEnds (history_spelled call (word_given job.checkpoint) job.count) name (known.claimed name) before.files result after.files × KeepsOthers name before.files after.files × OnlyWrites before after
+  | Task.Trim ↦ RunsUnprinted trim_script name (known.claimed name) before.files result after.files × KeepsOthers name before.files after.files × OnlyWrites before after
   | Task.Get ↦ GetsTo (is_stream (word_given job.file)) job name before result after
   | Task.Cat ↦ TellEnds (file_spelled (word_given job.path) job.view) (before.files name) result before.out after.out × OnlyPrints before after
   | Task.Tree ↦ TellEnds (tree_spelled job.view) (before.files name) result before.out after.out × OnlyPrints before after
   | Task.Diff ↦ DiffEnds job.exit_code (differences_spelled job.view job.other) (before.files name) result before.out after.out × OnlyPrints before after
   | Task.Versions ↦ TellEnds (Ok Inquiry.Versions) (before.files name) result before.out after.out × OnlyPrints before after
+  | Task.Update ↦ UpdateEnds (before.files name) (before.files (word_given job.file)) result before.out after.out × OnlyPrints before after
+  | Task.Tar ↦ TarEnds job.view (before.files name) result before.out after.out × OnlyPrints before after
+  | Task.Untar ↦ UntarEnds job.skip_links name (word_given job.path) (known.claimed name) before result after × KeepsOthers name before.files after.files × (after.out ≡ before.out)
   | Task.Check ↦ CheckEnds (before.files name) result before.out after.out × OnlyPrints before after
   | Task.Log ↦ LookEnds (codes "log\n") (before.files name) result before.out after.out × OnlyPrints before after
   | Task.Df ↦ LookEnds (codes "df\n") (before.files name) result before.out after.out × OnlyPrints before after
+  | Task.Map ↦ MapEnds (before.files name) result before.out after.out × OnlyPrints before after
+  | Task.MapPage ↦ MapPageEnds name (word_given job.file) before.files after.files result × KeepsOthers (word_given job.file) before.files after.files × OnlyWrites before after
   | Task.ToPart ↦ ToPartEnds name (word_given job.file) before.files after.files result × KeepsOthers (word_given job.file) before.files after.files × OnlyWrites before after
   | Task.FromPart ↦ FromPartEnds (word_given job.file) name (known.placed (word_given job.file)) before.files after.files result × KeepsOthers name before.files after.files × OnlyWrites before after
   | Task.ToRaw ↦ RawEnds name (word_given job.file) before.files after.files result × KeepsOthers (word_given job.file) before.files after.files × OnlyWrites before after

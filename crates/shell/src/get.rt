@@ -1,18 +1,20 @@
-//! A file of an image for a file of the host, or for the output.
+//! What stands at a path of an image for a file or a folder of the host, or for the output.
 ghost use Rattle.std.specs.Prelude.{◌≡◌, ℕ, Option, List};
 ghost use Rattle.image_jobs.specs.Images.{host_at};
 ghost use Rattle.shell.specs.Tools.{GetsTo, is_stream, word_given};
 
 use crate::program::word_given;
-use host_files::ImageFiles;
+use folder_jobs::get_out;
+use host_files::Folders;
 use image_jobs::Failure;
-use inquiry_jobs::{get_file, tell_file};
+use inquiry_jobs::tell_file;
 use jobs::Job;
 use std::alloc::Global;
 use std::io::Write;
 
-/// Puts the file at a path of an image into a file of the host, or writes it where that is `-`.
-pub(crate) fn get_to<F: ImageFiles, W: Write>(
+/// Puts what stands at a path of an image into a file or a folder of the host, or writes a file where that
+/// is `-`.
+pub(crate) fn get_to<F: Folders, W: Write>(
     files: &mut F,
     alloc: Global,
     job: Job<'_>,
@@ -26,7 +28,7 @@ pub(crate) fn get_to<F: ImageFiles, W: Write>(
     if is_stream(file) {
         tell_file(files, alloc, name, path, job.view, out)
     } else {
-        get_file(files, alloc, name, path, job.view, file)
+        get_out(files, alloc, name, path, job.view, file)
     }
 }
 

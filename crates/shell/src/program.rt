@@ -4,28 +4,32 @@ ghost use Rattle.clap.specs.Words.{kind_of};
 ghost use Rattle.host_files.specs.Files.{ReadsClaimed};
 ghost use Rattle.script_runs.specs.Scripts.{streams_at};
 ghost use Rattle.image_jobs.specs.Images.{host_at};
-ghost use Rattle.shell.specs.Tools.{known_by, EndsAlone, EndsOn, JobEnds, MemoryEnds, ToolEnds, MemoryBy, sizes_of, word_given, refused_status, is_memory};
+ghost use Rattle.shell.specs.Tools.{known_by, image_asked, EndsAlone, EndsOn, JobEnds, MemoryEnds, ToolEnds, MemoryBy, sizes_of, word_given, refused_status, is_memory};
 
 use crate::about::{tell_help, tell_version};
 use crate::explanations::explain;
 use crate::get::get_to;
 use crate::put_from::put_from;
 use crate::serving::{history_given, serve_part};
+use archive_jobs::{put_archive, tell_archive};
 use clap::Error;
 use clap::error::ErrorKind;
+use create_jobs::{Creation, NewImage, create_image};
 use flash_model::Geometry;
-use history_jobs::change_history;
-use host_files::{Channels, ImageFiles, Parts, Sources};
+use history_jobs::{change_history, trim_image};
+use host_files::{Channels, Folders, ImageFiles, Parts, Sources};
 use image_jobs::{Failure, check_image, format_image, look_at_image, run_image};
 use inquiry_jobs::{tell_differences, tell_file, tell_tree, tell_versions};
 use job_messages::tell_failure;
 use jobs::{Job, Task, job};
+use map_jobs::{save_map_page, tell_map};
 use part_jobs::{format_part, image_to_part, part_to_image, serve_part_file};
 use put_jobs::Order;
 use raw_jobs::{image_to_raw, raw_to_image};
 use script_runs::run_in_memory;
 use std::alloc::Global;
 use std::io::{Read, Write};
+use update_jobs::tell_update;
 
 /// Carries out the words that follow the program's name, and answers the status.
 ///
@@ -35,7 +39,7 @@ use std::io::{Read, Write};
 /// is none, or help was asked for. 3: the image, the part, a format or a mount was refused. 4: what was
 /// asked for was refused, or a line of a script that is to stop there. 5: trees differ, where the status
 /// is to tell it. Where it is 1 to 4, `err` says why.
-pub fn tool<F: ImageFiles + Sources + Channels + Parts, R: Read, W: Write, E: Write>(
+pub fn tool<F: Folders + Sources + Channels + Parts, R: Read, W: Write, E: Write>(
     files: &mut F,
     alloc: Global,
     words: &[String],
@@ -77,7 +81,7 @@ fn refuse<E: Write>(error: &Error, err: &mut E) -> u8
 }
 
 /// Does a job.
-fn carry_out<F: ImageFiles + Sources + Channels + Parts, R: Read, W: Write, E: Write>(
+fn carry_out<F: Folders + Sources + Channels + Parts, R: Read, W: Write, E: Write>(
     files: &mut F,
     alloc: Global,
     job: Job<'_>,
@@ -94,7 +98,7 @@ fn carry_out<F: ImageFiles + Sources + Channels + Parts, R: Read, W: Write, E: W
 }
 
 /// Does a task that is done on no image.
-fn do_alone<F: ImageFiles + Channels + Sources + Parts, R: Read, W: Write>(
+fn do_alone<F: Folders + Channels + Sources + Parts, R: Read, W: Write>(
     files: &mut F,
     alloc: Global,
     job: Job<'_>,
@@ -121,7 +125,7 @@ fn do_alone<F: ImageFiles + Channels + Sources + Parts, R: Read, W: Write>(
 }
 
 /// Does a task on an image.
-fn do_task<F: ImageFiles + Sources + Channels + Parts, R: Read, W: Write, E: Write>(
+fn do_task<F: Folders + Sources + Channels + Parts, R: Read, W: Write, E: Write>(
     files: &mut F,
     alloc: Global,
     job: Job<'_>,
@@ -136,10 +140,12 @@ fn do_task<F: ImageFiles + Sources + Channels + Parts, R: Read, W: Write, E: Wri
         Task::Format => format_image(files, alloc, name, sizes_of(job), job.history),
         Task::Run => run_image(files, alloc, name, job.stop, reader, out),
         Task::Put => put_from(files, alloc, name, order_of(job), reader, err),
+        Task::Create => create_image(files, alloc, name, creation_of(job), err),
         Task::History(call) => {
             let checkpoint = word_given(job.checkpoint);
             change_history(files, alloc, name, call, checkpoint, job.count)
         }
+        Task::Trim => trim_image(files, alloc, name),
         Task::Get => get_to(files, alloc, job, name, out),
         Task::Cat => tell_file(files, alloc, name, word_given(job.path), job.view, out),
         Task::Tree => tell_tree(files, alloc, name, job.view, out),
@@ -148,9 +154,17 @@ fn do_task<F: ImageFiles + Sources + Channels + Parts, R: Read, W: Write, E: Wri
             tell_differences(files, alloc, name, job.view, job.other, exit_code, out)
         }
         Task::Versions => tell_versions(files, alloc, name, out),
+        Task::Update => tell_update(files, alloc, name, word_given(job.file), out),
+        Task::Tar => tell_archive(files, alloc, name, job.view, out, err),
+        Task::Untar => {
+            let path = word_given(job.path);
+            put_archive(files, alloc, name, path, job.skip_links, reader, err)
+        }
         Task::Check => check_image(files, alloc, name, out),
         Task::Log => look_at_image(files, alloc, name, b"log\n", out),
         Task::Df => look_at_image(files, alloc, name, b"df\n", out),
+        Task::Map => tell_map(files, alloc, name, out),
+        Task::MapPage => save_map_page(files, alloc, name, word_given(job.file)),
         Task::ToPart => image_to_part(files, alloc, name, word_given(job.file)),
         Task::FromPart => part_to_image(files, alloc, word_given(job.file), name),
         Task::ToRaw => image_to_raw(files, alloc, name, word_given(job.file)),
@@ -174,6 +188,36 @@ fn order_of(job: Job<'_>) -> Order<'_>
         mirror: job.mirror,
         skip_links: job.skip_links,
         progress: job.progress,
+    }
+}
+
+/// What an image is made of.
+fn creation_of(job: Job<'_>) -> Creation<'_>
+    ensures folder { result.folder.now ≡ word_given job.entry.file }
+    ensures image { result.image ≡ image_asked job.entry }
+    ensures skips { result.skip_links ≡ job.entry.skip_links }
+{
+    Creation {
+        folder: word_given(job.file),
+        image: image_asked(job),
+        skip_links: job.skip_links,
+        progress: job.progress,
+    }
+}
+
+/// What a new image is to have.
+fn image_asked(job: Job<'_>) -> NewImage
+    ensures { result ≡ image_asked job.entry }
+{
+    NewImage {
+        page: job.page,
+        pages: job.pages,
+        blocks: if job.is_blocks_given {
+            Some(job.blocks)
+        } else {
+            None
+        },
+        history: job.history,
     }
 }
 

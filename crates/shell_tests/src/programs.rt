@@ -1,11 +1,12 @@
-//! The program, called as its `main` calls it: the statuses, what is written, and the files that it
-//! leaves.
+//! The program, called as its `main` calls it: statuses, what is written, and the files that it leaves.
 ghost use Rattle.std.specs.Prelude.{◌≡◌, codes};
 ghost use Rattle.std.specs.Str.{bytes_eq};
 
 use crate::flat_part::FlatPart;
 use crate::scripts::{Broken, Full};
-use host_files::{Channels, FileFault, ImageFiles, MOST_BYTES, Parts, Source, SourceKind, Sources};
+use host_files::{
+    Channels, FileFault, Folders, ImageFiles, MOST_BYTES, Parts, Source, SourceKind, Sources,
+};
 use image_makers::many_paths;
 use program_calls::{Wanted, call, erased_image, first_other, fresh_image, words_of};
 use shell::tool;
@@ -95,6 +96,38 @@ impl ImageFiles for OneFile {
             Err(_) => Err(FileFault::Memory),
         }
     }
+}
+
+/// No folder is made.
+impl Folders for OneFile {
+    ghost made = { λ _ _ _. ⊥ };
+
+    fn begin_folder(&mut self, _alloc: Global, name: &str) -> Result<(), FileFault> {
+        match name {
+            "wide" => Err(FileFault::Memory),
+            _ => Err(FileFault::Failed),
+        }
+    }
+
+    fn make_folder(&mut self, _alloc: Global, _name: &str, _way: &str) -> Result<(), FileFault> {
+        Err(FileFault::Failed)
+    }
+
+    fn make_file(
+        &mut self,
+        _alloc: Global,
+        _name: &str,
+        _way: &str,
+        _bytes: &[u8],
+    ) -> Result<(), FileFault> {
+        Err(FileFault::Failed)
+    }
+
+    fn finish_folder(&mut self, _alloc: Global, _name: &str) -> Result<(), FileFault> {
+        Err(FileFault::Failed)
+    }
+
+    fn give_up_folder(&mut self, _alloc: Global, _name: &str) {}
 }
 
 impl Sources for OneFile {
@@ -638,7 +671,7 @@ fn what_an_image_holds_is_told(rt: HostRuntime) -> Result<(), Fail> {
     files.bytes = fresh_image(alloc)?;
     let lines = "mkdir /d\nopen /d/f 6\npwrite 0 0 616263\nclose 0\nsync\n";
     let replies = "ok\nfd 0\nwrote 3\nok\nok\n";
-    let calls: [Wanted<'_>; 6] = [
+    let calls: [Wanted<'_>; 7] = [
         (&["run", "x"], lines, (0, replies, "")),
         (&["tree", "x"], "", (0, "/d/\n/d/f 3\n", "")),
         (&["tree", "x", "@2"], "", (0, "/d/\n", "")),
@@ -652,7 +685,16 @@ fn what_an_image_holds_is_told(rt: HostRuntime) -> Result<(), Fail> {
             "",
             (1, "", "uffs: cannot write y\n"),
         ),
-        (&["get", "x", "/d", "y"], "", (4, "", "uffs: EISDIR 3\n")),
+        (
+            &["get", "x", "/d", "y"],
+            "",
+            (1, "", "uffs: cannot write y\n"),
+        ),
+        (
+            &["get", "x", "/d", "wide"],
+            "",
+            (1, "", "uffs: ENOMEM 25\n"),
+        ),
     ];
     assert_calls(&rt, &mut files, alloc, &calls)
 }
@@ -724,11 +766,14 @@ fn trees_that_share_directories_are_counted(rt: HostRuntime) -> Result<(), Fail>
     let versions = "@1 entries 2505397588 bytes 2147483648 frees 1 alone 1\n\
         @3 entries 1879048191 bytes 1610612736 alone 1 present\n";
     let refused = (4, "", "uffs: TOOMANYLINES\n");
-    let calls: [Wanted<'_>; 7] = [
+    let calls: [Wanted<'_>; 10] = [
         (&["check", "x"], "", (0, "ok\n", "")),
         (&["versions", "x"], "", (0, versions, "")),
         (&["tree", "x"], "", refused),
         (&["tree", "x", "@1"], "", refused),
+        (&["get", "x", "/", "folder"], "", refused),
+        (&["get", "x", "/", "folder", "@1"], "", refused),
+        (&["update", "x", "x"], "", refused),
         (&["diff", "x", "@1"], "", refused),
         (&["diff", "x", "@1", "@1"], "", (0, "", "")),
         (&["diff", "x", "@3", "--exit-code"], "", (0, "", "")),

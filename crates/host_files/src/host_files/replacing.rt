@@ -1,5 +1,6 @@
 //! A file of the host that is replaced whole.
 use super::claims::{Claim, MOST_TURNS, leads_to, open_left};
+use super::new_folder::refuse_standing;
 use crate::names::new_name;
 use std::alloc::Global;
 use std::fs::{File, OpenOptions, TryLockError};
@@ -34,7 +35,7 @@ pub(super) fn replace_file<R: Files<File = File>>(
 }
 
 /// The name of the folder that a file stands in.
-fn folder_of(path: &str) -> &str {
+pub(super) fn folder_of(path: &str) -> &str {
     match Path::new(path).parent() {
         Some(folder) if !folder.as_str().is_empty() => folder.as_str(),
         _ => ".",
@@ -112,17 +113,8 @@ fn fill_and_rename<R: Files<File = File>>(
     new_file.write_all(bytes)?;
     match claim.file() {
         Some(file) => new_file.set_permissions(file.metadata()?.permissions())?,
-        None => refuse_any(rt, claim.path())?,
+        None => refuse_standing(rt, claim.path())?,
     }
     new_file.sync_all()?;
     fs::rename(rt, new_path, claim.path())
-}
-
-/// Refused where anything stands at a name.
-fn refuse_any<R: Files<File = File>>(rt: &R, path: &str) -> io::Result<()> {
-    match fs::symlink_metadata(rt, path) {
-        Ok(_) => Err(io::Error::from(ErrorKind::AlreadyExists)),
-        Err(error) if error.kind() == ErrorKind::NotFound => Ok(()),
-        Err(error) => Err(error),
-    }
 }

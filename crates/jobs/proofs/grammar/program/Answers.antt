@@ -1,7 +1,7 @@
 use Rattle.std.proofs.Common.{◌∙◌, ap, ap₂}
 use Rattle.std.proofs.lemmas.Result.{IfOk-weaker}
 use Rattle.clap.specs.Words.{App, with_subcommand}
-use Rattle.jobs.specs.Grammar.{with_about_apps, with_history_apps, with_reading_apps, with_image_apps, with_part_apps, with_raw_apps}
+use Rattle.jobs.specs.Grammar.{with_about_apps, with_archive_apps, with_history_apps, with_reading_apps, with_image_apps, with_part_apps, with_raw_apps, with_update_apps}
 use Rattle.jobs.proofs.grammar.program.Goals as goal
 
 pub returns : goal.returns
@@ -13,4 +13,7 @@ returns c =
     let serve = c.in_ok-program-5.ensures.shape c.in_ok-serve_command.ensures.local ∙ ap₂ with_subcommand memory (ap (λ (a : App). a.top) c.in_ok-serve_command.ensures.app) in
     let parts = c.in_ok-program-6.ensures ∙ ap with_part_apps serve in
     let raw = c.in_ok-program-7.ensures ∙ ap with_raw_apps parts in
-    IfOk-weaker c.with_about_commands.result _ _ (λ command is. is ∙ ap with_about_apps raw) c.with_about_commands.ensures
+    let updates = c.in_ok-program-8.ensures ∙ ap with_update_apps raw in
+    let archives = c.in_ok-program-9.ensures ∙ ap with_archive_apps updates in
+    let create = c.in_ok-program-10.ensures.shape c.in_ok-create_command.ensures.local ∙ ap₂ with_subcommand archives (ap (λ (a : App). a.top) c.in_ok-create_command.ensures.app) in
+    IfOk-weaker c.with_about_commands.result _ _ (λ command is. is ∙ ap with_about_apps create) c.with_about_commands.ensures

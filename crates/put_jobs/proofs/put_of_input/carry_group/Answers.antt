@@ -1,6 +1,6 @@
 use Rattle.std.proofs.Common.{inl}
 use Rattle.put_jobs.specs.Served.{place}
-use Rattle.put_jobs.proofs.InputLemmas.{group_carried}
+use Rattle.put_jobs.proofs.GroupLemmas.{group_carried}
 use Rattle.put_jobs.proofs.put_of_input.carry_group.Goals as goal
 
 pub returns-in-Ok : goal.returns-in-Ok

@@ -2,7 +2,8 @@ use Rattle.std.proofs.Common.{inl, inr}
 use Rattle.put_jobs.specs.Served.{place}
 use Rattle.script_runs.specs.Flashes.{IsDecoded}
 use Rattle.image_jobs.specs.Images.{DecodeCause}
-use Rattle.put_jobs.proofs.InputLemmas.{written_on, unwritten_on}
+use Rattle.put_jobs.specs.Inputs.{written}
+use Rattle.put_jobs.proofs.GroupLemmas.{written_on, unwritten_on}
 use Rattle.put_jobs.proofs.put_of_input.write_on.Goals as goal
 
 pub returns-in-Err-clause-err : goal.returns-in-Err-clause-err
@@ -22,11 +23,11 @@ returns-in-Err-mount-clause-err g c =
 pub returns-in-Ok-carry_group-clause-ok : goal.returns-in-Ok-carry_group-clause-ok
 returns-in-Ok-carry_group-clause-ok g c = (
   c.in-Ok.flash,
-  written_on (IsDecoded c.args.image.now) c.args.path c.args.bytes c.in-Ok.flash c.mount.new.flash c.in-Ok-mount.system c.carry_group.new.mounted
+  written_on (IsDecoded c.args.image.now) (written c.args.path c.args.bytes) c.in-Ok.flash c.mount.new.flash c.in-Ok-mount.system c.carry_group.new.mounted
       c.in-Ok.ensures.ok c.mount.ensures.only_reads c.in-Ok-mount.ensures.ok c.in-Ok-mount.ensures.system c.in-Ok-carry_group.ensures,
 )
 
 pub returns-in-Err-carry_group-clause-err : goal.returns-in-Err-carry_group-clause-err
 returns-in-Err-carry_group-clause-err g c =
-    unwritten_on (IsDecoded c.args.image.now) (DecodeCause c.args.image.now) c.args.path c.args.bytes c.in-Ok.flash c.mount.new.flash c.in-Ok-mount.system (place c.carry_group.new.mounted) c.in-Err-carry_group.refusal c.of_refusal.result
+    unwritten_on (IsDecoded c.args.image.now) (DecodeCause c.args.image.now) (written c.args.path c.args.bytes) c.in-Ok.flash c.mount.new.flash c.in-Ok-mount.system (place c.carry_group.new.mounted) c.in-Err-carry_group.refusal c.of_refusal.result
     c.in-Ok.ensures.ok c.mount.ensures.only_reads c.in-Ok-mount.ensures.ok c.in-Ok-mount.ensures.system c.in-Err-carry_group.ensures c.of_refusal.ensures

@@ -3,7 +3,7 @@ use Rattle.fs_types.specs.Names.{Path}
 use Rattle.host_files.specs.Files.{AreBytesRead}
 use Rattle.put_jobs.specs.Puts.{IsThing}
 use Rattle.host_files.specs.Sources.{source_found}
-use Rattle.put_jobs.specs.declared.thing.Thing.{Thing}
+use Rattle.put_lots.specs.declared.thing.Thing.{Thing}
 use Rattle.put_jobs.proofs.PutLemmas.{file_thing, folder_thing}
 use Rattle.put_jobs.proofs.thing.thing_of.Goals as goal
 

@@ -1,0 +1,2 @@
+pub mod TarLemmas
+pub mod UntarLemmas

@@ -1,0 +1,2 @@
+pub mod Tars
+pub mod Untars

@@ -1,0 +1,2 @@
+pub mod JoinedNames
+pub mod LotLemmas

@@ -1,0 +1,3 @@
+pub mod KindLemmas
+pub mod NewestRecords
+pub mod ReadLemmas

@@ -1,0 +1,5 @@
+pub mod HtmlPages
+pub mod Kinds
+pub mod Maps
+pub mod Newest
+pub mod Printed

@@ -1,0 +1,12 @@
+use Rattle.std.proofs.Common.{inl, map, refl}
+use Rattle.host_files.specs.Sources.{source_found}
+use Rattle.create_jobs.proofs.CreationLemmas.{made}
+use Rattle.create_jobs.proofs.creating.make_image.Goals as goal
+
+pub returns-in-Err-clause-ends : goal.returns-in-Err-clause-ends
+returns-in-Err-clause-ends g c = inl (c.in-Err.ensures.err, refl)
+
+pub returns-in-Ok-clause-ends : goal.returns-in-Ok-clause-ends
+returns-in-Ok-clause-ends g c =
+    made c.args.image c.args.name.now c.args.batch.now.base (map source_found c.args.batch.now.sources.items) (g.F.ImageFiles.held c.args.files.now) (g.F.ImageFiles.held c.save_image.new.files) c.in-Ok.flash c.save_image.result
+    c.in-Ok.ensures.ok c.save_image.ensures.ok c.save_image.ensures.err

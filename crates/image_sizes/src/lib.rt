@@ -1,0 +1,6 @@
+//! How many blocks an image has that is made of a folder of the host.
+#![tactic(auto)]
+
+mod blocks;
+
+pub use blocks::blocks_for;

@@ -1,0 +1,71 @@
+//! What stands in a directory, to be copied out of a tree.
+ghost use Rattle.std.specs.Prelude.{◌≡◌, ◌↔◌, IsTrue, IfOk, OnOk, IfErr};
+ghost use Rattle.fs_types.specs.declared.limits.TheConstants.{MAX_NAMES};
+ghost use Rattle.plain_trees.specs.Trees.{Tree};
+ghost use Rattle.history_machine.specs.Machine.{view_tree};
+ghost use Rattle.tree_counts.specs.Sizes.{size_of};
+ghost use Rattle.inquiries.specs.Folders.{IsSmall, Unlisted};
+ghost use Rattle.inquiries.specs.Items.{items_below, IsDirectoryOf};
+ghost use Rattle.inquiries.specs.Readings.{shown, IsUnchanged, Meets};
+
+use crate::items::{Item, add_items};
+use crate::reading::size_of_tree;
+use crate::tell_fault::{MAX_LINES, TellFault};
+use flash_model::Flash;
+use fs_types::{Fault, MAX_NAMES, Path, View};
+use std::alloc::Global;
+use undofs::{Fs, TreeSize};
+
+/// The most bytes that the files of a tree have of which something is copied out: as many as a flash has.
+/// No two files that calls made share a block.
+pub const MAX_TREE_BYTES: u64 = 67_108_864;
+
+/// All that stands below a directory of a view: a directory before what stands in it, and names in byte
+/// order. [`TellFault::TooManyLines`] where the whole tree has over [`MAX_LINES`] directories and files,
+/// or over [`MAX_TREE_BYTES`] bytes in these: that is counted by node before it is walked. Else
+/// [`Fault::ReadFailed`], [`Fault::PowerCut`] and [`Fault::NoMemory`] may come.
+pub fn list_folder<F: Flash>(
+    alloc: Global,
+    fs: &mut Fs<'_, F>,
+    view: &View,
+    directory: &Path,
+) -> Result<Vec<Item>, TellFault>
+    requires { IsDirectoryOf (shown fs.old) view.now directory.now }
+    ensures same { IsUnchanged fs.old fs.new }
+    ensures small { OnOk result (IsSmall (view_tree (shown fs.old) view.now)) }
+    ensures ok { IfOk result (λ items. items.items ≡ items_below (view_tree (shown fs.old) view.now) MAX_NAMES directory.now) }
+    ensures err { IfErr result (Unlisted (view_tree (shown fs.old) view.now) fs.old fs.new) }
+{
+    let size = size_of_tree(alloc, fs, view)?;
+    if !is_small(size) {
+        return Err(TellFault::TooManyLines);
+    }
+    Ok(list_below(alloc, fs, view, directory)?)
+}
+
+/// Whether a tree is small enough that something is copied out of it.
+fn is_small(size: TreeSize) -> bool
+    ensures { (t : Tree) → size ≡ size_of t → IsTrue result ↔ IsSmall t }
+{
+    match (size.entries, size.bytes) {
+        (Some(entries), Some(bytes)) => entries <= MAX_LINES && bytes <= MAX_TREE_BYTES,
+        _ => false,
+    }
+}
+
+/// All that stands below a directory of a view.
+fn list_below<F: Flash>(
+    alloc: Global,
+    fs: &mut Fs<'_, F>,
+    view: &View,
+    directory: &Path,
+) -> Result<Vec<Item>, Fault>
+    requires { IsDirectoryOf (shown fs.old) view.now directory.now }
+    ensures same { IsUnchanged fs.old fs.new }
+    ensures ok { IfOk result (λ items. items.items ≡ items_below (view_tree (shown fs.old) view.now) MAX_NAMES directory.now) }
+    ensures err { IfErr result (Meets (F.device fs.old.flash.now) (F.device fs.new.flash.now)) }
+{
+    let mut items = Vec::new(alloc);
+    add_items(alloc, fs, view, directory, MAX_NAMES, &mut items)?;
+    Ok(items)
+}

@@ -1,0 +1,7 @@
+use Rattle.std.specs.Prelude.{IfSome}
+use Rattle.flash_model.specs.Simulation.{device_of}
+use Rattle.system.specs.Systems.{IsSystem}
+use Rattle.put_jobs.proofs.refused.tell_lot.Given as goal
+
+abbrev pub invariant-loop-file : goal.invariant-loop-file
+invariant-loop-file g l = IfSome l.mounted.system (IsSystem (device_of l.mounted.flash))

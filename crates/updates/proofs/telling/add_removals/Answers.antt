@@ -1,0 +1,41 @@
+use Rattle.std.proofs.Common.{◌≡◌, ◌∙◌, ◌++◌, List, take, sym, ap, subst, append-nil, arith}
+use Rattle.std.proofs.lemmas.List.{take_all}
+use Rattle.std.proofs.lemmas.Result.{err_from_is_err_and}
+use Rattle.std.specs.List.{flat_map}
+use Rattle.history_machine.specs.Machine.{Machine, working_tree}
+use Rattle.inquiries.specs.Items.{IsItemOf}
+use Rattle.inquiries.specs.Readings.{shown}
+use Rattle.inquiries.specs.declared.items.Item.{Item}
+use Rattle.inquiries.proofs.Readings.{unchanged-refl, unchanged-trans, meets-later}
+use Rattle.updates.specs.Lines.{removal_lines}
+use Rattle.updates.proofs.TellLemmas.{items_more}
+use Rattle.updates.proofs.telling.add_removals.Goals as goal
+
+pub loop-item-init : goal.loop-item-init
+loop-item-init g c = (unchanged-refl c.args.second.now, λ t all. sym (append-nil c.args.out.now.items))
+
+pub returns-in_err-add_removal-clause-same : goal.returns-in_err-add_removal-clause-same
+returns-in_err-add_removal-clause-same g c = unchanged-trans c.args.second.now c.loop-item.second c.add_removal.new.second c.loop-item.invariant.0 c.add_removal.ensures.same
+
+pub returns-in_err-add_removal-clause-err : goal.returns-in_err-add_removal-clause-err
+returns-in_err-add_removal-clause-err g c =
+    let p = err_from_is_err_and c.from_residual.result c.from_residual.ensures.1 in
+    rw (p.1, p.2) (meets-later c.args.second.now c.loop-item.second c.add_removal.new.second c.in_err-add_removal.field-0.0 c.loop-item.invariant.0 c.in_err-add_removal.ensures.err)
+
+pub loop-item-preserved : goal.loop-item-preserved
+loop-item-preserved g c =
+    let m = shown c.args.second.now in (
+      unchanged-trans c.args.second.now c.loop-item.second c.add_removal.new.second c.loop-item.invariant.0 c.add_removal.ensures.same,
+      λ t all.
+          let there : IsItemOf t c.item-item.result = subst (IsItemOf t) (sym c.item-item.is) (all c.loop-item.item-index c.item-item.result c.loop-item-test.true) in
+          let one : c.add_removal.new.out.items ≡ c.loop-item.out.items ++ removal_lines t (working_tree m) c.item-item.result =
+          subst (λ (k : Machine). c.add_removal.new.out.items ≡ c.loop-item.out.items ++ removal_lines t (working_tree k) c.item-item.result) c.loop-item.invariant.0.machine (c.in_ok-add_removal.ensures.ok t there) in
+          items_more (removal_lines t (working_tree m)) c.args.olds.now c.loop-item.item-index c.item-item.result c.args.out.now.items c.loop-item.out.items c.add_removal.new.out.items
+          c.loop-item-test.true c.item-item.is (c.loop-item.invariant.1 t all) one,
+    )
+
+pub returns-clause-ok : goal.returns-clause-ok
+returns-clause-ok g c = λ t all.
+    let past = c.loop-item-test.false in
+    let whole : take c.loop-item.item-index c.args.olds.now ≡ c.args.olds.now = take_all c.loop-item.item-index c.args.olds.now (omega (arith, past)) in
+    c.loop-item.invariant.1 t all ∙ ap (λ (items : List Item). c.args.out.now.items ++ flat_map (removal_lines t (working_tree (shown c.args.second.now))) items) whole

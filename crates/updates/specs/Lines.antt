@@ -1,0 +1,54 @@
+-- The lines of an update.
+use Rattle.std.specs.Prelude.{◌≡◌, ℕ, List, [], ◌∷◌, ◌++◌, codes, decimal, map, Some}
+use Rattle.std.specs.List.{flat_map}
+use Rattle.hex.specs.Hex.{encode_lower}
+use Rattle.fs_types.specs.Names.{Path}
+use Rattle.fs_types.specs.declared.call.Call.{Call}
+use Rattle.plain_trees.specs.Contents.{Entry}
+use Rattle.plain_trees.specs.Trees.{Tree}
+use Rattle.inquiries.specs.Items.{items_of}
+use Rattle.inquiries.specs.Printed.{path_text}
+use Rattle.inquiries.specs.declared.items.Item.{Item}
+use Rattle.tree_updates.specs.Updates.{making, making_at, paths_of, removal_at, update_calls}
+
+-- data as a word of a script
+abbrev pub data_word : List ℕ → List ℕ
+data_word [] = codes "-"
+data_word (b ∷ bytes) = encode_lower (b ∷ bytes)
+
+-- the line of a script that asks for a call of an update
+abbrev pub call_line : Call → List ℕ
+call_line Call.Begin = codes "begin\n"
+call_line Call.End = codes "end\n"
+call_line Call.Sync = codes "sync\n"
+call_line (Call.Mkdir path) = codes "mkdir " ++ path_text path ++ codes "\n"
+call_line (Call.Rmdir path) = codes "rmdir " ++ path_text path ++ codes "\n"
+call_line (Call.Unlink path) = codes "unlink " ++ path_text path ++ codes "\n"
+call_line (Call.WriteFile path bytes) = codes "write " ++ path_text path ++ codes " " ++ data_word bytes ++ codes "\n"
+call_line (Call.Open path flags) = codes "open " ++ path_text path ++ codes " " ++ decimal flags.0 ++ codes "\n"
+call_line (Call.Pwrite descriptor offset bytes) = codes "pwrite " ++ decimal descriptor ++ codes " " ++ decimal offset ++ codes " " ++ data_word bytes ++ codes "\n"
+call_line (Call.Close descriptor) = codes "close " ++ decimal descriptor ++ codes "\n"
+call_line _ = []
+
+-- the lines of calls
+abbrev pub lines_of : List Call → List ℕ
+lines_of calls = flat_map call_line calls
+
+-- those of what stands at a path in the old tree, where it goes, and in the new one, where it is new or changed
+abbrev pub removal_lines : Tree → Tree → Item → List ℕ
+removal_lines old new item = lines_of (removal_at old new item.path)
+
+abbrev pub making_lines : Tree → Tree → Item → List ℕ
+making_lines old new item = lines_of (making_at old new item.path)
+
+-- the calls for a file of both trees
+abbrev pub changed_file : Path → List ℕ → List ℕ → List Call
+changed_file path bytes others = making path (Some (Entry.File bytes)) (Some (Entry.File others))
+
+-- the script that brings one tree to another
+abbrev pub update_text : Tree → Tree → List ℕ
+update_text old new = lines_of (update_calls old new)
+
+-- what is told of all that stands in a tree names the paths by which an update goes
+abbrev pub PathsLaw : Type 0
+PathsLaw = (t : Tree) → map (λ (item : Item). item.path) (items_of t) ≡ paths_of t

@@ -7,6 +7,7 @@ use flash_model::Counters;
 use fs_types::{Answer, Call, Event, Fault};
 use session_oracle::{Causes, Oracle, has_fewer_free, show};
 use std::alloc::Global;
+use undofs::{Ask, Told};
 
 /// A session that the oracle watches.
 #[derive(Drop)]
@@ -22,9 +23,9 @@ pub struct Run<'a> {
     mounted_after: Counters,
 }
 
-/// What came of an event.
+/// What came of what was asked.
 enum Went {
-    /// It was answered as it may be.
+    /// It may be told.
     Well,
     /// Power went.
     Cut,
@@ -88,14 +89,14 @@ impl<'a> Run<'a> {
     }
 
     /// Does what comes after a script, and restarts. Whether all of it is a run.
-    pub fn play_later(&mut self, alloc: Global, events: &'a [Event]) -> Result<bool, Fault> {
-        Ok(self.play(alloc, events)? && self.restart(alloc)?)
+    pub fn play_later(&mut self, alloc: Global, asks: &'a [Ask]) -> Result<bool, Fault> {
+        Ok(self.play(alloc, asks)? && self.restart(alloc)?)
     }
 
-    /// Carries out events up to a cut. Whether each is answered as it may be.
-    pub fn play(&mut self, alloc: Global, events: &'a [Event]) -> Result<bool, Fault> {
-        for event in events {
-            match self.turn(alloc, event)? {
+    /// Asks up to a cut. Whether all that is told may be.
+    pub fn play(&mut self, alloc: Global, asks: &'a [Ask]) -> Result<bool, Fault> {
+        for ask in asks {
+            match self.turn(alloc, ask)? {
                 Went::Well => {}
                 Went::Cut => return Ok(true),
                 Went::Wrong => return Ok(false),
@@ -104,21 +105,21 @@ impl<'a> Run<'a> {
         Ok(true)
     }
 
-    /// Carries out an event.
-    fn turn(&mut self, alloc: Global, event: &'a Event) -> Result<Went, Fault> {
+    /// Asks.
+    fn turn(&mut self, alloc: Global, ask: &'a Ask) -> Result<Went, Fault> {
         let before = self.session.counts();
-        let answer = self.server.serve(alloc, &mut self.session, event);
+        let told = self.server.serve(alloc, &mut self.session, ask);
         let is_quiet = self.session.counts() == before;
-        if !self.is_told(&answer) || asks_nothing(event) && !is_quiet {
+        let is_off = is_refused(&told, Fault::PowerCut);
+        if is_off != self.is_cut() || asks_nothing(ask) && !is_quiet {
             return Ok(Went::Wrong);
         }
-        let is_off = is_power_cut(&answer);
         let causes = Causes {
             cut: is_off,
-            full: self.is_full(alloc, event, &answer)?,
+            full: self.is_full(alloc, ask, &told)?,
             ..Causes::default()
         };
-        if !self.oracle.judge(alloc, event, answer, causes)? {
+        if !self.oracle.judge(alloc, ask, told, causes)? {
             return Ok(Went::Wrong);
         }
         Ok(self.went(is_off))
@@ -126,13 +127,13 @@ impl<'a> Run<'a> {
 
     /// Mounts for the first time.
     fn mount(&mut self, alloc: Global) -> Went {
-        let answer = self.server.serve(alloc, &mut self.session, &Event::Restart);
+        let answer = self.session.restart(alloc);
         let is_off = is_power_cut(&answer);
         let causes = Causes {
             cut: is_off,
             ..Causes::default()
         };
-        if !self.is_told(&answer) || !self.oracle.judge_mount(&answer, causes) {
+        if is_off != self.is_cut() || !self.oracle.judge_mount(&answer, causes) {
             return Went::Wrong;
         }
         self.went(is_off)
@@ -146,13 +147,13 @@ impl<'a> Run<'a> {
         Went::Well
     }
 
-    /// Whether a call was answered that the flash is full where fewer blocks are free than it needs.
-    /// Power may go where that is asked; the next answer tells it then.
-    fn is_full(&mut self, alloc: Global, event: &Event, answer: &Answer) -> Result<bool, Fault> {
-        if !matches!(answer, Answer::Refused(Fault::FlashFull)) {
+    /// Whether it was told that the flash is full where fewer blocks are free than are needed. Power may
+    /// go where that is asked; the next answer tells it then.
+    fn is_full(&mut self, alloc: Global, ask: &Ask, told: &Told) -> Result<bool, Fault> {
+        if !is_refused(told, Fault::FlashFull) {
             return Ok(false);
         }
-        let need = self.oracle.need(alloc, event)?;
+        let need = self.oracle.need(alloc, ask)?;
         match has_fewer_free(alloc, &mut self.session, need) {
             Err(Fault::PowerCut) if self.is_cut() => Ok(true),
             is_full => is_full,
@@ -163,12 +164,12 @@ impl<'a> Run<'a> {
     /// that a restart may find.
     fn restart(&mut self, alloc: Global) -> Result<bool, Fault> {
         self.take_cut();
-        let mut answer = self.server.serve(alloc, &mut self.session, &Event::Restart);
-        if !self.is_told(&answer) {
+        let mut answer = self.session.restart(alloc);
+        if is_power_cut(&answer) != self.is_cut() {
             return Ok(false);
         }
         if self.take_cut() {
-            answer = self.server.serve(alloc, &mut self.session, &Event::Restart);
+            answer = self.session.restart(alloc);
         }
         self.mounted_after = self.session.counts();
         if !matches!(answer, Answer::Mounted) {
@@ -179,11 +180,6 @@ impl<'a> Run<'a> {
             Err(Fault::NoMemory) => Err(Fault::NoMemory),
             Err(_) => Ok(false),
         }
-    }
-
-    /// Whether an answer tells that power went, if the planned cut has come, and only then.
-    fn is_told(&self, answer: &Answer) -> bool {
-        is_power_cut(answer) == self.is_cut()
     }
 
     /// Whether the planned cut has come.
@@ -205,12 +201,20 @@ impl<'a> Run<'a> {
     }
 }
 
-/// Whether an event asks nothing of the flash.
-fn asks_nothing(event: &Event) -> bool {
+/// Whether what is asked asks nothing of the flash.
+fn asks_nothing(ask: &Ask) -> bool {
     matches!(
-        event,
-        Event::Call(Call::Undo | Call::Redo | Call::Goto { .. } | Call::Close { .. })
+        ask,
+        Ask::Event(Event::Call(Call::Undo | Call::Redo | Call::Goto { .. } | Call::Close { .. }))
     )
+}
+
+/// Whether it is told that what was asked is refused so.
+fn is_refused(told: &Told, wanted: Fault) -> bool {
+    match told {
+        Told::Answer(Answer::Refused(fault)) => *fault == wanted,
+        _ => false,
+    }
 }
 
 fn is_power_cut(answer: &Answer) -> bool {

@@ -1,9 +1,10 @@
-//! Who carries out the events: the file system, or one that is wrong on purpose.
+//! Who does what is asked: the file system, or one that is wrong on purpose.
 use crate::sessions::Session;
 use fs_types::{Answer, Call, Event, Reply};
 use std::alloc::Global;
+use undofs::{Ask, Told};
 
-/// Who carries out the events.
+/// Who does what is asked.
 #[derive(Clone, Copy)]
 pub enum Server {
     /// The file system.
@@ -15,29 +16,29 @@ pub enum Server {
 }
 
 impl Server {
-    /// Carries out an event.
-    pub fn serve(self, alloc: Global, session: &mut Session, event: &Event) -> Answer {
+    /// Does what is asked.
+    pub fn serve(self, alloc: Global, session: &mut Session, ask: &Ask) -> Told {
         match self {
-            Server::Right => session.serve(alloc, event),
+            Server::Right => session.serve(alloc, ask),
             Server::SyncsNothing => {
-                if session.is_mounted() && is_sync(event) {
-                    return Answer::Done(Reply::Empty);
+                if session.is_mounted() && is_sync(ask) {
+                    return Told::Answer(Answer::Done(Reply::Empty));
                 }
-                session.serve(alloc, event)
+                session.serve(alloc, ask)
             }
             Server::ErasesNewest => {
-                let answer = session.serve(alloc, event);
-                if is_sync(event) && matches!(answer, Answer::Done(_)) {
-                    return erase_newest(alloc, session);
+                let told = session.serve(alloc, ask);
+                if is_sync(ask) && matches!(told, Told::Answer(Answer::Done(_))) {
+                    return Told::Answer(erase_newest(alloc, session));
                 }
-                answer
+                told
             }
         }
     }
 }
 
-fn is_sync(event: &Event) -> bool {
-    matches!(event, Event::Call(Call::Sync))
+fn is_sync(ask: &Ask) -> bool {
+    matches!(ask, Ask::Event(Event::Call(Call::Sync)))
 }
 
 /// Writes the newest record anew, and answers as a sync does.

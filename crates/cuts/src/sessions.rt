@@ -2,7 +2,7 @@
 ghost use Rattle.std.specs.Prelude.{IfSome};
 ghost use Rattle.flash_model.specs.Simulation.{device_of};
 ghost use Rattle.system.specs.Systems.{IsSystem};
-ghost use Rattle.cuts.specs.Props.{seat-prop};
+ghost use Rattle.session_oracle.specs.Props.{seat-prop};
 
 use crate::newest::write_newest_anew;
 use crate::planned::Cut;
@@ -10,7 +10,7 @@ use flash_model::{Counters, Planned, SimFlash};
 use fs_types::{Answer, Call, Event, Fault, Reply};
 use session_oracle::{Shows, flash_of};
 use std::alloc::Global;
-use undofs::{System, serve};
+use undofs::{Ask, System, Told, serve, serve_ask};
 
 /// A flash, with the system that is mounted on it, if one is.
 #[derive(Drop)]
@@ -48,16 +48,21 @@ impl Session {
         self.system.is_some()
     }
 
-    /// Carries out an event.
-    pub fn serve(&mut self, alloc: Global, event: &Event) -> Answer {
-        serve(alloc, &mut self.flash, &mut self.system, event)
+    /// Does what is asked.
+    pub fn serve(&mut self, alloc: Global, ask: &Ask) -> Told {
+        serve_ask(alloc, &mut self.flash, &mut self.system, ask)
+    }
+
+    /// Puts the power on, and mounts the newest record.
+    pub fn restart(&mut self, alloc: Global) -> Answer {
+        serve(alloc, &mut self.flash, &mut self.system, &Event::Restart)
     }
 
     /// Erases the anchor of the newest record, writes that record at its beginning, and mounts it.
     pub fn write_newest_anew(&mut self, alloc: Global) -> Answer {
         self.system = None;
         match write_newest_anew(alloc, &mut self.flash) {
-            Ok(()) => self.serve(alloc, &Event::Restart),
+            Ok(()) => self.restart(alloc),
             Err(fault) => Answer::Refused(fault),
         }
     }

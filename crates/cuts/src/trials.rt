@@ -1,7 +1,8 @@
 //! A script that is tried.
 use fs_types::{Call, Event, Fault};
-use session_oracle::{Script, event_of, events_of, new_image};
+use session_oracle::{Script, ask_of, asks_of, new_image};
 use std::alloc::Global;
+use undofs::Ask;
 
 /// A script that is tried, and what is done after it.
 #[derive(Drop)]
@@ -10,59 +11,59 @@ pub struct Trial {
     pub image: Vec<u8>,
     /// How many versions are kept.
     pub history: usize,
-    /// Its calls and steps of reclaiming, without its restarts and faults.
-    pub script: Vec<Event>,
+    /// What its lines ask, without its restarts and faults.
+    pub script: Vec<Ask>,
     /// A change and a sync.
-    pub change: Vec<Event>,
+    pub change: Vec<Ask>,
     /// Undo to the front, redo to the end, a rollback to each checkpoint of the script, a change and a
     /// sync.
-    pub later: Vec<Event>,
+    pub later: Vec<Ask>,
 }
 
 impl Trial {
     /// Reads a script.
     pub fn new(alloc: Global, script: &Script<'_>) -> Result<Trial, Fault> {
         let lines = script.served_lines(alloc)?;
-        let events = events_of(alloc, &lines)?;
+        let asks = asks_of(alloc, &lines)?;
         Ok(Trial {
             image: new_image(alloc, script)?,
             history: script.history as usize,
-            later: later_events(alloc, script.history, &events)?,
-            change: events_of(alloc, &["mkdir /z", "sync"])?,
-            script: events,
+            later: later_asks(alloc, script.history, &asks)?,
+            change: asks_of(alloc, &["mkdir /z", "sync"])?,
+            script: asks,
         })
     }
 }
 
 /// What is done after a script that keeps so many versions.
-fn later_events(alloc: Global, history: u32, script: &[Event]) -> Result<Vec<Event>, Fault> {
+fn later_asks(alloc: Global, history: u32, script: &[Ask]) -> Result<Vec<Ask>, Fault> {
     let mut later = Vec::new(alloc);
     for line in ["undo", "redo"] {
         for _ in 0..history {
             push_lines(alloc, &mut later, &[line, "ls /"])?;
         }
     }
-    for event in script {
-        push_rollback(alloc, &mut later, event)?;
+    for ask in script {
+        push_rollback(alloc, &mut later, ask)?;
     }
     push_lines(alloc, &mut later, &["mkdir /y", "sync"])?;
     Ok(later)
 }
 
-/// Appends a rollback to the checkpoint that an event makes.
-fn push_rollback(alloc: Global, later: &mut Vec<Event>, event: &Event) -> Result<(), Fault> {
-    if let Event::Call(Call::Checkpoint { name }) = event {
+/// Appends a rollback to the checkpoint that is asked for.
+fn push_rollback(alloc: Global, later: &mut Vec<Ask>, ask: &Ask) -> Result<(), Fault> {
+    if let Ask::Event(Event::Call(Call::Checkpoint { name })) = ask {
         let name = name.clone()?;
-        later.push(Event::Call(Call::Rollback { name }))?;
+        later.push(Ask::Event(Event::Call(Call::Rollback { name })))?;
         push_lines(alloc, later, &["ls /"])?;
     }
     Ok(())
 }
 
-fn push_lines(alloc: Global, events: &mut Vec<Event>, lines: &[&str]) -> Result<(), Fault> {
+fn push_lines(alloc: Global, asks: &mut Vec<Ask>, lines: &[&str]) -> Result<(), Fault> {
     for line in lines {
-        let event = event_of(alloc, line)?.ok_or(Fault::Invalid)?;
-        events.push(event)?;
+        let ask = ask_of(alloc, line)?.ok_or(Fault::Invalid)?;
+        asks.push(ask)?;
     }
     Ok(())
 }

@@ -43,7 +43,11 @@ fn run<R: Files + AllocGlobal + Print>(rt: &R, name: &str) -> Result<u64> {
 fn is_only_read(name: &str) -> bool {
     matches!(
         name,
-        "full_flash.row" | "undo_redo.row" | "group_makes_room.row"
+        "full_flash.row"
+            | "undo_redo.row"
+            | "group_makes_room.row"
+            | "free_blocks_are_cleaned.row"
+            | "forget_until_free.row"
     )
 }
 

@@ -1,5 +1,5 @@
 //! Each read of a script fails once.
-use crate::runs::{Failure, count, flash_with, push_line, replies};
+use crate::runs::{Failure, Session, count, push_line};
 use flash_model::FaultKind;
 use fs_types::Fault;
 use session_oracle::{Script, new_image};
@@ -76,9 +76,9 @@ fn fail_read(
         kind: FaultKind::ReadFail,
         number,
     };
-    let mut flash = flash_with(alloc, image, failure)?;
-    let Some(told) = replies(alloc, &mut flash, lines)? else {
-        let told = replies(alloc, &mut flash, lines)?;
+    let mut session = Session::new(alloc, image, Some(failure))?;
+    let Some(told) = session.replies(alloc, lines)? else {
+        let told = session.replies(alloc, lines)?;
         return Ok(if_same(
             told.as_deref(),
             &replies_of(alloc, script, None)?,
@@ -89,8 +89,8 @@ fn fail_read(
         return Ok(if_same(Some(&told), &replies_of(alloc, script, None)?, Went::Well));
     };
     let again = lines_of(alloc, script, Some(place))?;
-    let mut flash = flash_with(alloc, image, failure)?;
-    let told = replies(alloc, &mut flash, &again)?;
+    let mut session = Session::new(alloc, image, Some(failure))?;
+    let told = session.replies(alloc, &again)?;
     Ok(if_same(
         told.as_deref(),
         &replies_of(alloc, script, Some(place))?,

@@ -1,9 +1,16 @@
 //! Runs of lines on the flash of an image, with an operation that fails.
+ghost use Rattle.std.specs.Prelude.{IfSome};
+ghost use Rattle.flash_model.specs.Simulation.{device_of};
+ghost use Rattle.session_oracle.specs.Props.{seat-prop};
+ghost use Rattle.system.specs.Systems.{IsSystem};
+
 use flash_model::{Counters, FaultKind, Planned, SimFlash};
-use fs_types::Fault;
-use script_runs::{ScriptFault, run_script};
-use session_oracle::flash_of;
+use fs_types::{Answer, Fault};
+use script::{Line, LineAnswer, print_answer};
+use script_runs::carry_out;
+use session_oracle::{flash_of, line_of};
 use std::alloc::{AllocError, Global};
+use undofs::System;
 
 /// A failure: how, and of which operation of its class.
 #[derive(Clone, Copy)]
@@ -22,35 +29,62 @@ impl Failure {
     }
 }
 
-/// The flash of an image of which an operation will fail.
-pub fn flash_with(alloc: Global, image: &[u8], failure: Failure) -> Result<SimFlash, Fault> {
-    let mut flash = flash_of(alloc, image)?;
-    failure.plan(&mut flash)?;
-    Ok(flash)
+/// A flash, with the system that is mounted on it, if one is.
+#[derive(Drop)]
+pub struct Session {
+    flash: SimFlash,
+    system: Option<System>,
+    ghost mounted: { IfSome system (IsSystem (device_of flash)) } by { seat-prop (device_of flash) system },
 }
 
-/// What lines are answered on a flash; none where no system could be mounted for a failed read.
-pub fn replies(alloc: Global, flash: &mut SimFlash, lines: &str) -> Result<Option<String>, Fault> {
-    let mut reader = lines.as_bytes();
-    let mut written: Vec<u8> = Vec::new(alloc);
-    match run_script(alloc, &mut reader, &mut written, flash) {
-        Ok(()) => Ok(Some(text_of(written)?)),
-        Err(ScriptFault::Mount(Fault::ReadFailed)) => Ok(None),
-        Err(ScriptFault::Mount(fault)) => Err(fault),
-        Err(_) => Err(Fault::NoMemory),
+impl Session {
+    /// The flash of an image of which an operation will fail, if one is to. Nothing is mounted.
+    pub fn new(alloc: Global, image: &[u8], failure: Option<Failure>) -> Result<Session, Fault> {
+        let mut flash = flash_of(alloc, image)?;
+        if let Some(failure) = failure {
+            failure.plan(&mut flash)?;
+        }
+        Ok(Session {
+            flash,
+            system: None,
+        })
     }
-}
 
-fn text_of(written: Vec<u8>) -> Result<String, Fault> {
-    String::from_utf8(written).map_err(|_| Fault::Invalid)
+    /// How many operations there were since the flash was made.
+    pub fn counts(&self) -> Counters {
+        self.flash.counts()
+    }
+
+    /// Mounts, and tells what lines are answered then; none where no system could be mounted for a failed
+    /// read.
+    pub fn replies(&mut self, alloc: Global, lines: &str) -> Result<Option<String>, Fault> {
+        match self.carry_out(alloc, Line::Restart) {
+            LineAnswer::Told(Answer::Mounted) => Ok(Some(self.replies_to(alloc, lines)?)),
+            LineAnswer::Told(Answer::Refused(Fault::ReadFailed)) => Ok(None),
+            LineAnswer::Told(Answer::Refused(fault)) => Err(fault),
+            _ => Err(Fault::Invalid),
+        }
+    }
+
+    fn replies_to(&mut self, alloc: Global, lines: &str) -> Result<String, Fault> {
+        let mut written = Vec::new(alloc);
+        for line in lines.lines() {
+            let line = line_of(alloc, line)?;
+            print_answer(&mut written, &self.carry_out(alloc, line))?;
+        }
+        String::from_utf8(written).map_err(|_| Fault::Invalid)
+    }
+
+    fn carry_out(&mut self, alloc: Global, line: Line) -> LineAnswer {
+        carry_out(alloc, &mut self.flash, &mut self.system, line)
+    }
 }
 
 /// How many operations lines ask where none fails, and what they are answered.
 pub fn count(alloc: Global, image: &[u8], lines: &str) -> Result<(Counters, String), Fault> {
-    let mut flash = flash_of(alloc, image)?;
-    let told = replies(alloc, &mut flash, lines)?;
-    match told {
-        Some(told) => Ok((flash.counts(), told)),
+    let mut session = Session::new(alloc, image, None)?;
+    match session.replies(alloc, lines)? {
+        Some(told) => Ok((session.counts(), told)),
         None => Err(Fault::ReadFailed),
     }
 }

@@ -1,8 +1,9 @@
-//! The calls that are asked of what is mounted.
-use fs_types::{Event, Fault};
+//! The calls and steps that are asked of what is mounted.
+use fs_types::Fault;
 use image_makers::Numbers;
-use session_oracle::event_of;
+use session_oracle::{ask_of, asks_of};
 use std::alloc::{AllocError, Global};
+use undofs::Ask;
 
 /// How many calls are asked.
 const CALLS: u64 = 20;
@@ -52,6 +53,29 @@ const LINES: [&str; 40] = [
     "reclaim 2",
 ];
 
+/// Lines that are asked after these, in this order: of what the history keeps and of versions that are
+/// forgotten for their blocks, of many files, of entries and of cleaning, and changes that write over what
+/// was cleaned.
+const LATER: [&str; 17] = [
+    "df",
+    "space",
+    "forgetfree 9",
+    "df",
+    "space",
+    "files / f 6162 g -",
+    "entries / - 9",
+    "clean 3",
+    "files /a g 636465 h 00",
+    "clean 99",
+    "mkdir /c",
+    "files /c f 66",
+    "entries /a g 2 =v",
+    "clean 99",
+    "df",
+    "space",
+    "forgetfree 99",
+];
+
 const DIRECTORIES: [&str; 8] = [
     "/",
     "/a",
@@ -78,14 +102,19 @@ const SERIALS: [&str; 8] = [
 
 const PLACES: [&str; 5] = ["0", "1", "3", "4016", "16777216"];
 
+/// What is asked of each image after its calls.
+pub fn later_asks(alloc: Global) -> Result<Vec<Ask>, Fault> {
+    asks_of(alloc, &LATER)
+}
+
 /// The calls of an image, drawn by numbers.
-pub fn draw_calls(alloc: Global, numbers: &mut Numbers) -> Result<Vec<Event>, Fault> {
-    let mut events = Vec::new(alloc);
+pub fn draw_calls(alloc: Global, numbers: &mut Numbers) -> Result<Vec<Ask>, Fault> {
+    let mut asks = Vec::new(alloc);
     for _ in 0..CALLS {
         let line = draw_line(alloc, numbers)?;
-        events.push(event_of(alloc, line.as_str())?.ok_or(Fault::Invalid)?)?;
+        asks.push(ask_of(alloc, line.as_str())?.ok_or(Fault::Invalid)?)?;
     }
-    Ok(events)
+    Ok(asks)
 }
 
 fn draw_line(alloc: Global, numbers: &mut Numbers) -> Result<String, AllocError> {

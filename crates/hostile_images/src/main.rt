@@ -1,9 +1,11 @@
 //! Mounts images of flashes that are made by a fixed rule, lawful and not, and asks twenty calls of
-//! each that mounts. A mount is refused only for what the newest record or its trees are; each tree
-//! that is mounted is whole; each answer is what a plain machine says that begins with what the mount
-//! shows, or one of the further refusals with its cause; and what is shown after the calls, and after
-//! a restart then, is what that machine keeps. For each kind of image it prints what became of them. An
-//! image with which something else is met is told, and the status is 1.
+//! each that mounts, and then what its history keeps, many files in one call, entries and steps of cleaning.
+//! A mount is refused
+//! only for what the newest record or its trees are; each tree that is mounted is whole; each answer is
+//! what a plain machine says that begins with what the mount shows, or one of the further refusals with
+//! its cause; and what is shown after all of it, and after a restart then, is what that machine keeps. For
+//! each kind of image it prints what became of them, and of the twenty calls. An image with which
+//! something else is met is told, and the status is 1.
 #![tactic(auto)]
 
 mod facts;
@@ -15,11 +17,11 @@ mod wrong;
 
 use anyhow::Result;
 use image_makers::{KINDS, Kind, Numbers};
-use lines::draw_calls;
+use lines::{draw_calls, later_asks};
 use std::alloc::Global;
 use std::process::ExitCode;
 use tallies::{Tally, add};
-use trials::try_image;
+use trials::{Asked, try_image};
 use wrong::Wrong;
 
 /// How many images of each kind are made.
@@ -61,7 +63,12 @@ fn try_number(alloc: Global, kind: Kind, number: u64, tally: &mut Tally) -> Resu
     let mut numbers = Numbers::of(number);
     let image = kind.image(alloc, &mut numbers)?;
     let calls = draw_calls(alloc, &mut numbers)?;
-    try_image(alloc, &image, &calls, tally)
+    let later = later_asks(alloc)?;
+    let asked = Asked {
+        calls: &calls,
+        later: &later,
+    };
+    try_image(alloc, &image, asked, tally)
 }
 
 /// Tells what became of the images of a kind.

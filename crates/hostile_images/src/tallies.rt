@@ -1,5 +1,6 @@
 //! What is counted.
 use fs_types::{Answer, Fault};
+use undofs::Told;
 
 /// What became of images, and of the calls on those that mounted.
 #[derive(Clone, Copy, Default)]
@@ -31,14 +32,20 @@ impl Tally {
         }
     }
 
-    /// Counts the answer to a call.
-    pub fn add_answer(&mut self, answer: &Answer) {
-        match answer {
-            Answer::Refused(Fault::FlashFull) => add(&mut self.full, 1),
-            Answer::Refused(Fault::ReadOnly) => add(&mut self.read_only, 1),
-            Answer::Refused(Fault::Overflow) => add(&mut self.exhausted, 1),
-            Answer::Refused(_) => add(&mut self.refused, 1),
+    /// Counts what was told.
+    pub fn add_told(&mut self, told: &Told) {
+        match told {
+            Told::Answer(Answer::Refused(fault)) => self.add_refused(*fault),
             _ => add(&mut self.accepted, 1),
+        }
+    }
+
+    fn add_refused(&mut self, fault: Fault) {
+        match fault {
+            Fault::FlashFull => add(&mut self.full, 1),
+            Fault::ReadOnly => add(&mut self.read_only, 1),
+            Fault::Overflow => add(&mut self.exhausted, 1),
+            _ => add(&mut self.refused, 1),
         }
     }
 

@@ -5,22 +5,30 @@ use crate::watches::Watch;
 use crate::wrong::Wrong;
 use flash_image::decode;
 use flash_model::SimFlash;
-use fs_types::{Event, Fault};
+use fs_types::Fault;
 use session_oracle::{
-    Beginning, Causes, Oracle, has_fewer_free, serve_call, show, show_after_restart,
+    Beginning, Causes, Oracle, has_fewer_free, serve_mounted, show, show_after_restart,
 };
 use std::alloc::Global;
-use undofs::Fs;
+use undofs::{Ask, Fs};
+
+/// What is asked of what is mounted: calls, of which it is counted what became of them, and what comes after
+/// them.
+#[derive(Clone, Copy)]
+pub struct Asked<'a> {
+    pub calls: &'a [Ask],
+    pub later: &'a [Ask],
+}
 
 /// Mounts an image and asks calls of what is mounted. An error tells what was wrong.
 pub fn try_image(
     alloc: Global,
     image: &[u8],
-    calls: &[Event],
+    asked: Asked<'_>,
     tally: &mut Tally,
 ) -> Result<(), Wrong> {
     match decode(alloc, image) {
-        Ok(mut flash) => try_flash(alloc, &mut flash, calls, tally),
+        Ok(mut flash) => try_flash(alloc, &mut flash, asked, tally),
         Err(_) => {
             add(&mut tally.no_image, 1);
             Ok(())
@@ -32,10 +40,10 @@ pub fn try_image(
 fn try_flash(
     alloc: Global,
     flash: &mut SimFlash,
-    calls: &[Event],
+    asked: Asked<'_>,
     tally: &mut Tally,
 ) -> Result<(), Wrong> {
-    match try_mount(alloc, flash, calls, tally)? {
+    match try_mount(alloc, flash, asked, tally)? {
         Some(mut oracle) => check_restart(alloc, flash, &mut oracle),
         None => Ok(()),
     }
@@ -46,14 +54,14 @@ fn try_flash(
 fn try_mount<'a>(
     alloc: Global,
     flash: &mut SimFlash,
-    calls: &'a [Event],
+    asked: Asked<'a>,
     tally: &mut Tally,
 ) -> Result<Option<Oracle<'a>>, Wrong> {
     let facts = Facts::of(alloc, flash);
     match Fs::mount(alloc, flash) {
         Ok(mut system) => {
             add(&mut tally.mounted, 1);
-            Ok(Some(try_system(alloc, &mut system, facts, calls, tally)?))
+            Ok(Some(try_system(alloc, &mut system, facts, asked, tally)?))
         }
         Err(fault) => {
             tally.add_refusal(fault);
@@ -77,14 +85,24 @@ fn try_system<'a>(
     alloc: Global,
     system: &mut Fs<'_, SimFlash>,
     facts: Result<Option<Facts>, Fault>,
-    calls: &'a [Event],
+    asked: Asked<'a>,
     tally: &mut Tally,
 ) -> Result<Oracle<'a>, Wrong> {
     let Ok(Some(facts)) = facts else {
         return Err(Wrong::Mount(None));
     };
     let mut oracle = oracle_of(alloc, system, facts.limit)?;
-    ask_all(alloc, system, &mut oracle, facts, calls, tally)?;
+    let mut watch = Watch::new(facts);
+    ask_all(alloc, system, &mut oracle, &mut watch, asked.calls, tally)?;
+    let mut uncounted = Tally::default();
+    ask_all(
+        alloc,
+        system,
+        &mut oracle,
+        &mut watch,
+        asked.later,
+        &mut uncounted,
+    )?;
     check_shown(alloc, system, &mut oracle)?;
     Ok(oracle)
 }
@@ -105,18 +123,17 @@ fn ask_all<'a>(
     alloc: Global,
     system: &mut Fs<'_, SimFlash>,
     oracle: &mut Oracle<'a>,
-    facts: Facts,
-    calls: &'a [Event],
+    watch: &mut Watch,
+    asks: &'a [Ask],
     tally: &mut Tally,
 ) -> Result<(), Wrong> {
-    let mut watch = Watch::new(facts);
-    for event in calls {
-        let causes = causes_of(alloc, system, oracle, watch, event)?;
-        let answer = serve_call(alloc, system, event);
-        tally.add_answer(&answer);
+    for ask in asks {
+        let causes = causes_of(alloc, system, oracle, *watch, ask)?;
+        let told = serve_mounted(alloc, system, ask);
+        tally.add_told(&told);
         watch.note();
-        let may_be = watch.may_answer(event, &answer);
-        let is_judged = oracle.judge(alloc, event, answer, causes)?;
+        let may_be = watch.may_tell(ask, &told);
+        let is_judged = oracle.judge(alloc, ask, told, causes)?;
         if !(may_be && is_judged) {
             return Err(Wrong::Call(watch.asked()));
         }
@@ -130,9 +147,9 @@ fn causes_of(
     system: &mut Fs<'_, SimFlash>,
     oracle: &Oracle<'_>,
     watch: Watch,
-    event: &Event,
+    ask: &Ask,
 ) -> Result<Causes, Fault> {
-    let need = oracle.need(alloc, event)?;
+    let need = oracle.need(alloc, ask)?;
     Ok(Causes {
         full: has_fewer_free(alloc, system, need)?,
         read_only: watch.is_read_only(),

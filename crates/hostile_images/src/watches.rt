@@ -1,6 +1,7 @@
 //! What is known of a system while calls are asked.
 use crate::facts::Facts;
 use fs_types::{Answer, Call, Event};
+use undofs::{Ask, Told};
 
 /// What the newest record told at the mount, and how many calls were asked since.
 #[derive(Clone, Copy)]
@@ -34,15 +35,25 @@ impl Watch {
         self.asked = self.asked.saturating_add(1);
     }
 
-    /// Whether this may be an answer, as far as the record lets it: in read-only mode no change and no
-    /// commit is accepted, after the greatest sequence no commit, and `df` tells the bad blocks.
-    pub fn may_answer(self, event: &Event, answer: &Answer) -> bool {
+    /// Whether this may be told, as far as the record lets it: in read-only mode no version is forgotten,
+    /// and no change, no commit and no step of cleaning is accepted, after the greatest sequence no commit,
+    /// and `df` tells the bad blocks.
+    pub fn may_tell(self, ask: &Ask, told: &Told) -> bool {
+        match (ask, told) {
+            (Ask::Event(event), Told::Answer(answer)) => self.may_answer(event, answer),
+            (Ask::ForgetFree(_), Told::Forgot(count)) => *count == 0 || !self.is_read_only(),
+            _ => true,
+        }
+    }
+
+    fn may_answer(self, event: &Event, answer: &Answer) -> bool {
         match (event, answer) {
             (Event::Call(call), Answer::Done(reply)) => {
                 !(self.is_read_only() && is_refused_in_read_only_mode(call))
                     && !(self.facts.sequence == u64::MAX && is_commit(call))
                     && self.facts.has_space(reply)
             }
+            (Event::CleanStep(_), Answer::Done(_)) => !self.is_read_only(),
             _ => true,
         }
     }

@@ -2,10 +2,13 @@
 use crate::mounted::{HISTORY, Mounted, Taken};
 use anyhow::{Result, bail, ensure};
 use flash_model::FaultKind;
-use fs_types::{Answer, Call, Fault, Reply};
+use fs_types::{Answer, Call, Event, Fault, Reply};
 use plain_machine::{PlainMachine, Space};
-use script::{Line, LineAnswer, print_answer, read_line};
+use script::{LineAnswer, print_answer};
+use session_oracle::ask_of;
+use space_oracle::{Room, may_forget, may_refuse_to_forget, may_tell};
 use std::alloc::Global;
+use undofs::Ask;
 
 /// The faults, each planned after the line of its number, for the next operation of its class. Those
 /// after a fiftieth line meet an anchor, since a sync follows; the others a data block, since many are
@@ -48,6 +51,15 @@ pub struct Counts {
     pub written: u64,
     pub needed: u64,
     pub tight: u64,
+    /// Steps of cleaning, and blocks erased in them.
+    pub steps: u64,
+    pub cleaned: u64,
+    /// Lines that ask what the history keeps, lines that forget versions for their blocks, those that were
+    /// refused, and versions forgotten so.
+    pub told: u64,
+    pub forgetting: u64,
+    pub kept: u64,
+    pub forgotten: u64,
     /// Blocks erased since the flash was made.
     pub erased: u64,
     /// The fewest blocks that were free after a sync or where the flash was full, and the most.
@@ -112,8 +124,87 @@ impl Load {
 
     /// Carries out a line.
     fn carry_out(&mut self, alloc: Global, line: &str) -> Result<()> {
-        let call = call_of(alloc, line)?;
-        self.ask_with_room(alloc, &call)
+        match ask_of(alloc, line)? {
+            Some(Ask::Event(Event::Call(call))) => self.ask_with_room(alloc, &call),
+            Some(Ask::Event(Event::CleanStep(budget))) => self.clean(budget),
+            Some(Ask::Space) => {
+                add(&mut self.counts.told, 1);
+                self.tell_space(alloc, &mut Room::unknown())
+            }
+            Some(Ask::ForgetFree(blocks)) => self.forget_until_free(alloc, blocks),
+            _ => bail!("no line of the plan"),
+        }
+    }
+
+    /// Asks how many blocks are free and what the history keeps. It has to be what was known of the room,
+    /// and what it may be.
+    fn tell_space(&mut self, alloc: Global, room: &mut Room) -> Result<()> {
+        let Reply::Df {
+            blocks,
+            bad,
+            free,
+            ..
+        } = self.mounted.call(alloc, &Call::Df)?
+        else {
+            bail!("no answer to df");
+        };
+        ensure!(room.take_df(blocks, bad, free), "{free} blocks free");
+        let space = self.mounted.space(alloc)?;
+        let may_be = may_tell(alloc, &mut self.plain, room, &space)?;
+        ensure!(may_be, "the history keeps {space:?}");
+        Ok(())
+    }
+
+    /// Forgets the fewest versions that leave so many blocks free. What is free and kept is asked before
+    /// and after it.
+    fn forget_until_free(&mut self, alloc: Global, blocks: u64) -> Result<()> {
+        let mut room = Room::unknown();
+        self.tell_space(alloc, &mut room)?;
+        let outcome = self.mounted.forget_until_free(alloc, blocks);
+        self.check_forgotten(alloc, &mut room, blocks, outcome)?;
+        self.tell_space(alloc, &mut room)
+    }
+
+    /// Whether versions are forgotten for so many blocks, or not, as they may be.
+    fn check_forgotten(
+        &mut self,
+        alloc: Global,
+        room: &mut Room,
+        blocks: u64,
+        outcome: Result<u64, Fault>,
+    ) -> Result<()> {
+        add(&mut self.counts.forgetting, 1);
+        let plain = &mut self.plain;
+        match outcome {
+            Ok(count) => {
+                let may_be = may_forget(alloc, plain, room, blocks, count);
+                ensure!(may_be, "{count} versions forgotten");
+                add(&mut self.counts.forgotten, count);
+            }
+            Err(fault) => {
+                let may_be = may_refuse_to_forget(alloc, plain, room, blocks, fault, false)?;
+                ensure!(may_be, "refused: {fault}");
+                add(&mut self.counts.kept, 1);
+            }
+        }
+        Ok(())
+    }
+
+    /// Takes a step of cleaning. It erases no more blocks than it looks at, and as many are at hand after it,
+    /// but for those that go bad.
+    fn clean(&mut self, budget: u64) -> Result<()> {
+        let taken = self.mounted.clean(budget)?;
+        let looked = budget.min(taken.at_hand);
+        let erased = taken.erased;
+        ensure!(
+            erased <= looked,
+            "{erased} blocks erased of {looked} looked at"
+        );
+        let left = self.mounted.at_hand().saturating_add(taken.bad);
+        ensure!(left == taken.at_hand, "blocks taken by cleaning");
+        add(&mut self.counts.steps, 1);
+        add(&mut self.counts.cleaned, erased);
+        Ok(())
     }
 
     /// Asks a call, and once more after all older versions are forgotten if it finds the flash full. In a
@@ -218,14 +309,6 @@ impl Load {
             Reply::Log { cursor, .. } => Ok(cursor),
             _ => bail!("no answer to log"),
         }
-    }
-}
-
-/// The call that a line asks.
-fn call_of(alloc: Global, line: &str) -> Result<Call> {
-    match read_line(alloc, line.as_bytes())? {
-        Line::Call(call) => Ok(call),
-        _ => bail!("no call"),
     }
 }
 

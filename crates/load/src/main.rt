@@ -1,7 +1,9 @@
-//! Runs a file system under load: calls by a fixed plan on a small flash, some of whose operations
-//! fail, each beside the plain machine. A step of reclaiming follows each, and a sync each fiftieth. It
-//! prints one line of counts. Where the two sides answer differently, a call takes more blocks than
-//! it may, or finds the flash full where it is not, it ends with an error that tells the call.
+//! Runs a file system under load: calls, questions what the history keeps, versions that are forgotten for
+//! their blocks and steps of cleaning by a fixed plan on a small flash, some of whose operations fail, each
+//! call beside the plain machine. A step of reclaiming follows each, and a sync each fiftieth. It prints two
+//! lines of counts. Where the two sides answer differently, a call takes more blocks than it may, or finds
+//! the flash full where it is not, where a step of cleaning takes a block, or where what is told of blocks
+//! may not be, it ends with an error that tells the line.
 #![tactic(auto)]
 
 mod load;
@@ -47,7 +49,7 @@ fn turn(alloc: Global, load: &mut Load, number: u64, line: &str) -> Result<()> {
 /// Tells what was counted, and what is bad and free at the end.
 fn tell<R: Print>(rt: &R, counts: Counts, space: &str) -> Result<()> {
     println!(rt;
-        "accepted {}, refused {}, full {}; nodes written {} of {} needed, fewer blocks at hand in {} calls; blocks erased {}; free {} to {}; {}",
+        "accepted {}, refused {}, full {}; nodes written {} of {} needed, fewer blocks at hand in {} calls; blocks erased {}, {} of them in {} steps of cleaning; free {} to {}; {}",
         counts.accepted,
         counts.refused,
         counts.full,
@@ -55,9 +57,15 @@ fn tell<R: Print>(rt: &R, counts: Counts, space: &str) -> Result<()> {
         counts.needed,
         counts.tight,
         counts.erased,
+        counts.cleaned,
+        counts.steps,
         counts.least_free,
         counts.most_free,
         space.trim_end()
+    )?;
+    println!(rt;
+        "what the history keeps told {} times; {} versions forgotten in {} lines for their blocks, {} of them refused",
+        counts.told, counts.forgotten, counts.forgetting, counts.kept
     )?;
     Ok(())
 }

@@ -6,7 +6,7 @@ ghost use Rattle.system.specs.Systems.{IsSystem};
 use flash_model::{FaultKind, Geometry, Planned, SimFlash};
 use fs_types::{Call, Fault, Reply};
 use std::alloc::Global;
-use undofs::{System, format, mount};
+use undofs::{HistorySpace, System, format, mount};
 
 /// A small flash, with 56 data blocks of 4,096 bytes.
 const SIZES: Geometry = Geometry {
@@ -26,7 +26,7 @@ pub struct Mounted {
     ghost mounted: { IsSystem (device_of flash) system } by { system-prop (device_of flash) system },
 }
 
-/// What a call took.
+/// What a call or a step of cleaning took.
 #[derive(Clone, Copy)]
 pub struct Taken {
     /// Data blocks that were at hand before it: neither used nor bad.
@@ -53,15 +53,27 @@ impl Mounted {
 
     /// Carries out a call, and tells what it took.
     pub fn measure(&mut self, alloc: Global, call: &Call) -> (Result<Reply, Fault>, Taken) {
-        let at_hand = self.at_hand();
-        let (bad, erased) = (self.bad(), self.erased());
+        let before = self.totals();
         let answer = self.call(alloc, call);
-        let taken = Taken {
-            at_hand,
-            bad: self.bad().saturating_sub(bad),
-            erased: self.erased().saturating_sub(erased),
-        };
-        (answer, taken)
+        (answer, self.taken_since(before))
+    }
+
+    /// Tells what the history keeps.
+    pub fn space(&mut self, alloc: Global) -> Result<HistorySpace, Fault> {
+        self.system.space_by_version(alloc, &mut self.flash)
+    }
+
+    /// Forgets the fewest versions that leave so many blocks free, and tells how many these are.
+    pub fn forget_until_free(&mut self, alloc: Global, blocks: u64) -> Result<u64, Fault> {
+        self.system
+            .forget_until_free(alloc, &mut self.flash, blocks)
+    }
+
+    /// Takes a step of cleaning, and tells what it took.
+    pub fn clean(&mut self, budget: u64) -> Result<Taken, Fault> {
+        let before = self.totals();
+        self.system.clean_step(&mut self.flash, budget)?;
+        Ok(self.taken_since(before))
     }
 
     /// Takes a step of reclaiming.
@@ -74,7 +86,26 @@ impl Mounted {
         self.flash.plan_fault(1, kind)
     }
 
-    fn at_hand(&self) -> u64 {
+    /// The blocks that are at hand, those that are bad, and those that were erased since the flash was made.
+    fn totals(&self) -> Taken {
+        Taken {
+            at_hand: self.at_hand(),
+            bad: self.bad(),
+            erased: self.erased(),
+        }
+    }
+
+    /// What was taken since the totals were these.
+    fn taken_since(&self, before: Taken) -> Taken {
+        Taken {
+            at_hand: before.at_hand,
+            bad: self.bad().saturating_sub(before.bad),
+            erased: self.erased().saturating_sub(before.erased),
+        }
+    }
+
+    /// How many data blocks are at hand.
+    pub fn at_hand(&self) -> u64 {
         let storage = &self.system.state.storage;
         u64::from(storage.ring.free_count(&storage.bad))
     }

@@ -15,8 +15,9 @@ const WRITING: [&str; 4] = [
 /// Lines that end a change group.
 const ENDING: [&str; 3] = ["end", "end", "abandon"];
 
-/// Other lines: `N` stands for the name of a checkpoint, and `LONG` for bytes of up to three nodes.
-const OTHER: [&str; 30] = [
+/// Other lines: `N` stands for the name of a checkpoint, `LONG` for bytes of up to three nodes, and `FEW` for
+/// a number of blocks.
+const OTHER: [&str; 41] = [
     "mkdir D",
     "mkdir D",
     "mkdir D",
@@ -29,6 +30,10 @@ const OTHER: [&str; 30] = [
     "write F LONG",
     "write F 6869",
     "write F -",
+    "files D f DATA g 6869",
+    "files D g LONG",
+    "files / f DATA g -",
+    "files D g 6869 f -",
     "rename F F",
     "rename F F",
     "rename D D",
@@ -44,9 +49,16 @@ const OTHER: [&str; 30] = [
     "forget 1",
     "ls D",
     "ls D =N",
+    "entries D - 9",
+    "entries / a 2 =N",
     "stat D",
     "read F 0 20000",
     "log",
+    "space",
+    "space",
+    "forgetfree FEW",
+    "clean 9",
+    "clean 99",
 ];
 
 /// The lines of the plan.
@@ -143,6 +155,7 @@ impl Plan {
             "N" => line.push_str(self.pick(&["v", "w"])),
             "=N" => line.push_str(self.pick(&["=v", "=w"])),
             "AT" => write!(line, "{}", self.below(12_000)),
+            "FEW" => write!(line, "{}", self.below(24)),
             "DATA" => self.push_data(line, 3_000),
             "LONG" => self.push_data(line, 12_000),
             _ => line.push_str(word),

@@ -2,11 +2,11 @@
 //! want of it. The oracle takes what is answered then, as if nothing had been asked before.
 use crate::budget::Budget;
 use flash_model::{Geometry, SimFlash};
-use fs_types::{Answer, Event, Fault};
-use session_oracle::{Causes, Oracle, event_of, has_fewer_free, serve_call, show_after_restart};
+use fs_types::{Answer, Fault};
+use session_oracle::{Causes, Oracle, ask_of, has_fewer_free, serve_mounted, show_after_restart};
 use std::alloc::{AllocError, Global};
 use std::test::Fail;
-use undofs::{Fs, format, mount};
+use undofs::{Ask, Fs, Told, format, mount};
 
 /// Each budget is so many bytes more than the one before.
 const STEP: usize = 16;
@@ -15,16 +15,20 @@ const STEP: usize = 16;
 const MOST_BUDGETS: usize = 16_384;
 
 /// The first words of the lines that want none, and are never refused for it.
-const FREE: [&str; 7] = ["undo", "redo", "goto", "close", "begin", "end", "abandon"];
+const FREE: [&str; 8] = [
+    "undo", "redo", "goto", "close", "begin", "end", "abandon", "clean",
+];
 
 /// The first words of the lines that take memory, and of what comes before each script: each is refused
 /// for want of it at least once.
-const TAKING: [&str; 19] = [
+const TAKING: [&str; 23] = [
     "mount",
     "open",
     "pread",
     "pwrite",
     "ftruncate",
+    "write",
+    "files",
     "fsync",
     "mkdir",
     "rename",
@@ -37,13 +41,16 @@ const TAKING: [&str; 19] = [
     "checkpoint",
     "log",
     "df",
+    "space",
+    "forgetfree",
     "reclaim",
     "sync",
 ];
 
 /// Scripts, each with the number of blocks of its flash and its lines. The third is cut by no fault here,
-/// the fourth fills its flash, the next has the calls that the others lack, and the last change groups.
-const SCRIPTS: [(u32, &str); 6] = [
+/// the fourth fills its flash, the next has the calls that the others lack, then come whole files with what
+/// the history keeps of them, and the last has change groups.
+const SCRIPTS: [(u32, &str); 7] = [
     (32, "mkdir /a|undo|ls /|redo|ls /"),
     (32, "open /f 7|pwrite 0 5000 41|stat /f|pread 0 4999 9|df"),
     (32, "mkdir /a|sync|mkdir /b|sync|ls /"),
@@ -56,6 +63,10 @@ const SCRIPTS: [(u32, &str); 6] = [
         "mkdir /a|open /a/f 7|pwrite 0 0 616263|ftruncate 0 2|fsync 0|close 0|rename /a/f /g|checkpoint v|read /g 0 9|unlink /g|rmdir /a|goto 3|ls /a|entries / - 9|stat /a @2|reclaim 2|reclaim 99|rollback v|forget 2|rmcheckpoint v|log|df|sync",
     ),
     (
+        32,
+        "mkdir /a|write /a/f 616263|files /a g 41 h -|write /a/f 61|checkpoint v|write /a/f 62|df|space|forgetfree 9|forgetfree 12|df|space|sync|forgetfree 99|reclaim 99|clean 99|mkdir /b|space",
+    ),
+    (
         16,
         "mkdir /a|begin|mkdir /b|ls /|abandon|begin|open /f 7|pwrite 0 0 61|sync|close 0|ls / @1|mkdir /c|mkdir /d|ls /|end|undo|begin|end|redo|ls /|begin|mkdir /e",
     ),
@@ -65,7 +76,7 @@ const SCRIPTS: [(u32, &str); 6] = [
 #[derive(Drop)]
 struct Asked<'a> {
     word: &'a str,
-    event: Event,
+    ask: Ask,
 }
 
 /// The first words of the lines that were refused for want of memory, `mount` among them.
@@ -100,14 +111,14 @@ fn is_taken<'a>(
 fn asked_by(alloc: Global, script: &str) -> Result<Vec<Asked<'_>>, Fault> {
     let mut asked = Vec::new(alloc);
     for line in script.split('|') {
-        let event = event_of(alloc, line)?.ok_or(Fault::Invalid)?;
+        let ask = ask_of(alloc, line)?.ok_or(Fault::Invalid)?;
         let word = line.split(' ').next().unwrap_or("");
-        asked.push(Asked { word, event })?;
+        asked.push(Asked { word, ask })?;
     }
     Ok(asked)
 }
 
-/// Whether the oracle takes the answers to a mount and to events after it.
+/// Whether the oracle takes what is told to a mount and to what is asked after it.
 fn is_run<'a, 'e>(
     alloc: Global,
     budget: &mut Budget,
@@ -120,32 +131,32 @@ fn is_run<'a, 'e>(
     if !oracle.judge_mount(&Answer::Mounted, Causes::default()) {
         return Ok(false);
     }
-    for Asked { word, event } in asked {
-        let answer = ask_in_want(alloc, budget, &mut system, event, word, refused)?;
+    for Asked { word, ask } in asked {
+        let told = ask_in_want(alloc, budget, &mut system, ask, word, refused)?;
         let causes = Causes {
-            full: is_full(alloc, &mut system, oracle, event, &answer)?,
+            full: is_full(alloc, &mut system, oracle, ask, &told)?,
             ..Causes::default()
         };
-        if !oracle.judge(alloc, event, answer, causes)? {
+        if !oracle.judge(alloc, ask, told, causes)? {
             return Ok(false);
         }
     }
     Ok(true)
 }
 
-/// Whether an event was answered that the flash is full where fewer blocks are free than it needs. The
-/// system is asked nothing else, so that no node is kept in memory for the next line.
+/// Whether it was told that the flash is full where fewer blocks are free than are needed. The system is
+/// asked nothing else, so that no node is kept in memory for the next line.
 fn is_full(
     alloc: Global,
     system: &mut Fs<'_, SimFlash>,
     oracle: &Oracle<'_>,
-    event: &Event,
-    answer: &Answer,
+    ask: &Ask,
+    told: &Told,
 ) -> Result<bool, Fault> {
-    if !matches!(answer, Answer::Refused(Fault::FlashFull)) {
+    if !matches!(told, Told::Answer(Answer::Refused(Fault::FlashFull))) {
         return Ok(false);
     }
-    has_fewer_free(alloc, system, oracle.need(alloc, event)?)
+    has_fewer_free(alloc, system, oracle.need(alloc, ask)?)
 }
 
 /// Mounts with more and more memory, until it is not refused for want of it.
@@ -173,16 +184,16 @@ fn ask_in_want<'a>(
     alloc: Global,
     budget: &mut Budget,
     system: &mut Fs<'_, SimFlash>,
-    event: &Event,
+    ask: &Ask,
     word: &'a str,
     refused: &mut Refused<'a>,
-) -> Result<Answer, Fault> {
+) -> Result<Told, Fault> {
     for count in 0..MOST_BUDGETS {
         budget.leave(alloc, count * STEP);
-        let answer = serve_call(alloc, system, event);
+        let told = serve_mounted(alloc, system, ask);
         budget.give_back();
-        if !matches!(answer, Answer::Refused(Fault::NoMemory)) {
-            return Ok(answer);
+        if !matches!(told, Told::Answer(Answer::Refused(Fault::NoMemory))) {
+            return Ok(told);
         }
         refused.push(word)?;
     }

@@ -1,6 +1,6 @@
-//! An oracle of sessions over whole trees: what each event may be answered, and what a restart may
-//! find. It knows the plain machine alone, and of the file system what it answers and shows. Beside it
-//! scripts as files give them, whose lines are the events.
+//! An oracle of sessions over whole trees: what may be told to what is asked, and what a restart may
+//! find. It knows the plain machine alone, and of the file system what it tells and shows. Beside it
+//! scripts as files give them, whose lines ask.
 #![tactic(auto)]
 
 mod beginnings;
@@ -20,6 +20,6 @@ pub use causes::Causes;
 pub use images::{flash_of, new_image};
 pub use needs::has_fewer_free;
 pub use oracles::Oracle;
-pub use scripts::{Script, ScriptLine, event_of, events_of};
-pub use shows::{Extent, Shown, Shows, serve_call, show, show_after_restart, show_some};
-pub use texts::text_of;
+pub use scripts::{Script, ScriptLine, ask_of, asks_of, line_of};
+pub use shows::{Extent, Shown, Shows, serve_mounted, show, show_after_restart, show_some};
+pub use texts::told_text;

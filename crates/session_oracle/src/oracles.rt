@@ -6,7 +6,9 @@ use crate::shows::{Shown, log_text, show};
 use crate::texts::{answer_of, text_of};
 use fs_types::{Answer, Call, Event, Fault, Reply};
 use plain_machine::{PlainMachine, Space};
+use space_oracle::{Room, may_forget, may_refuse_to_forget, may_tell};
 use std::alloc::Global;
+use undofs::{Ask, Told};
 
 /// The bytes of a file that a node of its body holds: those of a block, 4,096 on each flash here, less
 /// 80.
@@ -32,6 +34,8 @@ pub struct Oracle<'a> {
     /// How many of the steps every restart keeps.
     saved: usize,
     seat: Seat,
+    /// What is known of the blocks of the flash.
+    room: Room,
 }
 
 impl<'a> Oracle<'a> {
@@ -53,13 +57,14 @@ impl<'a> Oracle<'a> {
             steps: Vec::new(alloc),
             saved: 0,
             seat,
+            room: Room::unknown(),
         })
     }
 
-    /// The most nodes that an event writes, where it comes next.
-    pub fn need(&self, alloc: Global, event: &Event) -> Result<u64, Fault> {
-        match event {
-            Event::Call(call) => Ok(self.machine.need(alloc, CAPACITY, call)?),
+    /// The most nodes that are written where this is asked next.
+    pub fn need(&self, alloc: Global, ask: &Ask) -> Result<u64, Fault> {
+        match ask {
+            Ask::Event(Event::Call(call)) => Ok(self.machine.need(alloc, CAPACITY, call)?),
             _ => Ok(0),
         }
     }
@@ -76,22 +81,110 @@ impl<'a> Oracle<'a> {
         }
     }
 
-    /// Whether this may be the answer to an event that is no restart, where there may be such causes.
+    /// Whether this may be told to what is asked, which is no restart, where there may be such causes.
     pub fn judge(
         &mut self,
         alloc: Global,
-        event: &'a Event,
-        answer: Answer,
+        ask: &'a Ask,
+        told: Told,
         causes: Causes,
     ) -> Result<bool, Fault> {
         match self.seat {
-            Seat::Unmounted => Ok(matches!(answer, Answer::Unmounted)),
-            Seat::Off => Ok(matches!(answer, Answer::Refused(Fault::PowerCut))),
-            Seat::Mounted => self.judge_mounted(alloc, event, answer, causes),
+            Seat::Unmounted => Ok(matches!(told, Told::Answer(Answer::Unmounted))),
+            Seat::Off => Ok(is_refused(&told, Fault::PowerCut)),
+            Seat::Mounted => self.judge_mounted(alloc, ask, told, causes),
         }
     }
 
     fn judge_mounted(
+        &mut self,
+        alloc: Global,
+        ask: &'a Ask,
+        told: Told,
+        causes: Causes,
+    ) -> Result<bool, Fault> {
+        match told {
+            Told::Answer(answer) => self.judge_answer(alloc, ask, answer, causes),
+            Told::Space(space) => match ask {
+                Ask::Space => may_tell(alloc, &mut self.machine, &mut self.room, &space),
+                _ => Ok(false),
+            },
+            Told::Forgot(count) => match ask {
+                Ask::ForgetFree(blocks) => self.judge_forgotten(alloc, *blocks, count),
+                _ => Ok(false),
+            },
+        }
+    }
+
+    /// Whether this may be answered: to an event, or as a refusal of something else.
+    fn judge_answer(
+        &mut self,
+        alloc: Global,
+        ask: &'a Ask,
+        answer: Answer,
+        causes: Causes,
+    ) -> Result<bool, Fault> {
+        match ask {
+            Ask::Event(event) => {
+                let may_be = self.room.take(event, &answer);
+                Ok(may_be && self.judge_event(alloc, event, answer, causes)?)
+            }
+            Ask::Space => match answer {
+                Answer::Refused(fault) => Ok(self.judge_unread(fault, causes)),
+                _ => Ok(false),
+            },
+            Ask::ForgetFree(blocks) => match answer {
+                Answer::Refused(fault) => self.judge_kept(alloc, *blocks, fault, causes),
+                _ => Ok(false),
+            },
+        }
+    }
+
+    /// Whether so many versions may be forgotten for so many blocks to be free. That is a step, where any
+    /// are.
+    fn judge_forgotten(&mut self, alloc: Global, blocks: u64, count: u64) -> Result<bool, Fault> {
+        let may_be = may_forget(alloc, &mut self.machine, &mut self.room, blocks, count);
+        if count != 0 {
+            self.steps.push(Step::Forgot(count))?;
+        }
+        Ok(may_be)
+    }
+
+    /// Whether it may be refused so to forget versions for so many blocks to be free. Nothing changes, but
+    /// for the power.
+    fn judge_kept(
+        &mut self,
+        alloc: Global,
+        blocks: u64,
+        fault: Fault,
+        causes: Causes,
+    ) -> Result<bool, Fault> {
+        if self.judge_unread(fault, causes) {
+            return Ok(true);
+        }
+        may_refuse_to_forget(
+            alloc,
+            &mut self.machine,
+            &self.room,
+            blocks,
+            fault,
+            causes.read_only,
+        )
+    }
+
+    /// Whether it may be refused so to read what the history reaches.
+    fn judge_unread(&mut self, fault: Fault, causes: Causes) -> bool {
+        match fault {
+            Fault::PowerCut if causes.cut => {
+                self.seat = Seat::Off;
+                true
+            }
+            Fault::ReadFailed => causes.read_failure,
+            _ => false,
+        }
+    }
+
+    fn judge_event(
         &mut self,
         alloc: Global,
         event: &'a Event,
@@ -142,6 +235,7 @@ impl<'a> Oracle<'a> {
                 Ok(true)
             }
             (Fault::ReadFailed, _) => Ok(true),
+            (_, Event::CleanStep(_)) => Ok(fault == Fault::ReadOnly),
             (_, Event::Call(call)) => {
                 let (refusal, is_change) = try_call(alloc, &mut self.machine, call)?;
                 self.machine = replay_all(alloc, &self.beginning, &self.steps)?;
@@ -196,7 +290,16 @@ impl<'a> Oracle<'a> {
         self.saved = self.steps.len();
         self.machine = replay_all(alloc, &self.beginning, &self.steps)?;
         self.seat = Seat::Mounted;
+        self.room = Room::unknown();
         Ok(())
+    }
+}
+
+/// Whether it is told that what was asked is refused so.
+fn is_refused(told: &Told, wanted: Fault) -> bool {
+    match told {
+        Told::Answer(Answer::Refused(fault)) => *fault == wanted,
+        _ => false,
     }
 }
 

@@ -10,6 +10,8 @@ use std::alloc::Global;
 pub enum Step<'a> {
     /// A call that was accepted.
     Call(&'a Call),
+    /// So many versions were forgotten for their blocks.
+    Forgot(u64),
     /// A restart, after which no file and no change group is open.
     Restart,
 }
@@ -24,14 +26,20 @@ const NO_SPACE: Space = Space {
 /// Carries out a step on a machine.
 pub fn replay(alloc: Global, machine: &mut PlainMachine, step: Step<'_>) -> Result<(), Fault> {
     match step {
-        Step::Call(call) => match machine.step(alloc, NO_SPACE, call) {
-            Ok(_) => Ok(()),
-            Err(fault) => Err(fault),
-        },
+        Step::Call(call) => carry_out(alloc, machine, call),
+        Step::Forgot(count) => carry_out(alloc, machine, &Call::Forget { count }),
         Step::Restart => {
             close_all(alloc, machine)?;
             abandon(alloc, machine)
         }
+    }
+}
+
+/// Carries out a call, which is accepted.
+fn carry_out(alloc: Global, machine: &mut PlainMachine, call: &Call) -> Result<(), Fault> {
+    match machine.step(alloc, NO_SPACE, call) {
+        Ok(_) => Ok(()),
+        Err(fault) => Err(fault),
     }
 }
 

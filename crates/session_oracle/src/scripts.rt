@@ -4,6 +4,7 @@ use flash_model::Geometry;
 use fs_types::{Event, Fault};
 use script::{DEFAULT_SIZES, DEFAULT_VERSIONS, Line, read_line};
 use std::alloc::Global;
+use undofs::Ask;
 
 /// A line, and the reply that is expected of it.
 #[derive(Clone, Copy)]
@@ -62,12 +63,12 @@ impl<'a> Script<'a> {
         Ok(())
     }
 
-    /// Its lines that are calls or steps of reclaiming or of cleaning: not its restarts and faults, nor those that are
-    /// refused before they come to a system.
+    /// Its lines that ask something of a system: not its restarts and faults, nor those that are refused
+    /// before they come to one.
     pub fn served_lines(&self, alloc: Global) -> Result<Vec<&'a str>, Fault> {
         let mut lines = Vec::new(alloc);
         for line in &self.lines {
-            if event_of(alloc, line.text)?.is_some() {
+            if ask_of(alloc, line.text)?.is_some() {
                 lines.push(line.text)?;
             }
         }
@@ -75,29 +76,36 @@ impl<'a> Script<'a> {
     }
 }
 
-/// The call or step that a line asks. Beside the lines of scripts there is `files DIRECTORY NAME DATA NAME DATA ..`,
-/// which asks `write_files`.
-pub fn event_of(alloc: Global, line: &str) -> Result<Option<Event>, Fault> {
-    if let Some(words) = line.strip_prefix("files ") {
-        return Ok(Some(Event::Call(write_files_of(alloc, words)?)));
-    }
-    match read_line(alloc, line.as_bytes())? {
-        Line::Call(call) => Ok(Some(Event::Call(call))),
-        Line::ReclaimStep(budget) => Ok(Some(Event::ReclaimStep(budget))),
-        Line::CleanStep(budget) => Ok(Some(Event::CleanStep(budget))),
-        _ => Ok(None),
+/// What a line asks. Beside the lines of scripts there is `files DIRECTORY NAME DATA NAME DATA ..`, which
+/// asks `write_files`.
+pub fn line_of(alloc: Global, line: &str) -> Result<Line, Fault> {
+    match line.strip_prefix("files ") {
+        Some(words) => Ok(Line::Call(write_files_of(alloc, words)?)),
+        None => Ok(read_line(alloc, line.as_bytes())?),
     }
 }
 
-/// The events that lines ask, which are calls or steps.
-pub fn events_of(alloc: Global, lines: &[&str]) -> Result<Vec<Event>, Fault> {
-    let mut events = Vec::new(alloc);
+/// What a line asks of a mounted system, if it does.
+pub fn ask_of(alloc: Global, line: &str) -> Result<Option<Ask>, Fault> {
+    Ok(match line_of(alloc, line)? {
+        Line::Call(call) => Some(Ask::Event(Event::Call(call))),
+        Line::ReclaimStep(budget) => Some(Ask::Event(Event::ReclaimStep(budget))),
+        Line::CleanStep(budget) => Some(Ask::Event(Event::CleanStep(budget))),
+        Line::Space => Some(Ask::Space),
+        Line::ForgetFree(blocks) => Some(Ask::ForgetFree(blocks)),
+        _ => None,
+    })
+}
+
+/// What lines ask of a mounted system.
+pub fn asks_of(alloc: Global, lines: &[&str]) -> Result<Vec<Ask>, Fault> {
+    let mut asks = Vec::new(alloc);
     for line in lines {
-        if let Some(event) = event_of(alloc, line)? {
-            events.push(event)?;
+        if let Some(ask) = ask_of(alloc, line)? {
+            asks.push(ask)?;
         }
     }
-    Ok(events)
+    Ok(asks)
 }
 
 fn number(text: &str) -> Result<u32, Fault> {

@@ -7,7 +7,7 @@ use fs_types::{Answer, Call, CpName, Event, Fault, MAX_FILE_BYTES, Reply};
 use plain_machine::{PlainMachine, Space};
 use script::{LineAnswer, print_answer};
 use std::alloc::Global;
-use undofs::Fs;
+use undofs::{Ask, Fs, Told};
 
 /// The plain machine knows nothing of a flash, and is not asked for it here.
 const NO_SPACE: Space = Space {
@@ -46,7 +46,8 @@ impl<'f, F: Flash> Shows for Fs<'f, F> {
 pub struct Shown {
     /// What is printed for its history.
     pub log: Vec<u8>,
-    /// What is printed for each path of each version and checkpoint, with the bytes of each file.
+    /// What is printed for each path of each version and checkpoint: what `ls` and `entries` tell of a
+    /// directory, and the bytes of each file.
     pub trees: Vec<u8>,
     /// What is printed so for the tree that calls work on: in a change group the group's.
     pub working: Vec<u8>,
@@ -175,18 +176,34 @@ pub fn show_after_restart(alloc: Global, flash: &mut SimFlash) -> Result<Shown, 
     show(alloc, &mut system)
 }
 
+/// What a mounted system tells to what is asked, which is no restart.
+pub fn serve_mounted<F: Flash>(alloc: Global, system: &mut Fs<'_, F>, ask: &Ask) -> Told {
+    match ask {
+        Ask::Event(event) => Told::Answer(serve_event(alloc, system, event)),
+        Ask::Space => match system.space_by_version(alloc) {
+            Ok(space) => Told::Space(space),
+            Err(fault) => Told::Answer(Answer::Refused(fault)),
+        },
+        Ask::ForgetFree(blocks) => match system.forget_until_free(alloc, *blocks) {
+            Ok(count) => Told::Forgot(count),
+            Err(fault) => Told::Answer(Answer::Refused(fault)),
+        },
+    }
+}
+
 /// What a mounted system answers to an event that is no restart.
-pub fn serve_call<F: Flash>(alloc: Global, system: &mut Fs<'_, F>, event: &Event) -> Answer {
+fn serve_event<F: Flash>(alloc: Global, system: &mut Fs<'_, F>, event: &Event) -> Answer {
     match event {
         Event::Call(call) => answer_of(system.call(alloc, call)),
-        Event::ReclaimStep(budget) => match system.reclaim_step(alloc, *budget) {
-            Ok(is_done) => Answer::Done(Reply::Step(is_done)),
-            Err(fault) => Answer::Refused(fault),
-        },
-        Event::CleanStep(budget) => match system.clean_step(*budget) {
-            Ok(is_done) => Answer::Done(Reply::Step(is_done)),
-            Err(fault) => Answer::Refused(fault),
-        },
+        Event::ReclaimStep(budget) => answer_of_step(system.reclaim_step(alloc, *budget)),
+        Event::CleanStep(budget) => answer_of_step(system.clean_step(*budget)),
         Event::Restart => Answer::Unmounted,
+    }
+}
+
+fn answer_of_step(outcome: Result<bool, Fault>) -> Answer {
+    match outcome {
+        Ok(is_done) => Answer::Done(Reply::Step(is_done)),
+        Err(fault) => Answer::Refused(fault),
     }
 }

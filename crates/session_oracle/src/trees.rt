@@ -65,12 +65,31 @@ fn show_directory<S: Shows>(
     let reply = walk.system.ask(alloc, &Call::List { view, path })?;
     let answer = LineAnswer::Told(Answer::Done(reply));
     print_answer(walk.out, &answer)?;
+    tell_entries(alloc, walk, root, directory)?;
     match &answer {
         LineAnswer::Told(Answer::Done(Reply::Names(names))) => {
             show_entries(alloc, walk, root, directory, names.as_slice(), waiting)
         }
         _ => Err(Fault::Invalid),
     }
+}
+
+/// Appends what stands at each entry of a directory, as `entries` tells it.
+fn tell_entries<S: Shows>(
+    alloc: Global,
+    walk: &mut Walk<'_, S>,
+    root: Root<'_>,
+    directory: &[u8],
+) -> Result<(), Fault> {
+    let call = Call::Entries {
+        view: root.view()?,
+        path: path_of(alloc, directory)?,
+        from: None,
+        most: u64::MAX,
+    };
+    let answer = LineAnswer::Told(Answer::Done(walk.system.ask(alloc, &call)?));
+    print_answer(walk.out, &answer)?;
+    Ok(())
 }
 
 /// Appends the bytes of the files among the entries of a directory; directories wait.

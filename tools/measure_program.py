@@ -13,7 +13,9 @@ PROGRAM is crates/uffs/out/uffs, as `rt run` builds it there. It tells
 """
 import glob
 import os
+import random
 import resource
+import shutil
 import subprocess
 import sys
 import tempfile
@@ -104,6 +106,57 @@ def tell_image(program):
             print(kind, "run: status %d, %.2f s, %d KiB" % measured([program, "run", image], RUN.encode()))
 
 
+def make_folder(folder):
+    """A folder of 1,000 files of 20,000 bytes, in ten folders."""
+    numbers = random.Random(1)
+    for number in range(1000):
+        at = f"{folder}/d{number % 10}"
+        os.makedirs(at, exist_ok=True)
+        with open(f"{at}/f{number}", "wb") as file:
+            file.write(numbers.randbytes(20_000))
+
+
+def flash_bytes(image):
+    """The bytes of the flash of an image: its sizes stand before its first block."""
+    with open(image, "rb") as file:
+        head = file.read(20)
+    page, pages, blocks = (int.from_bytes(head[at : at + 4], "little") for at in (8, 12, 16))
+    return page * pages * blocks
+
+
+def tell_word(name, words, most=None, script=b""):
+    """Tells of a word how long it took and what it held, beside what it may hold."""
+    status, seconds, kib = measured(words, script)
+    bound = "" if most is None else f" of {most // 1024} KiB" + ("" if kib * 1024 <= most else ", TOO MUCH")
+    print(f"{name}: status {os.waitstatus_to_exitcode(status)}, {seconds:.2f} s, {kib} KiB{bound}")
+
+
+def tell_words(program):
+    """1,000 files of 20,000 bytes, in and out."""
+    with tempfile.TemporaryDirectory() as room:
+        folder, image, other, archive = f"{room}/folder", f"{room}/image", f"{room}/other", f"{room}/archive"
+        make_folder(folder)
+        tell_word("tar cf", ["tar", "-C", folder, "-cf", archive, "."])
+        os.mkdir(f"{room}/untarred")
+        tell_word("tar xf", ["tar", "-C", f"{room}/untarred", "-xf", archive])
+        tell_word("create", [program, "create", image, folder])
+        most = flash_bytes(image) + os.path.getsize(image) + (4 << 20)
+        print(f"flash {flash_bytes(image)} bytes, image {os.path.getsize(image)} bytes")
+        tell_word("put of the same", [program, "put", image, folder, "/"], most)
+        tell_word("get", [program, "get", image, "/", f"{room}/out"], most)
+        same = subprocess.run(["diff", "-r", folder, f"{room}/out"], check=False).returncode
+        print("what came out is", "the same" if same == 0 else "OTHER")
+        with open(f"{room}/archive_of_image", "wb") as file:
+            file.write(subprocess.run([program, "tar", image], capture_output=True, check=True).stdout)
+        for word in ("tar", "tree", "versions", "map", "check"):
+            tell_word(word, [program, word, image], most)
+        shutil.copyfile(image, other)
+        with open(f"{room}/archive_of_image", "rb") as file:
+            tell_word("untar", [program, "untar", other, "/new"], None, file.read())
+        tell_word("diff", [program, "diff", image, "1", "2"], most)
+        tell_word("update", [program, "update", other, image], 2 * most)
+
+
 def main():
     if len(sys.argv) != 2:
         sys.exit(__doc__)
@@ -111,6 +164,7 @@ def main():
     tell_size(program)
     tell_stack(program)
     tell_image(program)
+    tell_words(program)
 
 
 if __name__ == "__main__":

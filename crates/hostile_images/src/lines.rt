@@ -53,7 +53,7 @@ const LINES: [&str; 40] = [
     "reclaim 2",
 ];
 
-/// Lines that are asked after these, in this order: of what the history keeps and of versions that are
+/// Lines that are asked of every fourth image after these, in this order: of what the history keeps and of versions that are
 /// forgotten for their blocks, of many files, of entries and of cleaning, and changes that write over what
 /// was cleaned.
 const LATER: [&str; 17] = [
@@ -102,9 +102,14 @@ const SERIALS: [&str; 8] = [
 
 const PLACES: [&str; 5] = ["0", "1", "3", "4016", "16777216"];
 
-/// What is asked of each image after its calls.
-pub fn later_asks(alloc: Global) -> Result<Vec<Ask>, Fault> {
-    asks_of(alloc, &LATER)
+/// What is asked after the calls of the image with this number: of every fourth image all of these, of the
+/// others nothing.
+pub fn later_asks(alloc: Global, number: u64) -> Result<Vec<Ask>, Fault> {
+    if number % 4 == 0 {
+        asks_of(alloc, &LATER)
+    } else {
+        Ok(Vec::new(alloc))
+    }
 }
 
 /// The calls of an image, drawn by numbers.

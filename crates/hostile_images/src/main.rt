@@ -1,11 +1,10 @@
 //! Mounts images of flashes that are made by a fixed rule, lawful and not, and asks twenty calls of
-//! each that mounts, and then what its history keeps, many files in one call, entries and steps of cleaning.
-//! A mount is refused
-//! only for what the newest record or its trees are; each tree that is mounted is whole; each answer is
-//! what a plain machine says that begins with what the mount shows, or one of the further refusals with
-//! its cause; and what is shown after all of it, and after a restart then, is what that machine keeps. For
-//! each kind of image it prints what became of them, and of the twenty calls. An image with which
-//! something else is met is told, and the status is 1.
+//! each that mounts; of every fourth then what its history keeps, many files in one call, entries and steps
+//! of cleaning. A mount is refused only for what the newest record or its trees are; each tree that is
+//! mounted is whole; each answer is what a plain machine says that begins with what the mount shows, or one
+//! of the further refusals with its cause; and what is shown after all of it, and after a restart then, is
+//! what that machine keeps. For each kind of image it prints what became of them, and of the twenty calls.
+//! An image with which something else is met is told, and the status is 1.
 #![tactic(auto)]
 
 mod facts;
@@ -63,7 +62,7 @@ fn try_number(alloc: Global, kind: Kind, number: u64, tally: &mut Tally) -> Resu
     let mut numbers = Numbers::of(number);
     let image = kind.image(alloc, &mut numbers)?;
     let calls = draw_calls(alloc, &mut numbers)?;
-    let later = later_asks(alloc)?;
+    let later = later_asks(alloc, number)?;
     let asked = Asked {
         calls: &calls,
         later: &later,

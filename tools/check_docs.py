@@ -227,8 +227,9 @@ def sums():
     _, runs = summed("cuts", r"^\S+\.row.*: (\d+) runs, \d+ cuts$")
     readers, reads = summed("failures", r": (\d+) reads failed")
     writers, programs, erases = summed("failures", r": (\d+) programs and (\d+) erases failed$")
-    images = [sum(row) for row in zip(*([int(n) for n in re.findall(r"(\d+) (?:mounted|[A-Z]+|no image)", line)]
-              for line in read(f"{TOP}/crates/hostile_images/stdout").splitlines() if "mounted" in line))]
+    told = read(f"{TOP}/crates/hostile_images/stdout").splitlines()
+    kinds = [re.findall(r"(\d+) (?:mounted|[A-Z]+|no image)", line) for line in told if " mounted, " in line]
+    images, mounted = sum(int(n) for kind in kinds for n in kind), sum(int(kind[0]) for kind in kinds)
     crates = len([it for it in os.listdir(f"{TOP}/crates") if os.path.isdir(f"{TOP}/crates/{it}/src")])
     edits = len(glob.glob(f"{TOP}/crates/*/must-fail/*.edit"))
     return {
@@ -236,7 +237,7 @@ def sums():
             f"of {scripts} scripts, in {runs:,} runs",
             f"Each of {reads:,} reads of {readers} scripts fails once",
             f"each of {programs} programs and {erases} erases of {writers}",
-            f"Of {sum(images):,} hostile images {images[0]:,} mount",
+            f"Of {images:,} hostile images {mounted:,} mount",
         ],
         "docs/gate.md": [f"There are {crates} crates", f"and {edits} edits"],
     }

@@ -8,13 +8,15 @@ Of each block of code:
     crates/rows/data that crates/rows/args names;
   - lines of a script with their replies, two spaces or more between, as `>` and `<` lines;
   - lines of a row, or of an edit, have to stand in a row, or in an edit;
-  - Rust has to stand in source files of crates/, part by part;
+  - Rust, and definitions, have to stand in source files of crates/, part by part;
   - lines that are written alone have to be the stdout of a program of the gate;
   - all else has to be named in docs/testing.md, by its first line, in backticks.
 Of each table whose columns are those of a program of the gate, as it prints them: each row has to stand
 in its stdout under the same name, with the same figures.
+Of sentences with sums of such figures, or with counts of what stands in crates/: they have to be as sums() makes them.
 Of each link: what it leads to has to be there, the section too. A page that is named has to be a link,
-and a page of over 1,500 words begins with a list of its sections. And docs/proved.md has to be as
+and a page of over 1,500 words begins with a list of its sections. No page has over 4,000 words, and
+README.md no more than 1,600; docs/proved.md, which a script writes, may. And docs/proved.md has to be as
 tools/write_proved.py writes it, the man page and the completion as tools/write_manual.py does.
 It prints a line for each that does not; its status is 1 where there is one.
 """
@@ -29,8 +31,9 @@ import write_proved
 TOP = os.path.dirname(os.path.dirname(os.path.abspath(__file__)))
 SHELL = re.compile(r"^\$ (?:(?:printf|echo) '([^']*)' \| )?out/uffs (.*)$")
 LINK = re.compile(r"\[([^\]]*)\]\(([^)\s]+)\)")
-PAGE = re.compile(r"(?:docs/)?[A-Za-z]+\.md\b")
+PAGE = re.compile(r"(?:docs/)?[A-Za-z_]+\.md\b")
 LONG = 1500
+MOST = {"README.md": 1600, "docs/proved.md": None}
 REPLY = re.compile(r"^(ok|done|more|mounted|unmounted|err [A-Z0-9]+( \d+)?|(entries|fd|data|wrote|dir|file|log|df) .*)$")
 
 
@@ -211,12 +214,54 @@ def missing_sections(text):
         yield from (f"not in its list of sections: {it}" for it in parts if f"#{anchor(it)}" not in linked)
 
 
+def summed(name, pattern):
+    """The sums of the figures that a pattern finds in the stored output of a program, after how many lines it fits."""
+    found = re.findall(pattern, read(f"{TOP}/crates/{name}/stdout"), re.M)
+    rows = [[int(it) for it in (row if isinstance(row, tuple) else (row,))] for row in found]
+    return [len(rows), *(sum(column) for column in zip(*rows))]
+
+
+def sums():
+    """The sentences with sums or counts, by their pages."""
+    scripts = len(set(re.findall(r"^(\S+)\.row.*: \d+ runs", read(f"{TOP}/crates/cuts/stdout"), re.M)))
+    _, runs = summed("cuts", r"^\S+\.row.*: (\d+) runs, \d+ cuts$")
+    readers, reads = summed("failures", r": (\d+) reads failed")
+    writers, programs, erases = summed("failures", r": (\d+) programs and (\d+) erases failed$")
+    told = read(f"{TOP}/crates/hostile_images/stdout").splitlines()
+    kinds = [re.findall(r"(\d+) (?:mounted|[A-Z]+|no image)", line) for line in told if " mounted, " in line]
+    images, mounted = sum(int(n) for kind in kinds for n in kind), sum(int(kind[0]) for kind in kinds)
+    crates = len([it for it in os.listdir(f"{TOP}/crates") if os.path.isdir(f"{TOP}/crates/{it}/src")])
+    edits = len(glob.glob(f"{TOP}/crates/*/must-fail/*.edit"))
+    return {
+        "README.md": [
+            f"of {scripts} scripts, in {runs:,} runs",
+            f"Each of {reads:,} reads of {readers} scripts fails once",
+            f"each of {programs} programs and {erases} erases of {writers}",
+            f"Of {images:,} hostile images {mounted:,} mount",
+        ],
+        "docs/gate.md": [f"There are {crates} crates", f"and {edits} edits"],
+    }
+
+
+def missing_sums(page, text):
+    """The sentences with sums that a page does not have."""
+    words = " ".join(text.split())
+    yield from (f"not as the gate has it: {it}" for it in sums().get(page, []) if it not in words)
+
+
+def too_long(page, text):
+    """How many words a page has, where they are too many."""
+    count, most = len(text.split()), MOST.get(page, 4000)
+    if most and count > most:
+        yield f"{count} words, over {most}"
+
+
 def main():
     sources = {
         "rows": list(rows_that_run()),
         "outputs": list(texts("crates/*/stdout").values()),
         "edits": list(texts("crates/*/must-fail/*.edit").values()),
-        "code": list(texts("crates/*/src/**/*.rt").values()),
+        "code": [*texts("crates/*/src/**/*.rt").values(), *texts("crates/*/specs/**/*.antt").values()],
         "c": list(texts("tools/c/*").values()),
     }
     told_of = read(f"{TOP}/docs/testing.md")
@@ -225,13 +270,15 @@ def main():
     count, told = 0, 0
     for page in pages:
         text = read(page)
-        wrong = [*wrong_figures(text, stored), *wrong_links(page, text), *((1, it) for it in missing_sections(text))]
+        name = os.path.relpath(page, TOP)
+        whole = [*missing_sections(text), *missing_sums(name, text), *too_long(name, text)]
+        wrong = [*wrong_figures(text, stored), *wrong_links(page, text), *((1, it) for it in whole)]
         for number, block in blocks(text):
             count += 1
             if not is_run(block, sources) and f"`{block[0].strip()}`" not in told_of:
                 wrong.append((number, f"not run, and not named in docs/testing.md: {block[0].strip()}"))
         for number, what in sorted(wrong):
-            print(f"{os.path.relpath(page, TOP)}:{number}: {what}")
+            print(f"{name}:{number}: {what}")
         told += len(wrong)
     if read(write_proved.PAGE) != write_proved.page():
         print("docs/proved.md is not as tools/write_proved.py writes it")

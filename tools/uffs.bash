@@ -7,10 +7,10 @@ _uffs() {
     fi
     local options="--help"
     case "${COMP_WORDS[1]}" in
-        create) options="--blocks --progress --skip-links --help" ;;
+        create) options="--page --pages --blocks --history --progress --skip-links --help" ;;
         diff) options="--exit-code --help" ;;
         forget) options="--free --help" ;;
-        format) options="--part --help" ;;
+        format) options="--part --page --pages --blocks --history --help" ;;
         from-raw) options="--page --pages --help" ;;
         map) options="--html --help" ;;
         put) options="--progress --mirror --skip-links --help" ;;

@@ -79,12 +79,36 @@ def added_word(kind, spelled, known):
     return Word(count if given[0] == "true" else f"[{count}]", value_of(given[1], known))
 
 
-def made_subcommands(source, known, shapes):
+def functions_of(source):
+    """The functions of a file, each with its text."""
+    return re.split(r"\n(?=(?:pub\S* )?fn )", source)
+
+
+def added_by(function, known, groups):
+    """What a function adds to a subcommand, in order. `groups` has what a call adds that adds several options."""
+    found = [(m.start(), [added_word(m.group(1), m.group(2), known)]) for m in ADDS.finditer(function) if '"' in m.group(2)]
+    for name, words in groups.items():
+        found += [(m.start(), words) for m in re.finditer(rf"\b{name}\(alloc, ", function)]
+    return [word for _, words in sorted(found, key=lambda one: one[0]) for word in words]
+
+
+def groups_of(known):
+    """What the functions add that add options for several subcommands, by the name of each."""
+    found = {}
+    for path in SOURCES:
+        for function in functions_of(path.read_text()):
+            name = re.match(r"(?:pub\S* )?fn (with_(?:block_sizes|history))<", function)
+            if name:
+                found[name.group(1)] = added_by(function, known, {})
+    return found
+
+
+def made_subcommands(source, known, shapes, groups):
     """The subcommands that a file makes. `shapes` has what a function of subcommands of one form adds."""
     made, later = {}, []
-    for function in re.split(r"\n(?=(?:pub\S* )?fn )", source):
-        adds = [added_word(m.group(1), m.group(2), known) for m in ADDS.finditer(function) if '"' in m.group(2)]
-        begun = re.search(r"let command = (\w+)\(alloc\)\?;", function)
+    for function in functions_of(source):
+        adds = added_by(function, known, groups)
+        begun = re.search(r"let command = (?:with_\w+\(alloc, )?(\w+)\(alloc\)\?", function)
         if begun:
             later.append((begun.group(1), adds))
         for match in NAMES.finditer(function):
@@ -110,7 +134,8 @@ def subcommands():
             if whole:
                 adds = re.findall(r"with_(word|count)\(\s*alloc,\s*command,\s*(.*?)\)\?", whole.group(0), re.S)
                 shapes[form] = [added_word(kind, spelled, known) for kind, spelled in adds]
-    found = [made for path in SOURCES for made in made_subcommands(path.read_text(), known, shapes)]
+    groups = groups_of(known)
+    found = [made for path in SOURCES for made in made_subcommands(path.read_text(), known, shapes, groups)]
     return known, sorted(found, key=lambda made: made.name)
 
 

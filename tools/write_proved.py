@@ -19,7 +19,7 @@ HEAD = """# What is proved, crate by crate
 
 Every function is safe on every input that its `requires` allows, and returns. Beyond that its contract says what follows: here stand the public functions of each crate, each with what its doc comment says first, and in parentheses the names of the clauses of its contract that the checker has proved. What a word of them means stands in `specs/` of the crates, and [docs/definitions.md](definitions.md) walks through these.
 
-Not proved: that memory is there where a call wants it. Not promised: which of the histories that it may find a restart finds.
+Not proved: that memory is there where a call wants it. After a cut during a sync a restart finds the history after it or one from before it. Which one is not promised.
 
 `tools/write_proved.py` writes this page; [docs/testing.md](testing.md) tells what only tests show.
 """

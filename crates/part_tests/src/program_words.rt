@@ -15,6 +15,7 @@ fn words_are_read_as_a_job(rt: HostRuntime) -> Result<(), Fail> {
         page: 256,
         pages: 16,
         blocks: 64,
+        is_blocks_given: true,
         history: 8,
         is_history_given: false,
         answers: None,

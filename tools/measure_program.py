@@ -67,14 +67,20 @@ def tell_stack(program):
     print("stack: every row", worst, f"KiB ({where})")
 
 
-def measured(words, script=b""):
-    """Seconds and the most resident KiB of a process."""
+def used_by(words, script=b""):
+    """The status of a process, its seconds by the clock, and what it used."""
     began = time.monotonic()
     child = subprocess.Popen(words, stdin=subprocess.PIPE, stdout=subprocess.DEVNULL)
     child.stdin.write(script)
     child.stdin.close()
     _, status, used = os.wait4(child.pid, 0)
-    return status, time.monotonic() - began, used.ru_maxrss
+    return status, time.monotonic() - began, used
+
+
+def measured(words, script=b""):
+    """Seconds and the most resident KiB of a process."""
+    status, seconds, used = used_by(words, script)
+    return status, seconds, used.ru_maxrss
 
 
 def fill(image):
@@ -126,9 +132,10 @@ def flash_bytes(image):
 
 def tell_word(name, words, most=None, script=b""):
     """Tells of a word how long it took and what it held, beside what it may hold."""
-    status, seconds, kib = measured(words, script)
-    bound = "" if most is None else f" of {most // 1024} KiB" + ("" if kib * 1024 <= most else ", TOO MUCH")
-    print(f"{name}: status {os.waitstatus_to_exitcode(status)}, {seconds:.2f} s, {kib} KiB{bound}")
+    status, seconds, used = used_by(words, script)
+    kib, own = used.ru_maxrss, used.ru_utime + used.ru_stime
+    bound = "" if most is None else f" of {most // 1024}" + (", TOO MUCH" if most < kib * 1024 else "")
+    print(f"{name}: status {os.waitstatus_to_exitcode(status)}, {seconds:.2f} s, {own:.2f} s of the processor, {kib} KiB{bound}")
 
 
 def tell_words(program):
@@ -142,7 +149,7 @@ def tell_words(program):
         tell_word("create", [program, "create", image, folder])
         most = flash_bytes(image) + os.path.getsize(image) + (4 << 20)
         print(f"flash {flash_bytes(image)} bytes, image {os.path.getsize(image)} bytes")
-        tell_word("put of the same", [program, "put", image, folder, "/"], most)
+        tell_word("put of the same", [program, "put", image, folder, "/"])
         tell_word("get", [program, "get", image, "/", f"{room}/out"], most)
         same = subprocess.run(["diff", "-r", folder, f"{room}/out"], check=False).returncode
         print("what came out is", "the same" if same == 0 else "OTHER")
@@ -153,7 +160,7 @@ def tell_words(program):
         shutil.copyfile(image, other)
         with open(f"{room}/archive_of_image", "rb") as file:
             tell_word("untar", [program, "untar", other, "/new"], None, file.read())
-        tell_word("diff", [program, "diff", image, "1", "2"], most)
+        tell_word("diff", [program, "diff", image, "@1", "@2"], most)
         tell_word("update", [program, "update", other, image], 2 * most)
 
 

@@ -1,5 +1,5 @@
 //! Each read of a script fails once.
-use crate::runs::{Failure, Session, count, push_line};
+use crate::runs::{Failure, count, push_line, replies_at_last, replies_with};
 use flash_model::FaultKind;
 use fs_types::Fault;
 use session_oracle::{Script, new_image};
@@ -76,34 +76,48 @@ fn fail_read(
         kind: FaultKind::ReadFail,
         number,
     };
-    let mut session = Session::new(alloc, image, Some(failure))?;
-    let Some(told) = session.replies(alloc, lines)? else {
-        let told = session.replies(alloc, lines)?;
-        return Ok(if_same(
-            told.as_deref(),
-            &replies_of(alloc, script, None)?,
-            Went::MountAgain,
-        ));
+    let (told, is_again) = replies_at_last(alloc, image, failure, lines)?;
+    let Some(told) = told else {
+        return Ok(Went::Wrong);
     };
-    let Some(place) = refused_place(script, &told) else {
-        return Ok(if_same(Some(&told), &replies_of(alloc, script, None)?, Went::Well));
-    };
-    let again = lines_of(alloc, script, Some(place))?;
-    let mut session = Session::new(alloc, image, Some(failure))?;
-    let told = session.replies(alloc, &again)?;
-    Ok(if_same(
-        told.as_deref(),
-        &replies_of(alloc, script, Some(place))?,
-        Went::LineAgain,
-    ))
+    if is_again {
+        return judge(alloc, script, None, &told, Went::MountAgain);
+    }
+    match refused_place(script, &told) {
+        Some(place) => fail_line(alloc, script, image, failure, place),
+        None => judge(alloc, script, None, &told, Went::Well),
+    }
 }
 
-/// This, where the replies are the wanted ones.
-fn if_same(told: Option<&str>, wanted: &str, right: Went) -> Went {
-    match told {
-        Some(told) if told == wanted => right,
-        _ => Went::Wrong,
+/// Fails the same read where the line that met it is asked again.
+fn fail_line(
+    alloc: Global,
+    script: &Script<'_>,
+    image: &[u8],
+    failure: Failure,
+    place: usize,
+) -> Result<Went, Fault> {
+    let again = lines_of(alloc, script, Some(place))?;
+    match replies_with(alloc, image, failure, &again)? {
+        Some(told) => judge(alloc, script, Some(place), &told, Went::LineAgain),
+        None => Ok(Went::Wrong),
     }
+}
+
+/// This, where the replies are those of the script, one of them after that of a failed read.
+fn judge(
+    alloc: Global,
+    script: &Script<'_>,
+    twice: Option<usize>,
+    told: &str,
+    right: Went,
+) -> Result<Went, Fault> {
+    let wanted = replies_of(alloc, script, twice)?;
+    Ok(if told == wanted.as_str() {
+        right
+    } else {
+        Went::Wrong
+    })
 }
 
 /// The place of the first line that was refused for a failed read where the script says otherwise.

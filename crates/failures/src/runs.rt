@@ -31,7 +31,7 @@ impl Failure {
 
 /// A flash, with the system that is mounted on it, if one is.
 #[derive(Drop)]
-pub struct Session {
+struct Session {
     flash: SimFlash,
     system: Option<System>,
     ghost mounted: { IfSome system (IsSystem (device_of flash)) } by { seat-prop (device_of flash) system },
@@ -39,7 +39,7 @@ pub struct Session {
 
 impl Session {
     /// The flash of an image of which an operation will fail, if one is to. Nothing is mounted.
-    pub fn new(alloc: Global, image: &[u8], failure: Option<Failure>) -> Result<Session, Fault> {
+    fn new(alloc: Global, image: &[u8], failure: Option<Failure>) -> Result<Session, Fault> {
         let mut flash = flash_of(alloc, image)?;
         if let Some(failure) = failure {
             failure.plan(&mut flash)?;
@@ -51,13 +51,13 @@ impl Session {
     }
 
     /// How many operations there were since the flash was made.
-    pub fn counts(&self) -> Counters {
+    fn counts(&self) -> Counters {
         self.flash.counts()
     }
 
     /// Mounts, and tells what lines are answered then; none where no system could be mounted for a failed
     /// read.
-    pub fn replies(&mut self, alloc: Global, lines: &str) -> Result<Option<String>, Fault> {
+    fn replies(&mut self, alloc: Global, lines: &str) -> Result<Option<String>, Fault> {
         match self.carry_out(alloc, Line::Restart) {
             LineAnswer::Told(Answer::Mounted) => Ok(Some(self.replies_to(alloc, lines)?)),
             LineAnswer::Told(Answer::Refused(Fault::ReadFailed)) => Ok(None),
@@ -77,6 +77,40 @@ impl Session {
 
     fn carry_out(&mut self, alloc: Global, line: Line) -> LineAnswer {
         carry_out(alloc, &mut self.flash, &mut self.system, line)
+    }
+}
+
+/// What lines are answered where an operation fails; none where no system could be mounted for a failed
+/// read.
+pub fn replies_with(
+    alloc: Global,
+    image: &[u8],
+    failure: Failure,
+    lines: &str,
+) -> Result<Option<String>, Fault> {
+    let mut session = Session::new(alloc, image, Some(failure))?;
+    session.replies(alloc, lines)
+}
+
+/// The same, where a first mount that a failed read refused is asked again; and whether it was.
+pub fn replies_at_last(
+    alloc: Global,
+    image: &[u8],
+    failure: Failure,
+    lines: &str,
+) -> Result<(Option<String>, bool), Fault> {
+    let mut session = Session::new(alloc, image, Some(failure))?;
+    replies_or_again(alloc, &mut session, lines)
+}
+
+fn replies_or_again(
+    alloc: Global,
+    session: &mut Session,
+    lines: &str,
+) -> Result<(Option<String>, bool), Fault> {
+    match session.replies(alloc, lines)? {
+        Some(told) => Ok((Some(told), false)),
+        None => Ok((session.replies(alloc, lines)?, true)),
     }
 }
 

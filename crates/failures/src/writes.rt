@@ -1,5 +1,5 @@
 //! Each program and each erase of a script fails once.
-use crate::runs::{Failure, Session, count, push_line};
+use crate::runs::{Failure, count, push_line, replies_with};
 use flash_model::FaultKind;
 use fs_types::Fault;
 use session_oracle::{Script, new_image};
@@ -77,8 +77,7 @@ fn fail_each(
 
 /// Whether the lines are answered as they should with this failure.
 fn is_same_with(alloc: Global, base: &Base<'_>, failure: Failure) -> Result<bool, Fault> {
-    let mut session = Session::new(alloc, base.image, Some(failure))?;
-    match session.replies(alloc, base.lines)? {
+    match replies_with(alloc, base.image, failure, base.lines)? {
         Some(told) => Ok(are_same(&told, base.wanted)),
         None => Ok(false),
     }

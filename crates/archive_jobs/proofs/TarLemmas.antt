@@ -1,13 +1,29 @@
--- How the archive of an image is told, by how its parts end.
-use Rattle.std.proofs.Common.{◌≡◌, ℕ, Option, Result, Ok, Err, List, take, inr, refl, sym, subst}
+-- How the archive of an image is told, by how it is written.
+use Rattle.std.proofs.Common.{◌≡◌, ◌∙◌, ℕ, Option, Result, Ok, Err, List, inl, inr, refl}
 use Rattle.std.specs.Borrow.{Bor}
 use Rattle.std.specs.Io.KnownBytes.{Appends}
+use Rattle.fs_types.specs.declared.call.View.{View}
+use Rattle.flash_model.specs.Device.{Device}
+use Rattle.flash_model.specs.Simulation.{device_of}
+use Rattle.flash_model.specs.declared.sim_flash.SimFlash.{SimFlash}
+use Rattle.image_jobs.specs.Images.{IsSpelledFlash}
 use Rattle.image_jobs.specs.declared.failure.Failure.{Failure}
-use Rattle.archive_jobs.specs.Tars.{IsToldArchive, TarEnds}
+use Rattle.inquiry_jobs.specs.Asking.{view_spelled}
+use Rattle.tree_archives.specs.Archiving.{IsArchived, UnwrittenCause}
+use Rattle.tree_archives.specs.declared.interruption.Interruption.{Interruption}
+use Rattle.tree_archives.specs.declared.unwritten.Unwritten.{Unwritten}
+use Rattle.archive_jobs.specs.Tars.{TarEnds, of_unwritten}
 
--- it is written
-pub tar_written : (seen : Option (Bor (List ℕ))) (held : Option (List ℕ)) (bytes lent : List ℕ) (old new : Option (List ℕ)) → IsToldArchive seen held bytes → lent ≡ bytes → Appends old new lent → TarEnds seen held (Ok tt) old new
-tar_written seen held bytes lent old new told same ok = (lent, subst (IsToldArchive seen held) (sym same) told, ok)
+module _ (seen : Option (Bor (List ℕ))) (held : Option (List ℕ)) (view : View) (flash : SimFlash) (spelled : view_spelled seen ≡ Ok view) (there : IsSpelledFlash held flash) (old new : Option (List ℕ)) where
+  -- it is written to its end
+  pub tar_written : (bytes : List ℕ) × IsArchived (device_of flash) view bytes × Appends old new bytes → TarEnds seen held (Ok tt) old new
+  tar_written is = (is.0, record { view = view; flash = flash; spelled = spelled; there = there; archive = is.1 }, is.2)
 
-pub tar_cut : (seen : Option (Bor (List ℕ))) (held : Option (List ℕ)) (bytes lent : List ℕ) (n : ℕ) (old new : Option (List ℕ)) → IsToldArchive seen held bytes → lent ≡ bytes → Appends old new (take n lent) → TarEnds seen held (Err Failure.Output) old new
-tar_cut seen held bytes lent n old new told same cut = inr (lent, n, subst (IsToldArchive seen held) (sym same) told, refl, cut)
+  -- it is not
+  pub tar_ended : (left : Device) (why : Unwritten) (failure : Failure) → UnwrittenCause (device_of flash) view left old new why → failure ≡ of_unwritten why → TarEnds seen held (Err failure) old new
+  tar_ended left (Unwritten.Unarchived why) failure cause is =
+      inl (inr (inr (view, spelled, record { flash = flash; left = left; why = why; there = there; cause = cause.0; is = is })), cause.1)
+  tar_ended left (Unwritten.Interrupted (Interruption.Met fault)) failure cause is =
+      inr (inl (record { view = view; flash = flash; left = left; fault = fault; spelled = spelled; there = there; cut = cause; is = is }))
+  tar_ended left (Unwritten.Interrupted Interruption.Output) failure cause is =
+      inr (inr (cause.0, cause.1, record { view = view; flash = flash; spelled = spelled; there = there; archive = cause.2 }, is, cause.3))

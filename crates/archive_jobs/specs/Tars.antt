@@ -12,8 +12,10 @@ use Rattle.image_jobs.specs.Failures.{of_system, of_refusal}
 use Rattle.image_jobs.specs.Images.{IsSpelledFlash, LoadCause}
 use Rattle.image_jobs.specs.declared.failure.Failure.{Failure}
 use Rattle.inquiry_jobs.specs.Asking.{view_spelled, IsMisspelled}
-use Rattle.tree_archives.specs.Archiving.{IsArchived, ArchiveCause}
+use Rattle.tree_archives.specs.Archiving.{ArchiveCause, IsArchived, IsCutShort}
+use Rattle.tree_archives.specs.declared.interruption.Interruption.{Interruption}
 use Rattle.tree_archives.specs.declared.unarchived.Unarchived.{Unarchived}
+use Rattle.tree_archives.specs.declared.unwritten.Unwritten.{Unwritten}
 
 -- by why there is no archive: a path without room is one that is too long
 abbrev pub of_unarchived : Unarchived → Failure
@@ -21,6 +23,12 @@ of_unarchived (Unarchived.Unmounted fault) = of_system fault
 of_unarchived (Unarchived.Refused fault) = of_refusal (Refusal.Fault fault)
 of_unarchived Unarchived.TooMuch = Failure.TooManyLines
 of_unarchived (Unarchived.NoRoom path) = Failure.Refused (Refusal.Fault Fault.NameTooLong)
+
+-- by why an archive is not written to its end
+abbrev pub of_unwritten : Unwritten → Failure
+of_unwritten (Unwritten.Unarchived why) = of_unarchived why
+of_unwritten (Unwritten.Interrupted (Interruption.Met fault)) = of_refusal (Refusal.Fault fault)
+of_unwritten (Unwritten.Interrupted Interruption.Output) = Failure.Output
 
 -- words spell a view, and these bytes are the archive of its tree in an image
 pub record IsToldArchive (seen : Option (Bor (List ℕ))) (held : Option (List ℕ)) (bytes : List ℕ) : Type 0 where
@@ -44,8 +52,21 @@ abbrev pub IsUntoldArchive : Option (Bor (List ℕ)) → Option (List ℕ) → F
 IsUntoldArchive seen held failure = IsMisspelled (view_spelled seen) failure
     ⊎ (LoadCause held failure ⊎ ((view : View) × (view_spelled seen ≡ Ok view) × HasNoArchive held view failure))
 
--- the archive is written; or there is none, and nothing is written; or the output fails
+-- a flash has an archive of a view, whose first entries are written, each whole, when the work meets this
+pub record IsCutArchive (seen : Option (Bor (List ℕ))) (held : Option (List ℕ)) (failure : Failure) (old new : Option (List ℕ)) : Type 0 where
+  pub view : View
+  pub flash : SimFlash
+  pub left : Device
+  pub fault : Fault
+  pub spelled : view_spelled seen ≡ Ok view
+  pub there : IsSpelledFlash held flash
+  pub cut : IsCutShort (device_of flash) view left old new fault
+  pub is : failure ≡ of_refusal (Refusal.Fault fault)
+
+-- the archive is written; or there is none, and nothing is written; or a read fails or memory is wanted, and its first entries are
+-- written; or the output fails, and a beginning of it is written
 abbrev pub TarEnds : Option (Bor (List ℕ)) → Option (List ℕ) → Result (Unit {0}) Failure → Option (List ℕ) → Option (List ℕ) → Type 0
 TarEnds seen held (Ok done) old new = (bytes : List ℕ) × IsToldArchive seen held bytes × Appends old new bytes
 TarEnds seen held (Err failure) old new = (IsUntoldArchive seen held failure × (new ≡ old))
-    ⊎ ((bytes : List ℕ) × (n : ℕ) × IsToldArchive seen held bytes × (failure ≡ Failure.Output) × Appends old new (take n bytes))
+    ⊎ (IsCutArchive seen held failure old new
+    ⊎ ((bytes : List ℕ) × (n : ℕ) × IsToldArchive seen held bytes × (failure ≡ Failure.Output) × Appends old new (take n bytes)))

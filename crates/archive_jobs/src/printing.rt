@@ -1,22 +1,22 @@
 //! The archive of a view of an image.
 ghost use Rattle.std.specs.Prelude.{◌≡◌, Ok, IfOk, IfErr};
 ghost use Rattle.inquiry_jobs.specs.Asking.{view_spelled, IsMisspelled};
-ghost use Rattle.archive_jobs.specs.Tars.{of_unarchived, IsToldArchive, IsUntoldArchive, TarEnds};
+ghost use Rattle.archive_jobs.specs.Tars.{of_unarchived, of_unwritten, TarEnds};
 
-use crate::telling::tell_unarchived;
+use crate::telling::tell_unwritten;
 use flash_model::Flash;
 use fs_types::{Fault, View};
 use host_files::ImageFiles;
 use image_jobs::{Failure, load};
 use inquiry_jobs::view_of_word;
 use job_messages::tell_refusal;
-use script::write_out;
 use script_runs::Refusal;
 use std::alloc::Global;
 use std::io::Write;
-use tree_archives::{Unarchived, archive_of_view};
+use tree_archives::{Interruption, Unarchived, Unwritten, write_archive};
 
-/// Writes the archive of all that stands in a view of an image. What is refused is told.
+/// Writes the archive of all that stands in a view of an image, an entry at a time. What is refused is told.
+/// Nothing is written where there is no archive; what is met later leaves a first part of it.
 pub fn tell_archive<F: ImageFiles, W: Write, E: Write>(
     files: &F,
     alloc: Global,
@@ -27,27 +27,6 @@ pub fn tell_archive<F: ImageFiles, W: Write, E: Write>(
 ) -> Result<(), Failure>
     ensures { TarEnds view.entry (F.held files.now name.now) result (W.contents out.old) (W.contents out.new) }
 {
-    let archive = match archive_of_image(files, alloc, name, view, err) {
-        Ok(archive) => archive,
-        Err(failure) => return Err(failure),
-    };
-    match write_out(out, &archive) {
-        Ok(()) => Ok(()),
-        Err(_) => Err(Failure::Output),
-    }
-}
-
-/// The archive of a view of an image.
-fn archive_of_image<F: ImageFiles, E: Write>(
-    files: &F,
-    alloc: Global,
-    name: &str,
-    view: Option<&str>,
-    err: &mut E,
-) -> Result<Vec<u8>, Failure>
-    ensures ok { IfOk result (λ archive. IsToldArchive view.entry (F.held files.now name.now) archive.items) }
-    ensures err { IfErr result (IsUntoldArchive view.entry (F.held files.now name.now)) }
-{
     let view = match told_view(alloc, view, err) {
         Ok(view) => view,
         Err(failure) => return Err(failure),
@@ -56,11 +35,11 @@ fn archive_of_image<F: ImageFiles, E: Write>(
         Ok(flash) => flash,
         Err(failure) => return Err(failure),
     };
-    match archive_of_view(alloc, &mut flash, &view) {
-        Ok(archive) => Ok(archive),
+    match write_archive(alloc, &mut flash, &view, out) {
+        Ok(()) => Ok(()),
         Err(why) => {
-            tell_unarchived(alloc, &why, flash.geometry(), err);
-            Err(of_unarchived(&why))
+            tell_unwritten(alloc, &why, flash.geometry(), err);
+            Err(of_unwritten(&why))
         }
     }
 }
@@ -78,6 +57,19 @@ fn told_view<E: Write>(alloc: Global, word: Option<&str>, err: &mut E) -> Result
             }
             Err(failure)
         }
+    }
+}
+
+/// By why an archive is not written to its end.
+fn of_unwritten(why: &Unwritten) -> Failure
+    ensures { result ≡ of_unwritten why.now }
+{
+    match why {
+        Unwritten::Unarchived(why) => of_unarchived(why),
+        Unwritten::Interrupted(Interruption::Met(fault)) => {
+            Failure::of_refusal(Refusal::Fault(*fault))
+        }
+        Unwritten::Interrupted(Interruption::Output) => Failure::Output,
     }
 }
 

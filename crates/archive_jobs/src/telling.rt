@@ -9,18 +9,27 @@ use std::alloc::{AllocError, Global};
 use std::io::Write;
 use tar_format::HeaderFault;
 use tar_jobs::{ArchiveFault, UnreadArchive};
-use tree_archives::Unarchived;
+use tree_archives::{Interruption, Unarchived, Unwritten};
 
-/// Tells why there is no archive of an image, where that is a refusal.
-pub(crate) fn tell_unarchived<E: Write>(
+/// Tells why the archive of an image is not written to its end, where that is a refusal.
+pub(crate) fn tell_unwritten<E: Write>(
     alloc: Global,
-    why: &Unarchived,
+    why: &Unwritten,
     sizes: Geometry,
     err: &mut E,
 ) {
     match why {
-        Unarchived::Unmounted(_) | Unarchived::TooMuch | Unarchived::Refused(Fault::NoMemory) => {}
-        Unarchived::Refused(fault) => tell_refusal(Refusal::Fault(*fault), "", err),
+        Unwritten::Unarchived(why) => tell_unarchived(alloc, why, sizes, err),
+        Unwritten::Interrupted(Interruption::Met(fault)) => tell_met(*fault, err),
+        Unwritten::Interrupted(Interruption::Output) => {}
+    }
+}
+
+/// Tells why there is no archive of an image, where that is a refusal.
+fn tell_unarchived<E: Write>(alloc: Global, why: &Unarchived, sizes: Geometry, err: &mut E) {
+    match why {
+        Unarchived::Unmounted(_) | Unarchived::TooMuch => {}
+        Unarchived::Refused(fault) => tell_met(*fault, err),
         Unarchived::NoRoom(path) => {
             tell_refused(
                 alloc,
@@ -31,6 +40,14 @@ pub(crate) fn tell_unarchived<E: Write>(
                 err,
             );
         }
+    }
+}
+
+/// Tells a refusal, but no want of memory.
+fn tell_met<E: Write>(fault: Fault, err: &mut E) {
+    match fault {
+        Fault::NoMemory => {}
+        fault => tell_refusal(Refusal::Fault(fault), "", err),
     }
 }
 

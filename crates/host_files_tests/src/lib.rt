@@ -2,6 +2,8 @@
 #![tactic(auto)]
 
 #[cfg(test)]
+mod copied_images;
+#[cfg(test)]
 mod folders;
 #[cfg(test)]
 mod gets;

@@ -5,4 +5,5 @@ mod telling;
 
 pub use telling::{
     tell_failure, tell_fault, tell_left_out, tell_misplaced, tell_refusal, tell_refused,
+    tell_refused_format,
 };

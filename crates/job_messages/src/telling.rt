@@ -21,7 +21,7 @@ const NODE_HEADER: usize = 80;
 /// Bytes of the largest flash.
 const MAX_FLASH_BYTES: usize = 67_108_864;
 
-/// Tells why a job did not run to its end, unless that was told before: a put and an archive tell by
+/// Tells why a job did not run to its end, unless that was told before: a put, an archive and a copy tell by
 /// themselves what was refused.
 pub fn tell_failure<F: ImageFiles, E: Write>(
     files: &F,
@@ -32,6 +32,7 @@ pub fn tell_failure<F: ImageFiles, E: Write>(
 ) {
     let _ = match failure {
         Failure::Refused(_) if tells_refusals(job.command) => Ok(()),
+        Failure::System(_) if job.command == Task::Copy => Ok(()),
         Failure::System(fault) if has_sizes(job.command) => {
             tell_refused_sizes(alloc, job, fault, err)
         }
@@ -49,7 +50,10 @@ pub fn tell_failure<F: ImageFiles, E: Write>(
 
 /// Whether a task tells by itself what is refused.
 fn tells_refusals(command: Task) -> bool {
-    matches!(command, Task::Put | Task::Create | Task::Tar | Task::Untar)
+    matches!(
+        command,
+        Task::Put | Task::Create | Task::Tar | Task::Untar | Task::Copy
+    )
 }
 
 /// Whether a task is given sizes.
@@ -94,7 +98,9 @@ fn read_by(job: Job<'_>) -> &str {
 /// The name of what a job writes.
 fn written_by(job: Job<'_>) -> &str {
     match job.command {
-        Task::Get | Task::MapPage | Task::ToPart | Task::ToRaw => word_given(job.file),
+        Task::Get | Task::MapPage | Task::ToPart | Task::ToRaw | Task::Copy => {
+            word_given(job.file)
+        }
         Task::Serve => word_given(job.orders),
         Task::ServePart | Task::FormatPart => word_given(job.part),
         _ => word_given(job.image),
@@ -131,9 +137,37 @@ fn refused_number(alloc: Global, job: Job<'_>, fault: Fault) -> Result<Option<St
         }
         (Fault::BadGeometry, Task::FromRaw) => refused_raw(alloc, job)?,
         (Fault::BadGeometry, Task::Create) if !job.is_blocks_given => return Ok(None),
-        (Fault::BadGeometry, _) => refused_size(alloc, sizes_of(job))?,
-        (Fault::Invalid, _) => {
-            let history = job.history;
+        _ => return format_number(alloc, sizes_of(job), job.history, fault),
+    };
+    Ok(Some(text))
+}
+
+/// Tells why a format for these sizes and so many versions is refused, with the number that it is refused
+/// for.
+pub fn tell_refused_format<E: Write>(
+    alloc: Global,
+    sizes: Geometry,
+    history: u32,
+    fault: Fault,
+    err: &mut E,
+) {
+    let refusal = Refusal::Fault(fault);
+    let _ = match format_number(alloc, sizes, history, fault) {
+        Ok(Some(number)) => explain_refusal(refusal, Some(number.as_str()), err),
+        _ => explain_refusal(refusal, None, err),
+    };
+}
+
+/// The number that a format is refused for, if it is one, with what it may be.
+fn format_number(
+    alloc: Global,
+    sizes: Geometry,
+    history: u32,
+    fault: Fault,
+) -> Result<Option<String>, AllocError> {
+    let text = match fault {
+        Fault::BadGeometry => refused_size(alloc, sizes)?,
+        Fault::Invalid => {
             format!(in alloc; "--history {history} is not {MIN_VERSIONS} to {MAX_VERSIONS}")?
         }
         _ => return Ok(None),

@@ -112,6 +112,16 @@ sized_app = with_rule (with_rule (with_block_rules (with_rule (image_app (codes 
 abbrev pub create_app : App
 create_app = with_rule (with_rule sized_app (flag_rule (codes "progress"))) (flag_rule (codes "skip-links"))
 
+-- two images, of which the second is to have the history of the first; with its sizes, and with its flag
+abbrev pub copied_app : App
+copied_app = with_rule (with_rule (new_app (codes "copy")) (shown_rule (codes "IMAGE"))) (shown_rule (codes "FILE"))
+
+abbrev pub with_size_rules : App → App
+with_size_rules app = with_rule (with_rule (with_block_rules app) (number_rule (codes "blocks"))) (number_rule (codes "history"))
+
+abbrev pub copy_app : App
+copy_app = with_rule (with_size_rules copied_app) (flag_rule (codes "salvage"))
+
 -- an archive of what stands in an image, and one that is put into an image
 abbrev pub tar_app : App
 tar_app = with_rule (image_app (codes "tar")) (optional_rule (codes "VIEW"))
@@ -176,4 +186,4 @@ with_about_apps app = with_subcommand (with_subcommand (with_subcommand app expl
 
 -- the program
 abbrev pub uffs : App
-uffs = with_about_apps (with_subcommand (with_archive_apps (with_update_apps (with_raw_apps (with_part_apps (with_subcommand (with_subcommand (with_image_apps (with_reading_apps (with_history_apps changing_app))) (new_app (codes "memory")).top) serve_app.top))))) create_app.top)
+uffs = with_about_apps (with_subcommand (with_subcommand (with_archive_apps (with_update_apps (with_raw_apps (with_part_apps (with_subcommand (with_subcommand (with_image_apps (with_reading_apps (with_history_apps changing_app))) (new_app (codes "memory")).top) serve_app.top))))) create_app.top) copy_app.top)

@@ -43,6 +43,7 @@ task_named name = if bytes_eq name (codes "format") then Some Task.Format
     else if bytes_eq name (codes "from-raw") then Some Task.FromRaw
     else if bytes_eq name (codes "update") then Some Task.Update
     else if bytes_eq name (codes "create") then Some Task.Create
+    else if bytes_eq name (codes "copy") then Some Task.Copy
     else if bytes_eq name (codes "tar") then Some Task.Tar
     else if bytes_eq name (codes "untar") then Some Task.Untar
     else if bytes_eq name (codes "explain") then Some Task.Explain
@@ -147,6 +148,8 @@ pub record IsJobOf (name : Text) (rows : List Row) (job : Job) : Type 0 where
   pub count : IsNumberOf (one_of (count_word job.command) rows) 1 job.count
   pub refusal : word_text job.refusal ≡ first_of (codes "REFUSAL") rows
   pub checkpoint : word_text job.checkpoint ≡ first_of (codes "NAME") rows
+  pub is_page_given : job.is_page_given ≡ is_some (first_of (codes "page") rows)
+  pub is_pages_given : job.is_pages_given ≡ is_some (first_of (codes "pages") rows)
   pub is_blocks_given : job.is_blocks_given ≡ is_some (first_of (codes "blocks") rows)
   pub is_history_given : job.is_history_given ≡ is_some (first_of (codes "history") rows)
   pub answers : word_text job.answers ≡ first_of (codes "ANSWERS") rows
@@ -161,6 +164,7 @@ pub record IsJobOf (name : Text) (rows : List Row) (job : Job) : Type 0 where
   pub progress : job.progress ≡ flag_of (first_of (codes "progress") rows)
   pub mirror : job.mirror ≡ flag_of (first_of (codes "mirror") rows)
   pub skip_links : job.skip_links ≡ flag_of (first_of (codes "skip-links") rows)
+  pub salvage : job.salvage ≡ flag_of (first_of (codes "salvage") rows)
 
 -- the job is what a subcommand says, where one was named
 abbrev pub SaysJob : Option (Text × List Row) → Job → Type 0

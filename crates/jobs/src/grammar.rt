@@ -7,6 +7,7 @@ ghost use Rattle.jobs.specs.Grammar.{formatted_app, named_rule, with_block_rules
 
 use crate::about_commands::with_about_commands;
 use crate::archive_commands::with_archive_commands;
+use crate::copy_commands::copy_command;
 use crate::create_commands::create_command;
 use crate::history_commands::with_history_commands;
 use crate::part_commands::with_part_commands;
@@ -48,7 +49,7 @@ const PROGRAM_HELP: &str = "Status:
   2  the words were refused, or help or the version was asked for
   3  IMAGE holds no image, or a format or a mount was refused
   4  what was asked for was refused, or a line of a script with --stop
-  5  trees differ, with diff --exit-code
+  5  trees differ, with diff --exit-code, or something is lost, with copy --salvage
 
 Example:
   uffs format disk.image
@@ -140,7 +141,7 @@ and its name, how many directories and files stand in its tree, and the bytes of
 how many blocks more are free once it and the versions before it are forgotten; and alone, how many
 blocks nothing else keeps. The present version is told as such. Nothing is written to IMAGE.
 
-Status: as of check.
+Status: as of check; 4 it was refused by what the reading meets, told as uffs: EIO 23.
 
 Example: uffs versions disk.image";
 
@@ -176,7 +177,8 @@ by it and others, V by other versions, C by checkpoints alone, - free and not er
 Nothing is written to IMAGE. With --html the same is written to FILE as a page that needs no other file,
 and nothing is printed. FILE is the old file or the new one, whole, and is never IMAGE.
 
-Status: as of check; 1 also where FILE cannot be written.
+Status: as of check; 1 also where FILE cannot be written; 4 it was refused by what the reading meets,
+told as uffs: EIO 23.
 
 Example: uffs map disk.image
          uffs map disk.image --html map.html";
@@ -217,6 +219,7 @@ pub(crate) fn program<'a>(alloc: Global) -> Result<Command<'a>, AllocError>
     let program = with_update_commands(alloc, program)?;
     let program = with_archive_commands(alloc, program)?;
     let program = program.subcommand(create_command(alloc)?)?;
+    let program = program.subcommand(copy_command(alloc)?)?;
     with_about_commands(alloc, program)
 }
 

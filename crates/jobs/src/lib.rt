@@ -4,6 +4,7 @@
 mod about;
 mod about_commands;
 mod archive_commands;
+mod copy_commands;
 mod create_commands;
 mod grammar;
 mod history_commands;

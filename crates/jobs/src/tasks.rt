@@ -72,6 +72,8 @@ pub enum Task {
     Update,
     /// An image is made of a folder of the host.
     Create,
+    /// The history of an image is copied to a new one.
+    Copy,
     /// An archive of what stands in an image is printed.
     Tar,
     /// The archive on the input is put into an image.
@@ -93,8 +95,12 @@ pub struct Job<'a> {
     pub image: Option<&'a str>,
     /// Bytes of a page.
     pub page: u32,
+    /// Whether a word gives how many bytes a page has.
+    pub is_page_given: bool,
     /// Pages of a block.
     pub pages: u32,
+    /// Whether a word gives how many pages a block has.
+    pub is_pages_given: bool,
     /// Blocks of the flash.
     pub blocks: u32,
     /// Whether a word gives how many blocks.
@@ -122,7 +128,7 @@ pub struct Job<'a> {
     /// The path in the image; none where none is named.
     pub path: Option<&'a str>,
     /// The file of the host, or that of a part which is made of an image or becomes one, or of its bytes,
-    /// or that of a page; none where none is named.
+    /// or that of a page, or that of a second image; none where none is named.
     pub file: Option<&'a str>,
     /// The view of the image; none where none is named.
     pub view: Option<&'a str>,
@@ -134,4 +140,6 @@ pub struct Job<'a> {
     pub mirror: bool,
     /// Whether links are left out.
     pub skip_links: bool,
+    /// Whether what is whole of a damaged image is copied.
+    pub salvage: bool,
 }

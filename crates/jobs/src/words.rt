@@ -108,6 +108,8 @@ fn said<'a>(matches: &ArgMatches<'a>) -> Option<Job<'a>>
         count,
         refusal: word(given, REFUSAL),
         checkpoint: word(given, NAME),
+        is_page_given: is_given(given, "page"),
+        is_pages_given: is_given(given, "pages"),
         is_blocks_given: is_given(given, "blocks"),
         is_history_given: is_given(given, "history"),
         answers: word(given, ANSWERS),
@@ -122,6 +124,7 @@ fn said<'a>(matches: &ArgMatches<'a>) -> Option<Job<'a>>
         progress: has_flag(given, "progress"),
         mirror: has_flag(given, "mirror"),
         skip_links: has_flag(given, "skip-links"),
+        salvage: has_flag(given, "salvage"),
     })
 }
 
@@ -228,6 +231,7 @@ fn task_named(name: &str) -> Option<Task>
         "from-raw" => Some(Task::FromRaw),
         "update" => Some(Task::Update),
         "create" => Some(Task::Create),
+        "copy" => Some(Task::Copy),
         "tar" => Some(Task::Tar),
         "untar" => Some(Task::Untar),
         "explain" => Some(Task::Explain),

@@ -13,7 +13,9 @@ fn words_are_read_as_a_job(rt: HostRuntime) -> Result<(), Fail> {
         command: Task::Format,
         image: Some("disk.image"),
         page: 256,
+        is_page_given: false,
         pages: 16,
+        is_pages_given: false,
         blocks: 64,
         is_blocks_given: true,
         history: 8,
@@ -33,6 +35,7 @@ fn words_are_read_as_a_job(rt: HostRuntime) -> Result<(), Fail> {
         progress: false,
         mirror: false,
         skip_links: false,
+        salvage: false,
     };
     assert_eq!(rt; job(rt.alloc(), words.as_slice()).ok(), Some(wanted));
     Ok(())

@@ -62,6 +62,8 @@ memory_job = record {
   pages = 16;
   blocks = 32;
   history = 8;
+  is_page_given = false;
+  is_pages_given = false;
   is_blocks_given = false;
   is_history_given = false;
   answers = None;
@@ -79,6 +81,7 @@ memory_job = record {
   progress = false;
   mirror = false;
   skip_links = false;
+  salvage = false;
 }
 
 memory_says : SaysJob (Some (codes "memory", [])) memory_job
@@ -94,6 +97,8 @@ memory_says = record {
   exit_code = refl;
   count = refl;
   checkpoint = refl;
+  is_page_given = refl;
+  is_pages_given = refl;
   is_blocks_given = refl;
   is_history_given = refl;
   answers = refl;
@@ -107,6 +112,7 @@ memory_says = record {
   progress = refl;
   mirror = refl;
   skip_links = refl;
+  salvage = refl;
 }
 
 no_image : (image : Option (Bor (List ℕ))) → option_map (λ (s : Bor (List ℕ)). s.now) image ≡ None → image ≡ None

@@ -35,6 +35,8 @@ use Rattle.inquiry_jobs.specs.Tellings.{TellEnds, DiffEnds}
 use Rattle.update_jobs.specs.Updated.{UpdateEnds}
 use Rattle.folder_jobs.specs.Gets.{GetEnds}
 use Rattle.put_jobs.specs.Putting.{PutEnds}
+use Rattle.copy_jobs.specs.Copying.{CopyEnds}
+use Rattle.copy_jobs.specs.declared.asked_sizes.AskedSizes.{AskedSizes}
 use Rattle.create_jobs.specs.Creations.{CreateEnds}
 use Rattle.create_jobs.specs.declared.creation.NewImage.{NewImage}
 use Rattle.archive_jobs.specs.Tars.{TarEnds}
@@ -90,6 +92,19 @@ sizes_of job = record { page = job.page; pages = job.pages; blocks = job.blocks 
 -- what a job asks that a new image has
 abbrev pub image_asked : Job → NewImage
 image_asked job = record { page = job.page; pages = job.pages; blocks = if job.is_blocks_given then Some job.blocks else None; history = job.history }
+
+-- a number of a job, where a word gives it
+abbrev pub number_given : ℕ → Bool → Option ℕ
+number_given number is_given = if is_given then Some number else None
+
+-- what a job asks that a copy has
+abbrev pub sizes_asked : Job → AskedSizes
+sizes_asked job = record {
+  page = number_given job.page job.is_page_given;
+  pages = number_given job.pages job.is_pages_given;
+  blocks = number_given job.blocks job.is_blocks_given;
+  history = number_given job.history job.is_history_given;
+}
 
 -- no file changes, and no input is read
 pub record OnlyPrints (before after : Host) : Type 0 where
@@ -150,6 +165,7 @@ EndsOn job name known before result after = elim (job.command) as (λ task. Type
   | Task.Run ↦ RunEnds job.stop name (known.claimed name) before result after × KeepsOthers name before.files after.files
   | Task.Put ↦ PutsFrom (is_stream (word_given job.file)) job.mirror job.skip_links (word_given job.path) name (known.claimed name) (known.gathered (word_given job.file) name) before result after
   | Task.Create ↦ CreateEnds (image_asked job) job.skip_links name before.files after.files (known.gathered (word_given job.file) name) result × KeepsOthers name before.files after.files × OnlyWrites before after
+  | Task.Copy ↦ CopyEnds (sizes_asked job) job.salvage name (word_given job.file) before.files after.files result × KeepsOthers (word_given job.file) before.files after.files × OnlyWrites before after
   | Task.History call ↦ HistoryEnds (history_spelled call (word_given job.checkpoint) job.count) name (known.claimed name) before.files result after.files × KeepsOthers name before.files after.files × OnlyWrites before after
   | Task.Trim ↦ RunsUnprinted trim_script name (known.claimed name) before.files result after.files × KeepsOthers name before.files after.files × OnlyWrites before after
   | Task.Get ↦ GetsTo (is_stream (word_given job.file)) job name before result after

@@ -2,6 +2,7 @@
 #![tactic(auto)]
 
 mod about;
+mod copy;
 mod explanations;
 mod get;
 mod process;

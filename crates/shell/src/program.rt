@@ -7,6 +7,7 @@ ghost use Rattle.image_jobs.specs.Images.{host_at};
 ghost use Rattle.shell.specs.Tools.{known_by, image_asked, EndsAlone, EndsOn, JobEnds, MemoryEnds, ToolEnds, MemoryBy, sizes_of, word_given, refused_status, is_memory};
 
 use crate::about::{tell_help, tell_version};
+use crate::copy::copy_to;
 use crate::explanations::explain;
 use crate::get::get_to;
 use crate::put_from::put_from;
@@ -38,7 +39,7 @@ use update_jobs::tell_update;
 /// the output or memory failed. 2: the words were refused, also where they want a folder and what is put
 /// is none, or help was asked for. 3: the image, the part, a format or a mount was refused. 4: what was
 /// asked for was refused, or a line of a script that is to stop there. 5: trees differ, where the status
-/// is to tell it. Where it is 1 to 4, `err` says why.
+/// is to tell it, or something of an image that was salvaged is lost. Where it is 1 to 4, `err` says why.
 pub fn tool<F: Folders + Sources + Channels + Parts, R: Read, W: Write, E: Write>(
     files: &mut F,
     alloc: Global,
@@ -141,6 +142,7 @@ fn do_task<F: Folders + Sources + Channels + Parts, R: Read, W: Write, E: Write>
         Task::Run => run_image(files, alloc, name, job.stop, reader, out),
         Task::Put => put_from(files, alloc, name, order_of(job), reader, err),
         Task::Create => create_image(files, alloc, name, creation_of(job), err),
+        Task::Copy => copy_to(files, alloc, job, name, err),
         Task::History(call) => {
             let checkpoint = word_given(job.checkpoint);
             change_history(files, alloc, name, call, checkpoint, job.count)

@@ -13,3 +13,5 @@ mod retries;
 mod scripts;
 #[cfg(test)]
 mod sessions;
+#[cfg(test)]
+mod shared_trees;

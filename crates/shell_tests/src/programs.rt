@@ -7,7 +7,6 @@ use crate::scripts::{Broken, Full};
 use host_files::{
     Channels, FileFault, Folders, ImageFiles, MOST_BYTES, Parts, Source, SourceKind, Sources,
 };
-use image_makers::many_paths;
 use program_calls::{Wanted, call, erased_image, first_other, fresh_image, words_of};
 use shell::tool;
 use std::alloc::{AllocError, Global};
@@ -17,14 +16,14 @@ use std::test::Fail;
 
 /// A file in memory, whose name is `x`, and one that is only read, `y`: there is no other.
 #[derive(Drop)]
-struct OneFile {
-    bytes: Vec<u8>,
+pub(crate) struct OneFile {
+    pub(crate) bytes: Vec<u8>,
     is_taken: bool,
     is_full: bool,
 }
 
 impl OneFile {
-    fn new(alloc: Global) -> OneFile {
+    pub(crate) fn new(alloc: Global) -> OneFile {
         OneFile {
             bytes: Vec::new(alloc),
             is_taken: false,
@@ -194,7 +193,7 @@ impl Parts for OneFile {
 }
 
 /// Asserts what calls of the program give, one after the other.
-fn assert_calls<R: Abort>(
+pub(crate) fn assert_calls<R: Abort>(
     rt: &R,
     files: &mut OneFile,
     alloc: Global,
@@ -507,6 +506,28 @@ fn an_image_that_is_not_mounted_is_told(rt: HostRuntime) -> Result<(), Fail> {
 }
 
 #[test]
+fn a_copy_that_is_refused_is_told(rt: HostRuntime) -> Result<(), Fail> {
+    let alloc = rt.alloc();
+    let mut files = OneFile::new(alloc);
+    files.bytes = fresh_image(alloc)?;
+    let unwritten = (1, "", "uffs: cannot write x\n");
+    let calls: [Wanted<'_>; 3] = [
+        (&["copy", "x", "x"], "", unwritten),
+        (&["copy", "link to x", "x"], "", unwritten),
+        (&["copy", "x", "y"], "", (1, "", "uffs: cannot write y\n")),
+    ];
+    assert_calls(&rt, &mut files, alloc, &calls)?;
+    files.bytes = erased_image(alloc)?;
+    let refused = (3, "", "uffs: NORECORD 27\n");
+    assert_calls(
+        &rt,
+        &mut files,
+        alloc,
+        &[(&["copy", "x", "y"], "", refused)],
+    )
+}
+
+#[test]
 fn words_that_ask_for_no_job_are_told(rt: HostRuntime) -> Result<(), Fail> {
     let alloc = rt.alloc();
     let mut files = OneFile::new(alloc);
@@ -753,48 +774,4 @@ fn a_tree_that_cannot_be_written_is_told(rt: HostRuntime) -> Result<(), Fail> {
     assert_eq!(rt; (status, err.as_slice()), (1, &b"uffs: output\n"[..]));
     assert_eq!(rt; out.bytes.as_slice(), b"/d".as_slice());
     Ok(())
-}
-
-// By hand: 15 levels of four names, and a file of two bytes below each path. Below a directory of the last
-// level stand 1 entry and 2 bytes, and below one of the level before four times one more entry and four
-// times the bytes. Each version keeps its root alone.
-#[test]
-fn trees_that_share_directories_are_counted(rt: HostRuntime) -> Result<(), Fail> {
-    let alloc = rt.alloc();
-    let mut files = OneFile::new(alloc);
-    files.bytes = many_paths(alloc, 4)?;
-    let versions = "@1 entries 2505397588 bytes 2147483648 frees 1 alone 1\n\
-        @3 entries 1879048191 bytes 1610612736 alone 1 present\n";
-    let refused = (4, "", "uffs: TOOMANYLINES\n");
-    let calls: [Wanted<'_>; 10] = [
-        (&["check", "x"], "", (0, "ok\n", "")),
-        (&["versions", "x"], "", (0, versions, "")),
-        (&["tree", "x"], "", refused),
-        (&["tree", "x", "@1"], "", refused),
-        (&["get", "x", "/", "folder"], "", refused),
-        (&["get", "x", "/", "folder", "@1"], "", refused),
-        (&["update", "x", "x"], "", refused),
-        (&["diff", "x", "@1"], "", refused),
-        (&["diff", "x", "@1", "@1"], "", (0, "", "")),
-        (&["diff", "x", "@3", "--exit-code"], "", (0, "", "")),
-    ];
-    assert_calls(&rt, &mut files, alloc, &calls)
-}
-
-#[test]
-fn sums_past_the_greatest_number_are_told(rt: HostRuntime) -> Result<(), Fail> {
-    let alloc = rt.alloc();
-    let mut files = OneFile::new(alloc);
-    files.bytes = many_paths(alloc, 32)?;
-    let past = ">18446744073709551615";
-    let versions = format!(in alloc;
-        "@1 entries {past} bytes {past} frees 1 alone 1\n@3 entries {past} bytes {past} alone 1 present\n"
-    )?;
-    let refused = (4, "", "uffs: TOOMANYLINES\n");
-    let calls: [Wanted<'_>; 3] = [
-        (&["versions", "x"], "", (0, versions.as_str(), "")),
-        (&["tree", "x"], "", refused),
-        (&["diff", "x", "@1"], "", refused),
-    ];
-    assert_calls(&rt, &mut files, alloc, &calls)
 }

@@ -1,2 +1,4 @@
 pub mod EntryLemmas
+pub mod RoomLemmas
+pub mod WriteLemmas
 pub mod ArchiveLemmas

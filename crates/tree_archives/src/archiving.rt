@@ -1,70 +1,109 @@
 //! The archive of a view of a flash.
-ghost use Rattle.std.specs.Prelude.{◌≡◌, ℕ, ◌<◌, true, None, Some, All, length, position, not, option_map, slice_get, IfOk, OnOk, IfErr};
+ghost use Rattle.std.specs.Prelude.{◌≡◌, ℕ, List, true, None, IfOk, OnOk, IfErr};
 ghost use Rattle.std.specs.List.{list_all};
+ghost use Rattle.std.specs.Io.KnownBytes.{Appends};
 ghost use Rattle.history_machine.specs.History.{view_refusal};
+ghost use Rattle.history_machine.specs.Machine.{view_tree};
+ghost use Rattle.inquiries.specs.Folders.{IsSmall};
+ghost use Rattle.inquiries.specs.Items.{items_of};
 ghost use Rattle.inquiries.specs.Readings.{shown, IsUnchanged};
-ghost use Rattle.tar_jobs.specs.Archives.{has_room, archive_of, IsShort};
-ghost use Rattle.tree_archives.specs.Archiving.{IsArchiveOf, ArchiveFails, IsArchived, ArchiveCause, Unspelled};
+ghost use Rattle.tree_archives.specs.Archiving.{IsArchiveOf, ArchiveFails, WriteFails, IsArchived, UnwrittenCause};
+ghost use Rattle.tree_archives.specs.Entries.{has_room_for};
 
-use crate::entries::entries_of;
+use crate::room::check_room;
 use crate::unarchived::Unarchived;
+use crate::unwritten::Unwritten;
+use crate::writing::write_items;
 use flash_model::Flash;
-use fs_types::{Fault, Path, View};
-use inquiries::{TellFault, list_folder, stat_at};
-use std::alloc::{AllocError, Global};
-use tar_jobs::{ArchiveEntry, entry_without_room, spell_archive};
+use fs_types::{Path, View};
+use inquiries::{Item, TellFault, list_folder, stat_at};
+use std::alloc::Global;
+use std::io::Write;
 use undofs::{Fs, RefusedMount};
 
-/// Mounts what the newest record of a flash holds, and gives the archive of all that stands in the tree of a
-/// view: a directory before what stands in it, and names in byte order. The flash is only read.
+/// Mounts what the newest record of a flash holds, and writes the archive of all that stands in the tree of a
+/// view: a directory before what stands in it, and names in byte order. The flash is only read. Of the files
+/// one is held at a time.
 ///
-/// `TooMuch` where the tree has more than is copied out of one; `NoRoom` with the first path for which the
-/// format has no room.
-pub fn archive_of_view<F: Flash>(
+/// Nothing is written where there is no archive: `TooMuch` where the tree has more than is copied out of one,
+/// and `NoRoom` with the first path for which the format has no room. Once a byte is written a read may fail,
+/// memory be wanted, or the output fail, which leaves a first part of the archive.
+pub fn write_archive<F: Flash, W: Write>(
     alloc: Global,
     flash: &mut F,
     view: &View,
-) -> Result<Vec<u8>, Unarchived>
-    ensures ok { IfOk result (λ archive. IsArchived (F.device flash.old) view.now archive.items) }
+    out: &mut W,
+) -> Result<(), Unwritten>
+    ensures ok { OnOk result ((bytes : List ℕ) × IsArchived (F.device flash.old) view.now bytes × Appends (W.contents out.old) (W.contents out.new) bytes) }
     ensures pages { (p : ℕ) → (F.device flash.new).pages p ≡ (F.device flash.old).pages p }
-    ensures err { IfErr result (ArchiveCause (F.device flash.old) view.now (F.device flash.new)) }
+    ensures err { IfErr result (UnwrittenCause (F.device flash.old) view.now (F.device flash.new) (W.contents out.old) (W.contents out.new)) }
 {
     match Fs::mount_or_release(alloc, flash) {
         Ok(fs) => {
             let mut fs = fs;
-            let archive = archive(alloc, &mut fs, view);
+            let written = write_view(alloc, &mut fs, view, out);
             let _left = fs.into_flash();
-            archive
+            written
         }
         Err(refused) => {
             let RefusedMount { fault, flash: left } = refused;
             let _left = left;
-            Err(Unarchived::Unmounted(fault))
+            Err(Unwritten::Unarchived(Unarchived::Unmounted(fault)))
         }
     }
 }
 
-/// The archive of the tree of a view.
-fn archive<F: Flash>(alloc: Global, fs: &mut Fs<'_, F>, view: &View) -> Result<Vec<u8>, Unarchived>
+/// Writes the archive of the tree of a view.
+fn write_view<F: Flash, W: Write>(
+    alloc: Global,
+    fs: &mut Fs<'_, F>,
+    view: &View,
+    out: &mut W,
+) -> Result<(), Unwritten>
     ensures same { IsUnchanged fs.old fs.new }
-    ensures ok { IfOk result (λ archive. IsArchiveOf (shown fs.old) view.now archive.items) }
+    ensures ok { OnOk result ((bytes : List ℕ) × IsArchiveOf (shown fs.old) view.now bytes × Appends (W.contents out.old) (W.contents out.new) bytes) }
+    ensures err { IfErr result (WriteFails (shown fs.old) view.now (F.device fs.old.flash.now) (F.device fs.new.flash.now) (W.contents out.old) (W.contents out.new)) }
+{
+    let items = match find_items(alloc, fs, view) {
+        Ok(items) => items,
+        Err(why) => return Err(Unwritten::Unarchived(why)),
+    };
+    match write_items(alloc, fs, view, &items, out) {
+        Ok(()) => Ok(()),
+        Err(why) => Err(Unwritten::Interrupted(why)),
+    }
+}
+
+/// All that stands in the tree of a view, for each of which the format has room.
+fn find_items<F: Flash>(
+    alloc: Global,
+    fs: &mut Fs<'_, F>,
+    view: &View,
+) -> Result<Vec<Item>, Unarchived>
+    ensures same { IsUnchanged fs.old fs.new }
+    ensures accepted { OnOk result (view_refusal (shown fs.old).history view.now ≡ None) }
+    ensures small { OnOk result (IsSmall (view_tree (shown fs.old) view.now)) }
+    ensures fits { OnOk result (list_all has_room_for (items_of (view_tree (shown fs.old) view.now)) ≡ true) }
+    ensures ok { IfOk result (λ items. items.items ≡ items_of (view_tree (shown fs.old) view.now)) }
     ensures err { IfErr result (ArchiveFails (shown fs.old) view.now (F.device fs.old.flash.now) (F.device fs.new.flash.now)) }
 {
     match stat_at(fs, view, &Path::root(alloc)) {
-        Ok(_) => archive_of_tree(alloc, fs, view),
+        Ok(_) => items_of_tree(alloc, fs, view),
         Err(fault) => Err(Unarchived::Refused(fault)),
     }
 }
 
-/// The archive of the tree of a view that is there.
-fn archive_of_tree<F: Flash>(
+/// The same of a view that is there.
+fn items_of_tree<F: Flash>(
     alloc: Global,
     fs: &mut Fs<'_, F>,
     view: &View,
-) -> Result<Vec<u8>, Unarchived>
+) -> Result<Vec<Item>, Unarchived>
     requires { view_refusal (shown fs.old).history view.now ≡ None }
     ensures same { IsUnchanged fs.old fs.new }
-    ensures ok { IfOk result (λ archive. IsArchiveOf (shown fs.old) view.now archive.items) }
+    ensures small { OnOk result (IsSmall (view_tree (shown fs.old) view.now)) }
+    ensures fits { OnOk result (list_all has_room_for (items_of (view_tree (shown fs.old) view.now)) ≡ true) }
+    ensures ok { IfOk result (λ items. items.items ≡ items_of (view_tree (shown fs.old) view.now)) }
     ensures err { IfErr result (ArchiveFails (shown fs.old) view.now (F.device fs.old.flash.now) (F.device fs.new.flash.now)) }
 {
     let root = Path::root(alloc);
@@ -73,44 +112,8 @@ fn archive_of_tree<F: Flash>(
         Err(TellFault::TooManyLines) => return Err(Unarchived::TooMuch),
         Err(TellFault::Refused(fault)) => return Err(Unarchived::Refused(fault)),
     };
-    match entries_of(alloc, fs, view, &items) {
-        Ok(entries) => spelled(alloc, &entries),
-        Err(fault) => Err(Unarchived::Refused(fault)),
+    match check_room(alloc, &items) {
+        Ok(()) => Ok(items),
+        Err(why) => Err(why),
     }
-}
-
-/// The archive of entries.
-fn spelled(alloc: Global, entries: &[ArchiveEntry]) -> Result<Vec<u8>, Unarchived>
-    requires { All IsShort entries.now }
-    ensures ok { IfOk result (λ archive. archive.items ≡ archive_of entries.now) }
-    ensures fits { OnOk result (list_all has_room entries.now ≡ true) }
-    ensures err { IfErr result (Unspelled entries.now) }
-{
-    match entry_without_room(alloc, entries) {
-        Ok(Some(place)) => Err(no_room(entries, place)),
-        Ok(None) => match spell_archive(alloc, entries) {
-            Ok(archive) => Ok(archive),
-            Err(_) => Err(Unarchived::Refused(Fault::NoMemory)),
-        },
-        Err(_) => Err(Unarchived::Refused(Fault::NoMemory)),
-    }
-}
-
-/// That there is no room for the path of the entry at a place.
-fn no_room(entries: &[ArchiveEntry], place: usize) -> Unarchived
-    requires { position (λ entry. not (has_room entry)) entries.now ≡ Some place }
-    ensures { Unspelled entries.now result }
-{
-    match path_at(entries, place) {
-        Ok(path) => Unarchived::NoRoom(path),
-        Err(_) => Unarchived::Refused(Fault::NoMemory),
-    }
-}
-
-/// The path of the entry at a place.
-fn path_at(entries: &[ArchiveEntry], place: usize) -> Result<Path, AllocError>
-    requires { place < length entries.now }
-    ensures { IfOk result (λ path. option_map (λ entry. entry.path) (slice_get entries.now place) ≡ Some path) }
-{
-    entries[place].path.clone()
 }

@@ -1,5 +1,5 @@
-//! What stands in a tree, as the entries of an archive.
-ghost use Rattle.std.specs.Prelude.{◌≡◌, None, All, map, IfOk, IfErr};
+//! What stands in a tree, as an entry of an archive.
+ghost use Rattle.std.specs.Prelude.{◌≡◌, None, IfOk, IfErr};
 ghost use Rattle.history_machine.specs.History.{view_refusal};
 ghost use Rattle.history_machine.specs.Machine.{view_tree};
 ghost use Rattle.inquiries.specs.Items.{IsItemOf};
@@ -13,35 +13,8 @@ use std::alloc::Global;
 use tar_jobs::{ArchiveEntry, Contents};
 use undofs::Fs;
 
-/// What stands at paths of a view, in order, each file with its bytes.
-pub(crate) fn entries_of<F: Flash>(
-    alloc: Global,
-    fs: &mut Fs<'_, F>,
-    view: &View,
-    items: &[Item],
-) -> Result<Vec<ArchiveEntry>, Fault>
-    requires view { view_refusal (shown fs.old).history view.now ≡ None }
-    requires there { All (IsItemOf (view_tree (shown fs.old) view.now)) items.now }
-    ensures same { IsUnchanged fs.old fs.new }
-    ensures ok { IfOk result (λ entries. entries.items ≡ map (entry_of (view_tree (shown fs.old) view.now)) items.now) }
-    ensures err { IfErr result (Meets (F.device fs.old.flash.now) (F.device fs.new.flash.now)) }
-{
-    let mut entries = Vec::new(alloc);
-    for item in items {
-        let entry = match entry_of(alloc, fs, view, item) {
-            Ok(entry) => entry,
-            Err(fault) => return Err(fault),
-        };
-        match entries.push(entry) {
-            Ok(()) => {}
-            Err(_) => return Err(Fault::NoMemory),
-        }
-    }
-    Ok(entries)
-}
-
-/// What stands at a path of a view.
-fn entry_of<F: Flash>(
+/// What stands at a path of a view, a file with its bytes.
+pub(crate) fn entry_of<F: Flash>(
     alloc: Global,
     fs: &mut Fs<'_, F>,
     view: &View,

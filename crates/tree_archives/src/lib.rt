@@ -3,7 +3,13 @@
 
 mod archiving;
 mod entries;
+mod interruption;
+mod room;
 mod unarchived;
+mod unwritten;
+mod writing;
 
-pub use archiving::archive_of_view;
+pub use archiving::write_archive;
+pub use interruption::Interruption;
 pub use unarchived::Unarchived;
+pub use unwritten::Unwritten;

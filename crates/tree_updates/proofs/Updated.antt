@@ -13,7 +13,7 @@ use Rattle.plain_trees.specs.Trees.{Tree, bare, IsFileTree}
 use Rattle.plain_trees.proofs.Lookups.{some-is}
 use Rattle.history_machine.specs.Descriptors.{none_open, any_open}
 use Rattle.history_machine.specs.History.{Past, IsLawful, changed, present_root}
-use Rattle.history_machine.specs.Machine.{Machine, machine_with, machine_of, present_tree, next, after}
+use Rattle.history_machine.specs.Machine.{Machine, machine_with, machine_of, mounted, present_tree, next, after}
 use Rattle.history_machine.proofs.Groups.{same-free}
 use Rattle.history_machine.proofs.Steps.{passes, outside, tree-changed}
 use Rattle.tree_updates.specs.Laws.{EachAccepted, UpdateLaw}
@@ -172,7 +172,7 @@ module _ (old new : Tree) where
 
   -- ---- where the two are one
 
-  same_changes : old ≡ new → update_changes old new ≡ []
+  pub same_changes : old ≡ new → update_changes old new ≡ []
   same_changes same = ap₂ (λ (xs ys : List Call). xs ++ ys) (none (removal_at old new) (reverse (paths_of old)) (λ p. no_removal p)) (none (making_at old new) (paths_of new) (λ p. no_making p))
     where
       none : (f : Path → List Call) (ps : List Path) → ((p : Path) → f p ≡ []) → flat_map f ps ≡ []
@@ -217,6 +217,7 @@ update_law old new m lawful lawful' is each = record {
   };
   version = subst (λ (h : Past Tree). (h ≡ m.history) ⊎ ((u : Tree) × (h ≡ changed m.history u))) (sym (ap (λ (k : Machine). k.history) end)) (one_version m.history l.tree l.is_due);
   none = λ same. ap (λ (k : Machine). k.history) end ∙ ap (λ (b : Bool). cond b (changed m.history l.tree) m.history) (quiet same);
+  rests = end ∙ sym (ap (λ (k : Machine). mounted k.history) end);
 }
   where
     was : Tree

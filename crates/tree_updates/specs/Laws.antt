@@ -5,7 +5,7 @@ use Rattle.fs_types.specs.Names.{Path}
 use Rattle.fs_types.specs.declared.call.Call.{Call}
 use Rattle.plain_trees.specs.Trees.{Tree, IsFileTree}
 use Rattle.history_machine.specs.History.{changed}
-use Rattle.history_machine.specs.Machine.{Machine, IsMachine, present_tree, refusal, next, after}
+use Rattle.history_machine.specs.Machine.{Machine, IsMachine, mounted, present_tree, refusal, next, after}
 use Rattle.tree_updates.specs.Updates.{update_calls}
 
 -- each call is accepted, one after the other
@@ -24,6 +24,8 @@ pub record Updates (old new : Tree) (m n : Machine) : Type 0 where
   pub tree : IsUpdated old new (present_tree m) (present_tree n)
   pub version : (n.history ≡ m.history) ⊎ ((t : Tree) × (n.history ≡ changed m.history t))
   pub none : old ≡ new → n.history ≡ m.history
+  -- no group and no file is open then
+  pub rests : n ≡ mounted n.history
 
 abbrev pub UpdateLaw : Type 0
 UpdateLaw = (old new : Tree) (m : Machine) → IsFileTree old → IsFileTree new → IsMachine m

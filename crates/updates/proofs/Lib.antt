@@ -1,3 +1,3 @@
-pub mod LineLemmas
+pub mod ChangeLemmas
 pub mod Meeting
-pub mod TellLemmas
+pub mod PieceLemmas

@@ -12,7 +12,7 @@ use Rattle.system.specs.declared.systems.System.{System}
 use Rattle.undofs.specs.Refusals.{RefusesMount}
 use Rattle.undofs.specs.declared.fs.Fs.{Fs}
 use Rattle.inquiries.specs.Folders.{IsSmall}
-use Rattle.inquiries.specs.Readings.{Meets, shown}
+use Rattle.inquiries.specs.Readings.{Meets}
 use Rattle.inquiries.specs.declared.asking.AskFault.{AskFault}
 use Rattle.inquiries.specs.declared.tell_fault.TellFault.{TellFault}
 use Rattle.updates.specs.Lines.{update_text}
@@ -31,10 +31,10 @@ module _ {F G : Type 0} {flash : Ghosts F} {another : Ghosts G} where
   MeetsEither first second left other fault =
       MeetsOne (flash.device first.flash.now) (flash.device left.flash.now) (another.device second.flash.now) (another.device other.flash.now) fault
 
-  -- why no update is told: by what the work met, or a tree has too much
-  abbrev pub Untold : Fs F flash → Fs G another → Fs F flash → Fs G another → TellFault → Type 0
-  Untold first second left other (TellFault.Refused fault) = MeetsEither first second left other fault
-  Untold first second left other TellFault.TooManyLines = AreSmall (working_tree (shown first)) (working_tree (shown second)) → ⊥
+  -- why no update of one tree to another is told: by what the work met, or a tree has too much
+  abbrev pub Untold : Tree → Tree → Fs F flash → Fs G another → Fs F flash → Fs G another → TellFault → Type 0
+  Untold old new first second left other (TellFault.Refused fault) = MeetsEither first second left other fault
+  Untold old new first second left other TellFault.TooManyLines = AreSmall old new → ⊥
 
 -- the newest record of the second flash is mounted, and these bytes are what brings a machine's tree to its tree
 pub record TellsSecond (m : Machine) (e : Device) (bytes : List ℕ) : Type 0 where

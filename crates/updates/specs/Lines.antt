@@ -1,15 +1,13 @@
 -- The lines of an update.
-use Rattle.std.specs.Prelude.{◌≡◌, ℕ, List, [], ◌∷◌, ◌++◌, codes, decimal, map, Some}
+use Rattle.std.specs.Prelude.{◌≡◌, ℕ, List, [], ◌∷◌, ◌++◌, codes, decimal, map}
 use Rattle.std.specs.List.{flat_map}
 use Rattle.hex.specs.Hex.{encode_lower}
-use Rattle.fs_types.specs.Names.{Path}
 use Rattle.fs_types.specs.declared.call.Call.{Call}
-use Rattle.plain_trees.specs.Contents.{Entry}
 use Rattle.plain_trees.specs.Trees.{Tree}
 use Rattle.inquiries.specs.Items.{items_of}
 use Rattle.inquiries.specs.Printed.{path_text}
 use Rattle.inquiries.specs.declared.items.Item.{Item}
-use Rattle.tree_updates.specs.Updates.{making, making_at, paths_of, removal_at, update_calls}
+use Rattle.tree_updates.specs.Updates.{paths_of, update_calls}
 
 -- data as a word of a script
 abbrev pub data_word : List ℕ → List ℕ
@@ -33,17 +31,6 @@ call_line _ = []
 -- the lines of calls
 abbrev pub lines_of : List Call → List ℕ
 lines_of calls = flat_map call_line calls
-
--- those of what stands at a path in the old tree, where it goes, and in the new one, where it is new or changed
-abbrev pub removal_lines : Tree → Tree → Item → List ℕ
-removal_lines old new item = lines_of (removal_at old new item.path)
-
-abbrev pub making_lines : Tree → Tree → Item → List ℕ
-making_lines old new item = lines_of (making_at old new item.path)
-
--- the calls for a file of both trees
-abbrev pub changed_file : Path → List ℕ → List ℕ → List Call
-changed_file path bytes others = making path (Some (Entry.File bytes)) (Some (Entry.File others))
 
 -- the script that brings one tree to another
 abbrev pub update_text : Tree → Tree → List ℕ

@@ -1,11 +1,14 @@
-//! The script that brings the tree of one flash to that of another.
+//! What brings the tree of one flash to that of another: the calls, and the script that asks for them.
 #![tactic(auto)]
 
 mod asking;
+mod changes;
 mod laws;
 mod lines;
+mod pieces;
 mod telling;
 
 pub use asking::ask_update;
+pub use changes::list_changes;
 pub use laws::paths_law;
 pub use telling::tell_update;

@@ -1,24 +1,37 @@
-//! The lines of an update.
-ghost use Rattle.std.specs.Prelude.{◌≡◌, ◌++◌, ◌*◌, ◌≤◌, OnOk, length, take, drop, codes, decimal};
-ghost use Rattle.std.specs.List.{flat_map};
+//! The lines of the calls of an update.
+ghost use Rattle.std.specs.Prelude.{◌≡◌, ◌++◌, OnOk, codes, decimal};
 ghost use Rattle.fs_types.specs.declared.call.Call.{Call};
 ghost use Rattle.inquiries.specs.Printed.{path_text};
-ghost use Rattle.tree_updates.specs.Updates.{writing, pieces_of, piece};
-ghost use Rattle.tree_updates.specs.declared.laws.TheConstants.{PIECE_BYTES};
-ghost use Rattle.history_machine.specs.Laws.{anew};
-ghost use Rattle.updates.specs.Lines.{call_line, data_word, lines_of};
+ghost use Rattle.updates.specs.Lines.{call_line, data_word};
 
-use fs_types::Path;
+use bitflags::Flags;
+use fs_types::{Call, OpenFlags, Path};
 use inquiries::print_path;
 use script::print_number;
 use std::alloc::AllocError;
-use tree_updates::PIECE_BYTES;
 
-/// The flags by which a file is opened anew: for writing, made where it is missing, and cut.
-const ANEW: u64 = 22;
-
-/// So many bytes of a file are in a line at most.
-const MOST_BYTES: usize = PIECE_BYTES as usize;
+/// Appends the line of a call; nothing for a call that no update has.
+pub(crate) fn print_call(out: &mut Vec<u8>, call: &Call) -> Result<(), AllocError>
+    ensures { OnOk result (out.new.items ≡ out.old.items ++ call_line call.now) }
+{
+    match call {
+        Call::Begin => out.extend_from_slice(b"begin\n"),
+        Call::End => out.extend_from_slice(b"end\n"),
+        Call::Sync => out.extend_from_slice(b"sync\n"),
+        Call::Mkdir { path } => print_path_line(out, b"mkdir ", path),
+        Call::Rmdir { path } => print_path_line(out, b"rmdir ", path),
+        Call::Unlink { path } => print_path_line(out, b"unlink ", path),
+        Call::WriteFile { path, bytes } => print_write(out, path, bytes.as_slice()),
+        Call::Open { path, flags } => print_open(out, path, *flags),
+        Call::Pwrite {
+            descriptor,
+            offset,
+            bytes,
+        } => { print_pwrite(out, *descriptor, *offset, bytes.as_slice()) }
+        Call::Close { descriptor } => print_close(out, *descriptor),
+        _ => Ok(()),
+    }
+}
 
 /// Appends the line of a verb, which ends with a space, and a path.
 fn print_path_line(out: &mut Vec<u8>, verb: &[u8], path: &Path) -> Result<(), AllocError>
@@ -28,39 +41,6 @@ fn print_path_line(out: &mut Vec<u8>, verb: &[u8], path: &Path) -> Result<(), Al
     print_path(out, path.names())?;
     out.push(b'\n')?;
     Ok(())
-}
-
-/// Appends the line that makes a directory.
-pub(crate) fn print_mkdir(out: &mut Vec<u8>, path: &Path) -> Result<(), AllocError>
-    ensures { OnOk result (out.new.items ≡ out.old.items ++ call_line (Call.Mkdir path.now)) }
-{
-    print_path_line(out, b"mkdir ", path)
-}
-
-/// Appends the line that removes a directory.
-pub(crate) fn print_rmdir(out: &mut Vec<u8>, path: &Path) -> Result<(), AllocError>
-    ensures { OnOk result (out.new.items ≡ out.old.items ++ call_line (Call.Rmdir path.now)) }
-{
-    print_path_line(out, b"rmdir ", path)
-}
-
-/// Appends the line that removes a file.
-pub(crate) fn print_unlink(out: &mut Vec<u8>, path: &Path) -> Result<(), AllocError>
-    ensures { OnOk result (out.new.items ≡ out.old.items ++ call_line (Call.Unlink path.now)) }
-{
-    print_path_line(out, b"unlink ", path)
-}
-
-/// Appends the lines that give a file these bytes: one, or where it has over [`PIECE_BYTES`] one for each
-/// piece of so many, with those that open and close it.
-pub(crate) fn print_writing(out: &mut Vec<u8>, path: &Path, bytes: &[u8]) -> Result<(), AllocError>
-    ensures { OnOk result (out.new.items ≡ out.old.items ++ lines_of (writing path.now bytes.now)) }
-{
-    if bytes.len() <= MOST_BYTES {
-        print_write(out, path, bytes)
-    } else {
-        print_pieces(out, path, bytes)
-    }
 }
 
 /// Appends the line that gives a file these bytes.
@@ -75,88 +55,53 @@ fn print_write(out: &mut Vec<u8>, path: &Path, bytes: &[u8]) -> Result<(), Alloc
     Ok(())
 }
 
-/// Appends the lines that open a file anew, write its bytes piece by piece, and close it.
-fn print_pieces(out: &mut Vec<u8>, path: &Path, bytes: &[u8]) -> Result<(), AllocError>
-    ensures { OnOk result (out.new.items ≡ out.old.items ++ lines_of (pieces_of path.now bytes.now)) }
-{
-    print_open(out, path)?;
-    let count = bytes.len().div_ceil(MOST_BYTES);
-    for at in 0..count {
-        print_piece(out, bytes, at)?;
-    }
-    print_close(out)
-}
-
-/// Appends the line that opens a file anew.
-fn print_open(out: &mut Vec<u8>, path: &Path) -> Result<(), AllocError>
-    ensures { OnOk result (out.new.items ≡ out.old.items ++ call_line (Call.Open path.now anew)) }
+/// Appends the line that opens a file.
+fn print_open(out: &mut Vec<u8>, path: &Path, flags: OpenFlags) -> Result<(), AllocError>
+    ensures { OnOk result (out.new.items ≡ out.old.items ++ call_line (Call.Open path.now flags)) }
 {
     out.extend_from_slice(b"open ")?;
     print_path(out, path.names())?;
     out.push(b' ')?;
-    print_number(out, ANEW)?;
+    print_number(out, flags.bits())?;
     out.push(b'\n')?;
     Ok(())
 }
 
-/// Appends the line that closes the file that is open.
-fn print_close(out: &mut Vec<u8>) -> Result<(), AllocError>
-    ensures { OnOk result (out.new.items ≡ out.old.items ++ call_line (Call.Close 0)) }
+/// Appends the line that closes an open file.
+fn print_close(out: &mut Vec<u8>, descriptor: u64) -> Result<(), AllocError>
+    ensures { OnOk result (out.new.items ≡ out.old.items ++ call_line (Call.Close descriptor)) }
 {
     out.extend_from_slice(b"close ")?;
-    print_number(out, 0)?;
+    print_number(out, descriptor)?;
     out.push(b'\n')?;
     Ok(())
 }
 
-/// Appends the line that writes a piece of a file.
-fn print_piece(out: &mut Vec<u8>, bytes: &[u8], at: usize) -> Result<(), AllocError>
-    requires { at * PIECE_BYTES ≤ length bytes.now }
-    ensures { OnOk result (out.new.items ≡ out.old.items ++ call_line (piece bytes.now at)) }
+/// Appends the line that writes bytes to an open file.
+fn print_pwrite(
+    out: &mut Vec<u8>,
+    descriptor: u64,
+    offset: u64,
+    bytes: &[u8],
+) -> Result<(), AllocError>
+    ensures { OnOk result (out.new.items ≡ out.old.items ++ call_line (Call.Pwrite descriptor offset bytes.now)) }
 {
-    let start = at * MOST_BYTES;
-    print_pwrite(out, start as u64, piece_from(bytes, start))
-}
-
-/// Appends the line that writes bytes to the file that is open.
-fn print_pwrite(out: &mut Vec<u8>, offset: u64, bytes: &[u8]) -> Result<(), AllocError>
-    ensures { OnOk result (out.new.items ≡ out.old.items ++ call_line (Call.Pwrite 0 offset bytes.now)) }
-{
-    print_place(out, offset)?;
+    print_place(out, descriptor, offset)?;
     print_data(out, bytes)?;
     out.push(b'\n')?;
     Ok(())
 }
 
 /// Appends the words that say where bytes are written.
-fn print_place(out: &mut Vec<u8>, offset: u64) -> Result<(), AllocError>
-    ensures { OnOk result (out.new.items ≡ out.old.items ++ (codes "pwrite " ++ decimal 0 ++ codes " " ++ decimal offset ++ codes " ")) }
+fn print_place(out: &mut Vec<u8>, descriptor: u64, offset: u64) -> Result<(), AllocError>
+    ensures { OnOk result (out.new.items ≡ out.old.items ++ (codes "pwrite " ++ decimal descriptor ++ codes " " ++ decimal offset ++ codes " ")) }
 {
     out.extend_from_slice(b"pwrite ")?;
-    print_number(out, 0)?;
+    print_number(out, descriptor)?;
     out.push(b' ')?;
     print_number(out, offset)?;
     out.push(b' ')?;
     Ok(())
-}
-
-/// The piece of bytes from a place on.
-fn piece_from(bytes: &[u8], start: usize) -> &[u8]
-    requires { start ≤ length bytes.now }
-    ensures { result.now ≡ take PIECE_BYTES (drop start bytes.now) }
-{
-    first_piece(&bytes[start..])
-}
-
-/// The first piece of bytes.
-fn first_piece(bytes: &[u8]) -> &[u8]
-    ensures { result.now ≡ take PIECE_BYTES bytes.now }
-{
-    if bytes.len() > MOST_BYTES {
-        &bytes[..MOST_BYTES]
-    } else {
-        bytes
-    }
 }
 
 /// Appends data as a word.

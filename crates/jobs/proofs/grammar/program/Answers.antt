@@ -16,4 +16,5 @@ returns c =
     let updates = c.in_ok-program-8.ensures ∙ ap with_update_apps raw in
     let archives = c.in_ok-program-9.ensures ∙ ap with_archive_apps updates in
     let create = c.in_ok-program-10.ensures.shape c.in_ok-create_command.ensures.local ∙ ap₂ with_subcommand archives (ap (λ (a : App). a.top) c.in_ok-create_command.ensures.app) in
-    IfOk-weaker c.with_about_commands.result _ _ (λ command is. is ∙ ap with_about_apps create) c.with_about_commands.ensures
+    let copy = c.in_ok-program-11.ensures.shape c.in_ok-copy_command.ensures.local ∙ ap₂ with_subcommand create (ap (λ (a : App). a.top) c.in_ok-copy_command.ensures.app) in
+    IfOk-weaker c.with_about_commands.result _ _ (λ command is. is ∙ ap with_about_apps copy) c.with_about_commands.ensures

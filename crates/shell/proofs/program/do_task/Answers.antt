@@ -110,3 +110,12 @@ returns-in-Create g c =
     let skips = subst (λ (skips : Bool). CreateEnds (image_asked job) skips name old new (g.F.Sources.gathered c.args.files.now made.folder.now name) c.create_image.result) c.creation_of.ensures.skips asked in
     let ends = subst (λ (folder : List ℕ). CreateEnds (image_asked job) job.skip_links name old new (g.F.Sources.gathered c.args.files.now folder name) c.create_image.result) c.creation_of.ensures.folder skips in
     by_task Task.Create job name known (host_at old input out) c.create_image.result (host_at new input out) c.in-Create.is (ends, c.create_image.ensures.others, record { unread = refl; unprinted = refl })
+
+pub returns-in-Copy : goal.returns-in-Copy
+returns-in-Copy g c =
+    let old = g.F.ImageFiles.held c.args.files.now in
+    let new = g.F.ImageFiles.held c.copy_to.new.files in
+    let input = g.R.Read.remaining c.args.reader.now in
+    let out = g.W.Write.contents c.args.out.now in
+    let known = known_by (ReadsClaimed g.F.ImageFiles.claims g.F.ImageFiles.reads) (g.F.Sources.gathered c.args.files.now) (g.F.Channels.written c.args.files.now) (g.F.Parts.placed c.args.files.now) in
+    by_task Task.Copy c.args.job c.args.name.now known (host_at old input out) c.copy_to.result (host_at new input out) c.in-Copy.is (c.copy_to.ensures.ends, c.copy_to.ensures.others, record { unread = refl; unprinted = refl })

@@ -1,0 +1,5 @@
+pub mod Brought
+pub mod Causing
+pub mod Doing
+pub mod Fresh
+pub mod Keeping

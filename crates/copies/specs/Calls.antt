@@ -1,0 +1,33 @@
+-- Calls on the file system to which a history is copied.
+use Rattle.std.specs.Prelude.{◌≡◌, ◌⊎◌, List, Err, Some, All}
+use Rattle.fs_types.specs.declared.call.Call.{Call}
+use Rattle.fs_types.specs.declared.fault.Fault.{Fault}
+use Rattle.flash_model.specs.Device.{Device}
+use Rattle.flash_model.specs.declared.flash.Flash.{Ghosts}
+use Rattle.history_machine.specs.Machine.{Machine, mounted, present_tree, after}
+use Rattle.inquiries.specs.Folders.{IsSmall}
+use Rattle.inquiries.specs.Readings.{shown}
+use Rattle.mounting.specs.Saved.{saved_trees}
+use Rattle.system.specs.Steps.{SystemStep}
+use Rattle.system.specs.declared.systems.System.{System}
+use Rattle.tree_updates.specs.Laws.{EachAccepted}
+use Rattle.undofs.specs.declared.fs.Fs.{Fs}
+
+-- calls are accepted one after the other, and lead there
+pub record Does (m : Machine) (calls : List Call) (n : Machine) : Type 0 where
+  pub accepted : EachAccepted m calls
+  pub leads : n ≡ after m calls
+
+-- no group and no file is open, and neither the present tree nor that of a checkpoint has too much
+pub record IsReady (m : Machine) : Type 0 where
+  pub rests : m ≡ mounted m.history
+  pub small : IsSmall (present_tree m)
+  pub kept : All (λ e. IsSmall e.1) m.history.checkpoints
+
+-- why calls stop, which left the flash so: one is refused, or there is no memory to make it
+abbrev pub Stops : Device → Fault → Type 0
+Stops left fault = (fault ≡ Fault.NoMemory) ⊎ ((d : Device) × (s : System) × (call : Call) × (t : System) × SystemStep d s call (Err fault) left t)
+
+-- the newest record of its flash has the history that a file system shows
+abbrev pub IsSynced : {G : Type 0} {flash : Ghosts G} → Fs G flash → Type 0
+IsSynced {G} {flash} fs = saved_trees (flash.device fs.flash.now) ≡ Some (shown fs).history

@@ -1,0 +1,10 @@
+//! The history of an image, copied to a new image of other sizes.
+#![tactic(auto)]
+
+mod asked_sizes;
+mod copying;
+mod source;
+mod telling;
+
+pub use asked_sizes::AskedSizes;
+pub use copying::copy_image;

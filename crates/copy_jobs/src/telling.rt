@@ -1,0 +1,108 @@
+//! What is told of a copy on standard error.
+use copies::first_kept;
+use flash_model::Geometry;
+use fs_types::{CpName, Fault, Version};
+use image_jobs::Failure;
+use job_messages::{tell_refusal, tell_refused_format};
+use salvages::Salvaged;
+use script::print_name;
+use script_runs::Refusal;
+use std::alloc::{AllocError, Global};
+use std::io::Write;
+
+/// Tells that a mount is refused.
+pub(crate) fn tell_unmounted<E: Write>(failure: Failure, err: &mut E) {
+    if let Failure::System(fault) = failure {
+        tell_refusal(Refusal::Fault(fault), "", err);
+    }
+}
+
+/// Tells that the sizes of a copy are refused, or its format.
+pub(crate) fn tell_unformatted<E: Write>(
+    alloc: Global,
+    failure: Failure,
+    sizes: Geometry,
+    history: u32,
+    err: &mut E,
+) {
+    if let Failure::System(fault) = failure {
+        tell_refused_format(alloc, sizes, history, fault, err);
+    }
+}
+
+/// Tells why a flash of these sizes has no copy.
+pub(crate) fn tell_uncopied<E: Write>(
+    alloc: Global,
+    failure: Failure,
+    sizes: Geometry,
+    err: &mut E,
+) {
+    match failure {
+        Failure::System(fault) => tell_refusal(Refusal::Fault(fault), "", err),
+        Failure::Refused(Refusal::Fault(Fault::FlashFull)) => tell_full(alloc, sizes, err),
+        Failure::Refused(refusal) => tell_refusal(refusal, "", err),
+        _ => {}
+    }
+}
+
+/// Tells that a flash of these sizes is full.
+fn tell_full<E: Write>(alloc: Global, sizes: Geometry, err: &mut E) {
+    let Geometry {
+        page,
+        pages,
+        blocks,
+    } = sizes;
+    let full = Refusal::Fault(Fault::FlashFull);
+    match format!(in alloc; "{blocks} blocks of {pages} pages of {page} bytes") {
+        Ok(text) => tell_refusal(full, text.as_str(), err),
+        Err(_) => tell_refusal(full, "", err),
+    }
+}
+
+/// Tells which of these versions are not copied where so many are kept, if any.
+pub(crate) fn tell_dropped<E: Write>(
+    versions: &[Version<u32>],
+    cursor: usize,
+    limit: usize,
+    err: &mut E,
+) {
+    if versions.len() <= limit {
+        return;
+    }
+    let first = first_kept(cursor, versions.len(), limit);
+    let _ = write!(err, "uffs: dropped versions");
+    for (place, version) in versions.iter().enumerate() {
+        if place < first || place - first >= limit {
+            let _ = write!(err, " {}", version.serial);
+        }
+    }
+    let _ = writeln!(err);
+}
+
+/// Tells which versions and checkpoints are lost, each on a line.
+pub(crate) fn tell_lost<E: Write>(alloc: Global, found: &Salvaged, err: &mut E) {
+    for serial in &found.lost_versions {
+        let _ = writeln!(err, "uffs: lost version {serial}");
+    }
+    for name in &found.lost_checkpoints {
+        tell_lost_checkpoint(alloc, name, err);
+    }
+}
+
+/// Tells that a checkpoint is lost.
+fn tell_lost_checkpoint<E: Write>(alloc: Global, name: &CpName, err: &mut E) {
+    let _ = match name_text(alloc, name) {
+        Ok(text) => writeln!(err, "uffs: lost checkpoint {text}"),
+        Err(_) => writeln!(err, "uffs: lost checkpoint"),
+    };
+}
+
+/// A name, spelled as in a script.
+fn name_text(alloc: Global, name: &CpName) -> Result<String, AllocError> {
+    let mut bytes = Vec::new(alloc);
+    print_name(&mut bytes, name.as_bytes())?;
+    match String::from_utf8(bytes) {
+        Ok(text) => Ok(text),
+        Err(_) => Ok(String::new(alloc)),
+    }
+}

@@ -1,0 +1,4 @@
+pub mod Brought
+pub mod Built
+pub mod Ended
+pub mod Seen

@@ -1,0 +1,6 @@
+pub mod Differing
+pub mod Lines
+pub mod Pairs
+pub mod Rows
+pub mod Trees
+pub mod VersionLines

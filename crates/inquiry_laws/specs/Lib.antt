@@ -1,0 +1,4 @@
+pub mod DifferenceLaw
+pub mod LineLaw
+pub mod TreeLaw
+pub mod VersionsLaw

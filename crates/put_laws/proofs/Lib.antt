@@ -1,0 +1,3 @@
+pub mod PutEvents
+pub mod Puts
+pub mod Worlds

@@ -1,0 +1,10 @@
+use Rattle.std.proofs.Common.{sym, ap, ◌∙◌}
+use Rattle.allocator.specs.Ring.{Ring}
+use Rattle.flash_model.specs.declared.geometry.Geometry.{Geometry}
+use Rattle.salvages.proofs.looks.is_whole.Goals as goal
+
+pub is_whole_on-requires-clause-ring_blocks : goal.is_whole_on-requires-clause-ring_blocks
+is_whole_on-requires-clause-ring_blocks g c = ap (λ (r : Ring). r.blocks) c.in_ok-storage.ensures.ring ∙ ap (λ (x : Geometry). x.blocks) c.geometry.ensures
+
+pub is_whole_on-requires-clause-fits : goal.is_whole_on-requires-clause-fits
+is_whole_on-requires-clause-fits g c = c.in_ok-storage.ensures.fits (g.F.Flash.device c.args.flash.now) (sym c.geometry.ensures)

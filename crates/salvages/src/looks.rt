@@ -1,0 +1,104 @@
+//! A look at each root by itself.
+ghost use Rattle.std.specs.Prelude.{◌≡◌, ◌↔◌, [], ◌∷◌, ◌++◌, if◌then◌else◌, IsTrue, IfOk, IfErr, OnOk};
+ghost use Rattle.flash_model.specs.Geometry.{IsGeometry};
+ghost use Rattle.flash_model.specs.Reading.{OnlyReads};
+ghost use Rattle.node_store.specs.Fitting.{Fits};
+ghost use Rattle.node_store.specs.Stores.{IsSoundStore, Follows};
+ghost use Rattle.salvages.specs.Causes.{ReadCause};
+ghost use Rattle.salvages.specs.Wholes.{IsWhole, AreLost};
+
+use bad_blocks::BadBlocks;
+use flash_model::Flash;
+use fs_types::{ANCHORS, Fault, MOUNTED_NODES};
+use node_cache::NodeCache;
+use node_store::{Nodes, Storage, Store};
+use reclaim::verify;
+use std::alloc::{AllocError, Global};
+
+/// Whether a root is whole, by what nodes are kept with.
+fn is_whole_in<F: Flash>(
+    alloc: Global,
+    store: &mut Store<'_, F>,
+    root: u32,
+    plain: bool,
+) -> Result<bool, Fault>
+    requires { IsSoundStore F.device store.old }
+    ensures follows { Follows F.device store.old store.new }
+    ensures whole { IfOk result (λ whole. IsTrue whole ↔ IsWhole plain (F.device store.old.flash.now) root) }
+    ensures only_reads { OnlyReads (F.device store.old.flash.now) (F.device store.new.flash.now) }
+    ensures why { IfErr result (ReadCause (F.device store.old.flash.now) (F.device store.new.flash.now)) }
+{
+    let blocks = store.block_count();
+    match verify(alloc, blocks, store, &[root], plain) {
+        Ok(_) => Ok(true),
+        Err(Fault::Damaged) => Ok(false),
+        Err(fault) => Err(fault),
+    }
+}
+
+/// The same, on a flash.
+fn is_whole_on<F: Flash>(
+    alloc: Global,
+    flash: &mut F,
+    storage: &mut Storage,
+    root: u32,
+    plain: bool,
+) -> Result<bool, Fault>
+    requires lawful { IsGeometry (F.device flash.old).geometry }
+    requires ring_blocks { storage.old.ring.blocks ≡ (F.device flash.old).geometry.blocks }
+    requires fits { Fits (F.device flash.old) storage.old }
+    ensures whole { IfOk result (λ whole. IsTrue whole ↔ IsWhole plain (F.device flash.old) root) }
+    ensures only_reads { OnlyReads (F.device flash.old) (F.device flash.new) }
+    ensures why { IfErr result (ReadCause (F.device flash.old) (F.device flash.new)) }
+{
+    let mut store = Store::new(flash, storage);
+    is_whole_in(alloc, &mut store, root, plain)
+}
+
+/// Whether a root is whole by itself: it has a tree of linked bodies, and where it is to be plain no
+/// directory in that is a chain. All that it reaches is read, and nothing else.
+pub fn is_whole<F: Flash>(
+    alloc: Global,
+    flash: &mut F,
+    root: u32,
+    plain: bool,
+) -> Result<bool, Fault>
+    requires { IsGeometry (F.device flash.old).geometry }
+    ensures whole { IfOk result (λ whole. IsTrue whole ↔ IsWhole plain (F.device flash.old) root) }
+    ensures only_reads { OnlyReads (F.device flash.old) (F.device flash.new) }
+    ensures why { IfErr result (ReadCause (F.device flash.old) (F.device flash.new)) }
+{
+    let cache = NodeCache::new(alloc, MOUNTED_NODES)?;
+    let mut storage = Storage::unused(alloc, flash.geometry(), BadBlocks::new(), ANCHORS, cache)?;
+    is_whole_on(alloc, flash, &mut storage, root, plain)
+}
+
+/// Puts a root after the lost ones, unless it is whole.
+fn note_root(lost: &mut Vec<u32>, root: u32, whole: bool) -> Result<(), AllocError>
+    ensures { OnOk result (lost.new.items ≡ (if whole then lost.old.items else lost.old.items ++ root ∷ [])) }
+{
+    if !whole {
+        lost.push(root)?;
+    }
+    Ok(())
+}
+
+/// Those of some roots that are not whole by themselves.
+pub(crate) fn find_lost<F: Flash>(
+    alloc: Global,
+    flash: &mut F,
+    roots: &[u32],
+    plain: bool,
+) -> Result<Vec<u32>, Fault>
+    requires { IsGeometry (F.device flash.old).geometry }
+    ensures lost { IfOk result (λ lost. AreLost plain (F.device flash.old) roots.now lost.items) }
+    ensures only_reads { OnlyReads (F.device flash.old) (F.device flash.new) }
+    ensures why { IfErr result (ReadCause (F.device flash.old) (F.device flash.new)) }
+{
+    let mut lost = Vec::new(alloc);
+    for root in roots {
+        let whole = is_whole(alloc, flash, *root, plain)?;
+        note_root(&mut lost, *root, whole)?;
+    }
+    Ok(lost)
+}

@@ -95,6 +95,7 @@ def words_of(folder):
         ("format", ["format", image, *SIZES], b"", image),
         ("format --part", ["format", "--part", part, *SIZES], b"", part),
         ("create", ["create", other, source], b"", other),
+        ("copy", ["copy", image, other, "--blocks", "300"], b"", other),
         ("run", ["run", image], SCRIPT, image),
         ("put", ["put", image, source, "/new"], b"", image),
         ("put --mirror", ["put", image, source, "/old", "--mirror"], b"", image),

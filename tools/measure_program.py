@@ -162,6 +162,7 @@ def tell_words(program):
             tell_word("untar", [program, "untar", other, "/new"], None, file.read())
         tell_word("diff", [program, "diff", image, "@1", "@2"], most)
         tell_word("update", [program, "update", other, image], 2 * most)
+        tell_word("copy", [program, "copy", image, f"{room}/copied"], 2 * most)
 
 
 def main():
@@ -170,8 +171,9 @@ def main():
     program = os.path.abspath(sys.argv[1])
     tell_size(program)
     tell_stack(program)
-    tell_image(program)
+    # (what this program itself held counts for those that it starts, so the large image comes last)
     tell_words(program)
+    tell_image(program)
 
 
 if __name__ == "__main__":

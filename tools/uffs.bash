@@ -2,11 +2,12 @@
 _uffs() {
     local word="${COMP_WORDS[COMP_CWORD]}"
     if [ "$COMP_CWORD" -eq 1 ]; then
-        COMPREPLY=($(compgen -W "cat check checkpoint create df diff explain forget format from-part from-raw get help log map memory put raw redo rmcheckpoint rollback run serve tar to-part tree trim undo untar update version versions --help --version" -- "$word"))
+        COMPREPLY=($(compgen -W "cat check checkpoint copy create df diff explain forget format from-part from-raw get help log map memory put raw redo rmcheckpoint rollback run serve tar to-part tree trim undo untar update version versions --help --version" -- "$word"))
         return
     fi
     local options="--help"
     case "${COMP_WORDS[1]}" in
+        copy) options="--page --pages --blocks --history --salvage --help" ;;
         create) options="--page --pages --blocks --history --progress --skip-links --help" ;;
         diff) options="--exit-code --help" ;;
         forget) options="--free --help" ;;

@@ -97,7 +97,7 @@ def groups_of(known):
     found = {}
     for path in SOURCES:
         for function in functions_of(path.read_text()):
-            name = re.match(r"(?:pub\S* )?fn (with_(?:block_sizes|history))<", function)
+            name = re.match(r"(?:pub\S* )?fn (with_(?:block_sizes|history|sizes))<", function)
             if name:
                 found[name.group(1)] = added_by(function, known, {})
     return found

@@ -1,6 +1,6 @@
 -- How many operations come together.
-use Rattle.std.proofs.Common.{◌≡◌, ℕ, ◌+◌, ◌*◌, ◌<◌, ◌≤◌, Bool, true, false, cond, Result, Ok, Err, refl, sym, ap, subst, ◌∙◌, inl, inr, arith}
-use Rattle.std.specs.Prelude.{◌/◌, ◌-◌, ◌≢◌, ◌⊎◌, IfOk, OnOk}
+use Rattle.std.proofs.Common.{◌≡◌, ℕ, ◌+◌, ◌*◌, ◌<◌, ◌≤◌, Bool, true, false, cond, Result, Ok, Err, refl, sym, ap, subst, ◌∙◌, arith}
+use Rattle.std.specs.Prelude.{◌/◌, ◌-◌, ◌≢◌, OnOk}
 use Rattle.std.specs.FinSet as set
 use Rattle.std.specs.Ordering.{nat_cmp}
 use Rattle.std.proofs.Math.Nat.{mul-le-mul_right}
@@ -13,10 +13,9 @@ use Rattle.flash_model.specs.declared.flash.DevFault.TheVariants.{Failed, PowerC
 use Rattle.flash_model.specs.Device.{Device, Operates, Erases, failed, power_after}
 use Rattle.flash_model.specs.Reading.{OnlyReads}
 use Rattle.record_format.specs.declared.record.Record.{Record}
-use Rattle.commit_pair.specs.declared.best.Found.{Found}
 use Rattle.commit_pair.specs.declared.anchors.Anchors.{Anchors}
-use Rattle.commit_pair.specs.Anchored.{OnlyAnchors, AsksInTurn, Asked}
-use Rattle.commit_pair.specs.Committing.{IsNextAnchor, LacksRoom, StandsNext, StandsFrom}
+use Rattle.commit_pair.specs.Anchored.{AsksInTurn, Asked}
+use Rattle.commit_pair.specs.Committing.{IsNextAnchor}
 use Rattle.commit_pair.specs.Programming.{TriesPages}
 use Rattle.commit_pair.specs.Remembering.{BeginsAt, ReadsNone, IsPlaced, TriesEach}
 
@@ -107,7 +106,7 @@ pub asked_alone : (old new : Device) (n : ℕ) → Asked old new (0 + n) → Ask
 asked_alone old new n asked = subst (Asked old new) (let same : 0 + n ≡ n = omega arith in same) asked
 
 -- the next anchor in ring order is another one
-other_anchor : (g : Geometry) (now : set.FinSet nat_cmp) (home page : ℕ) → 1 ≤ g.pages → home < ANCHORS → (anchor : ℕ) × (page ≡ anchor * g.pages) × IsNextAnchor now home anchor → page / g.pages ≢ home
+pub other_anchor : (g : Geometry) (now : set.FinSet nat_cmp) (home page : ℕ) → 1 ≤ g.pages → home < ANCHORS → (anchor : ℕ) × (page ≡ anchor * g.pages) × IsNextAnchor now home anchor → page / g.pages ≢ home
 other_anchor g now home page some lt next here =
     let anchor = next.0 in
     let start : page ≡ anchor * g.pages + 0 = let e = next.1 in omega arith in
@@ -116,23 +115,11 @@ other_anchor g now home page some lt next here =
     let same : anchor ≡ home = sym block ∙ here in
     absurd (let is = apart.is in let least = apart.some in let most = apart.below in omega arith)
 
--- where home did not take the record, and the next anchor did
-pub stands_next : (old mid new : Device) (was between now : set.FinSet nat_cmp) (r : Record) (home place : ℕ) (result : Result Found Fault) → 1 ≤ r.geometry.pages → home < ANCHORS → mid.geometry ≡ old.geometry → OnlyAnchors mid between new now
-    → Asked old mid 0 → (set.contains between home ≡ true) ⊎ LacksRoom r was place → IfOk result (StandsNext mid new now r home) → IfOk result (StandsFrom old was new now r home place)
-stands_next old mid new was between now r home place (Ok found) some lt same only first lacks next = record {
-  stands = next.stands;
-  goes = inr (next.next.0, next.next.1, next.next.2, elim lacks [ inl is ↦ inl (only.stays_bad home is) | inr less ↦ inr less ]);
-  begun = λ here. absurd (other_anchor r.geometry now home found.page some lt next.next here);
-  elsewhere = λ apart. Asked_later old mid new (1 + found.head.count) same first next.asked;
-  writable = next.writable;
-}
-stands_next old mid new was between now r home place (Err fault) some lt same only first lacks next = tt
-
 -- a commit after reads
-pub placed_after : (old mid new : Device) (was now : set.FinSet nat_cmp) (anchors : Anchors) (r : Record) (result : Result (Unit {0}) Fault) → OnlyReads old mid → (ReadsNone was anchors → mid.operations ≡ old.operations)
+placed_later : (old mid new : Device) (was now : set.FinSet nat_cmp) (anchors : Anchors) (r : Record) (result : Result (Unit {0}) Fault) → OnlyReads old mid → (ReadsNone was anchors → mid.operations ≡ old.operations)
     → mid.operations ≤ old.operations + ANCHORS * r.geometry.pages
     → OnOk result (IsPlaced mid was anchors r 0 new now) → OnOk result ((reads : ℕ) × (ReadsNone was anchors → reads ≡ 0) × (reads ≤ ANCHORS * r.geometry.pages) × IsPlaced old was anchors r reads new now)
-placed_after old mid new was now anchors r (Ok u) only quiet few placed =
+placed_later old mid new was now anchors r (Ok u) only quiet few placed =
     let reads = mid.operations - old.operations in
     let is : mid.operations ≡ old.operations + reads = let h = only.operations in omega arith in
     let pages : placed.found.page / mid.geometry.pages ≡ placed.found.page / old.geometry.pages = ap (λ (g : Geometry). placed.found.page / g.pages) only.geometry in (
@@ -150,7 +137,13 @@ placed_after old mid new was now anchors r (Ok u) only quiet few placed =
         elsewhere = λ apart. asked_after old mid new reads (1 + placed.found.head.count) only is (placed.elsewhere (λ here. apart (sym pages ∙ here)));
       },
     )
-placed_after old mid new was now anchors r (Err fault) only quiet few placed = tt
+placed_later old mid new was now anchors r (Err fault) only quiet few placed = tt
+
+-- by the time that the flash and the list are given back
+pub placed_after : (old mid new end : Device) (was now list : set.FinSet nat_cmp) (anchors : Anchors) (r : Record) (result : Result (Unit {0}) Fault) → end ≡ new → list ≡ now → OnlyReads old mid → (ReadsNone was anchors → mid.operations ≡ old.operations)
+    → mid.operations ≤ old.operations + ANCHORS * r.geometry.pages
+    → OnOk result (IsPlaced mid was anchors r 0 new now) → OnOk result ((reads : ℕ) × (ReadsNone was anchors → reads ≡ 0) × (reads ≤ ANCHORS * r.geometry.pages) × IsPlaced old was anchors r reads end list)
+placed_after old mid new end was now list anchors r result same listed only quiet few placed = rw (same, listed) (placed_later old mid new was now anchors r result only quiet few placed)
 
 -- an erase was asked for
 pub tried_done : (old new : Device) (b : ℕ) (u : Unit {0}) → Erases old b new (Ok u) → AsksInTurn old new 1 true
@@ -176,8 +169,8 @@ pub asks_one : (old new : Device) (b : ℕ) (result : Result (Unit {0}) DevFault
 asks_one old new b result e = let h = e.operates.operations in let one = one_at_most old.powered in omega arith
 
 -- each anchor is tried once
-pub next_tried : (old mid new step most pages : ℕ) → mid + (pages + 1) ≤ old + step * (pages + 1) → new ≤ mid + (pages + 1) → step ≤ most → new ≤ old + most * (pages + 1)
-next_tried old mid new step most pages so_far one few = let all : step * (pages + 1) ≤ most * (pages + 1) = mul-le-mul_right (pages + 1) few in omega (arith, so_far, one, all)
+pub next_tried : (old mid new step most pages : ℕ) → mid ≤ old + step * (pages + 1) → new ≤ mid + (pages + 1) → step + 1 ≤ most → new ≤ old + most * (pages + 1)
+next_tried old mid new step most pages so_far one few = let all : (step + 1) * (pages + 1) ≤ most * (pages + 1) = mul-le-mul_right (pages + 1) few in omega (arith, so_far, one, all)
 
 pub tried_none : (d : Device) (was : set.FinSet nat_cmp) (anchors : Anchors) → TriesEach d was anchors d
 tried_none d was anchors = record { reads = 0; none = λ _. refl; once = omega arith; most = omega arith }

@@ -1,6 +1,5 @@
 -- What an attempt to commit a record on an anchor leaves.
 use Rattle.std.proofs.Common.{◌≡◌, ◌≢◌, ℕ, ◌+◌, ◌*◌, ◌/◌, ◌%◌, ◌<◌, ◌≤◌, Bool, true, false, cond, List, Option, Some, None, Result, Ok, Err, ◌⊎◌, refl, sym, ap, subst, ◌∙◌, inl, inr, arith}
-use Rattle.std.specs.Prelude.{IfOk, IfErr, OnErr}
 use Rattle.std.specs.FinSet as set
 use Rattle.std.specs.Ordering.{nat_cmp}
 use Rattle.std.proofs.lemmas.Bool.{both_ways}
@@ -12,13 +11,15 @@ use Rattle.flash_model.specs.Device.{Device, Page, block_of}
 use Rattle.record_format.specs.declared.record.Record.{Record}
 use Rattle.record_format.specs.declared.page_head.PageHead.{PageHead}
 use Rattle.commit_pair.specs.declared.best.Found.{Found}
+use Rattle.commit_pair.specs.declared.draft.Draft.{Draft}
 use Rattle.commit_pair.specs.Anchored.{Asked, ChangesAnchor}
+use Rattle.commit_pair.specs.Commit.{Wrote}
 use Rattle.commit_pair.specs.Parts.{RecordBytes}
 use Rattle.commit_pair.specs.Payloads.{Means}
 use Rattle.commit_pair.specs.Programming.{head_for}
 use Rattle.commit_pair.specs.Reading.{IsEnd}
 use Rattle.commit_pair.specs.Keeping.{IsAt, Placed}
-use Rattle.commit_pair.specs.Committing.{IsCommitted, StandsLast, Attempts, Untouched, Attempted, IfPlaced, OnNone, answered}
+use Rattle.commit_pair.specs.Committing.{IsCommitted, StandsLast, Attempts, Untouched, Attempted, OnNone, answered}
 use Rattle.commit_pair.proofs.Anchoring.{listed_itself, OnlyAnchors_itself}
 use Rattle.commit_pair.proofs.Asking.{Asked_itself, asked_done, asked_failed}
 use Rattle.commit_pair.proofs.Sparing.{Keeps_itself}
@@ -90,47 +91,44 @@ attempts_cut : (was now : ℕ → Page) (r : Record) (sequence : ℕ) (bad : set
 attempts_cut was now r sequence bad bytes page head PowerCut is means placed = elim placed [ inl kept ↦ inl kept | inr at ↦ inr (placed_committed now r sequence bad bytes page head means at) ]
 attempts_cut was now r sequence bad bytes page head _ is means placed = absurd placed
 
-module _ (old new : Device) (was now : set.FinSet nat_cmp) (r : Record) (sequence : ℕ) (bytes : List ℕ) (anchor place count operations : ℕ) where
-  pub attempted : (more : ℕ) (found : Found) (done : Result Bool Fault)
-      → old.geometry ≡ r.geometry → place < r.geometry.pages → operations ≡ more + count → operations ≤ r.geometry.pages + 1 → set.contains was anchor ≡ false
-      → found.page ≡ anchor * r.geometry.pages + place → found.head ≡ head_for r.geometry sequence bytes count 0 → Means r sequence was bytes
-      → Placed r.geometry old.pages new.pages (record { page = anchor * r.geometry.pages + place; head = head_for r.geometry sequence bytes count 0 }) (record { sequence = sequence; payload = bytes }) done
-      → IfOk done (λ is. is ≡ true → IsEnd r.geometry new.pages anchor r.geometry.pages (place + count)) → ChangesAnchor old was new now anchor operations done
-      → Attempted old was new now r sequence anchor place more (answered done found)
-  attempted more found (Ok true) same lt sum few good page head means placed end changes = record {
-    attempts = commits_at old.pages new.pages r sequence was now bytes anchor place count found true refl lt page head placed end changes.list means;
+module _ (old new : Device) (was now : set.FinSet nat_cmp) (r : Record) (anchor place : ℕ) (draft : Draft) (more operations : ℕ) where
+  pub attempted : (found : Found) (done : Result Bool Fault) → old.geometry ≡ r.geometry → place < r.geometry.pages → operations ≡ more + draft.count → operations ≤ r.geometry.pages + 1 → set.contains was anchor ≡ false
+      → found.page ≡ anchor * r.geometry.pages + place → found.head ≡ head_for r.geometry draft.sequence draft.payload.now draft.count 0 → Means r draft.sequence was draft.payload.now
+      → Wrote r.geometry old was new now anchor place operations draft done → Attempted old was new now r draft.sequence anchor place more (answered done found)
+  attempted found (Ok true) same lt sum few good page head means wrote = record {
+    attempts = commits_at old.pages new.pages r draft.sequence was now draft.payload.now anchor place draft.count found true refl lt page head wrote.placed wrote.end wrote.changes.list means;
     page = page;
     fits = lt;
-    list = changes.list;
+    list = wrote.changes.list;
     good = good;
     untouched = tt;
     asked =
-        let all : found.head.count ≡ count = ap (λ (h : PageHead). h.count) head in
-        subst (Asked old new) (sum ∙ ap (λ n. more + n) (sym all)) (asked_done old new operations true refl changes.tries);
+        let all : found.head.count ≡ draft.count = ap (λ (h : PageHead). h.count) head in
+        subst (Asked old new) (sum ∙ ap (λ n. more + n) (sym all)) (asked_done old new operations true refl wrote.changes.tries);
     tried = tt;
-    operations = let most = changes.operations in omega (arith, few, most);
-    only_anchors = changes.only_anchors;
+    operations = let most = wrote.changes.operations in omega (arith, few, most);
+    only_anchors = wrote.changes.only_anchors;
     why = tt;
   }
-  attempted more found (Ok false) same lt sum few good page head means placed end changes = record {
-    attempts = placed;
+  attempted found (Ok false) same lt sum few good page head means wrote = record {
+    attempts = wrote.placed;
     page = tt;
     fits = tt;
     list = tt;
     good = tt;
-    untouched = failed_untouched old new now anchor (failed_listed was now anchor false refl changes.list) changes.others;
+    untouched = failed_untouched old new now anchor (failed_listed was now anchor false refl wrote.changes.list) wrote.changes.others;
     asked = tt;
     tried =
         let pages : old.geometry.pages ≡ r.geometry.pages = ap (λ (g : Geometry). g.pages) same in
-        asked_failed old new operations false refl (omega arith) changes.tries;
-    operations = let most = changes.operations in omega (arith, few, most);
-    only_anchors = changes.only_anchors;
+        asked_failed old new operations false refl (omega arith) wrote.changes.tries;
+    operations = let most = wrote.changes.operations in omega (arith, few, most);
+    only_anchors = wrote.changes.only_anchors;
     why = tt;
   }
-  attempted more found (Err fault) same lt sum few good page head means placed end changes = record {
+  attempted found (Err fault) same lt sum few good page head means wrote = record {
     attempts =
-        attempts_cut old.pages new.pages r sequence now bytes (anchor * r.geometry.pages + place) (head_for r.geometry sequence bytes count 0) fault changes.why.0
-        (subst (λ bad. Means r sequence bad bytes) (sym changes.list) means) placed;
+        attempts_cut old.pages new.pages r draft.sequence now draft.payload.now (anchor * r.geometry.pages + place) (head_for r.geometry draft.sequence draft.payload.now draft.count 0) fault wrote.changes.why.0
+        (subst (λ bad. Means r draft.sequence bad draft.payload.now) (sym wrote.changes.list) means) wrote.placed;
     page = tt;
     fits = tt;
     list = tt;
@@ -138,10 +136,19 @@ module _ (old new : Device) (was now : set.FinSet nat_cmp) (r : Record) (sequenc
     untouched = tt;
     asked = tt;
     tried = tt;
-    operations = let most = changes.operations in omega (arith, few, most);
-    only_anchors = changes.only_anchors;
-    why = changes.why;
+    operations = let most = wrote.changes.operations in omega (arith, few, most);
+    only_anchors = wrote.changes.only_anchors;
+    why = wrote.changes.why;
   }
+
+-- an erase where the anchor is erased anew, and the programs
+pub asks_for : (anew : Bool) (count : ℕ) → cond anew (1 + count) count ≡ cond anew 1 0 + count
+asks_for true count = refl
+asks_for false count = let same : count ≡ 0 + count = omega arith in same
+
+pub asks_few : (anew : Bool) (count pages : ℕ) → count ≤ pages → cond anew (1 + count) count ≤ pages + 1
+asks_few true count pages fits = omega arith
+asks_few false count pages fits = omega arith
 
 -- an anchor on which nothing was written was put into the list
 pub listed : (old new : Device) (was now : set.FinSet nat_cmp) (anchor n : ℕ) (found : Found) (done : Result Bool Fault) → ChangesAnchor old was new now anchor n done → OnNone (answered done found) (set.contains now anchor ≡ true)

@@ -220,6 +220,10 @@ committed_is_newest d r sequence bad same is = (
 pub reads_may_commit : (d e : Device) (bad : set.FinSet nat_cmp) (anchors : Anchors) → OnlyReads d e → MayCommit d bad anchors → MayCommit e bad anchors
 reads_may_commit d e bad anchors reads ready = still_may_commit d e bad bad anchors reads.geometry (λ p lt. reads.pages p) (λ b is. is) ready
 
+-- by the time that the flash and the list are given back
+pub may_commit_then : (new end : Device) (now list : set.FinSet nat_cmp) (anchors : Anchors) → end ≡ new → list ≡ now → MayCommit new now anchors → MayCommit end list anchors
+may_commit_then new end now list anchors same listed may = rw (same, listed) may
+
 pub reads_keep : (g : Geometry) (was now : ℕ → Page) → now ≡ was → KeepsNewest g was now
 reads_keep g was now same = subst (λ (pages : ℕ → Page). KeepsNewest g was pages) (sym same) (Keeps_itself g was)
 

@@ -14,5 +14,5 @@ pub mod Ending
 pub mod Attempting
 pub mod Following
 pub mod Asking
-pub mod Changing
+pub mod Wrote
 pub mod Beginning

@@ -1,10 +1,11 @@
 -- What was read, one page after the other.
-use Rattle.std.proofs.Common.{◌≡◌, ℕ, suc, ◌+◌, ◌-◌, ◌/◌, ◌<◌, ◌≤◌, Bool, true, false, cond, ltb, List, ◌++◌, length, Option, Some, None, Result, Err, inl, inr, refl, sym, ap, subst, ◌∙◌, append_assoc, arith}
+use Rattle.std.proofs.Common.{◌≡◌, ℕ, suc, ◌+◌, ◌-◌, ◌*◌, ◌/◌, ◌<◌, ◌≤◌, Bool, true, false, cond, ltb, List, ◌++◌, length, Option, Some, None, Result, Ok, Err, inl, inr, refl, sym, ap, subst, ◌∙◌, append_assoc, arith}
 use Rattle.std.specs.FinSet as set
 use Rattle.std.specs.Ordering.{nat_cmp}
 use Rattle.std.proofs.lemmas.Bool.{cases_Bool, lt-ltb}
 use Rattle.std.proofs.lemmas.List.{append-nil, length-append}
 use Rattle.std.specs.Prelude.{◌&&◌}
+use Rattle.std.proofs.Math.Nat.{mul-le-mul_right}
 use Rattle.std.specs.Option.{option_map, option_and_then}
 use Rattle.fs_types.specs.declared.fault.Fault.{Fault}
 use Rattle.fs_types.specs.declared.fault.Fault.TheVariants.{ReadFailed, PowerCut}
@@ -12,8 +13,9 @@ use Rattle.fs_types.specs.declared.limits.TheConstants.{ANCHORS}
 use Rattle.flash_model.specs.declared.geometry.Geometry.{Geometry}
 use Rattle.flash_model.specs.Device.{Device, Page, bytes_of, Reads}
 use Rattle.flash_model.specs.declared.flash.DevFault.{DevFault}
+use Rattle.flash_model.specs.declared.flash.DevFault.TheVariants.{Failed}
 use Rattle.flash_model.specs.declared.flash.PageState.{PageState}
-use Rattle.flash_model.specs.Reading.{OnlyReads}
+use Rattle.flash_model.specs.Reading.{OnlyReads, OnlyReads_itself, OnlyReads_on, OnlyReads_from_read}
 use Rattle.record_format.specs.Pages.{page_head_of, used_bytes}
 use Rattle.record_format.specs.Payloads.{payload_at}
 use Rattle.record_format.specs.declared.page_head.PageHead.{PageHead}
@@ -21,7 +23,7 @@ use Rattle.commit_pair.specs.Anchored.{AreErased}
 use Rattle.commit_pair.specs.Parts.{Part, part_of, parts_on, part_bytes, head_at, is_part, are_parts, is_valid_record, record_head, best_below, best_on, newest_at, bytes_from, held_bytes}
 use Rattle.commit_pair.specs.declared.best.Best.{Best}
 use Rattle.commit_pair.specs.Payloads.{IsLongFront}
-use Rattle.commit_pair.specs.Reading.{PageReadCause}
+use Rattle.commit_pair.specs.Reading.{PageReadCause, MayRead, ReadsFew}
 
 -- the part in a page of an anchor whose bytes are read
 pub data_part : (g : Geometry) (pages : ℕ → Page) (p : ℕ) (shown : List ℕ) (found : Option PageHead) → p / g.pages < ANCHORS → pages p ≡ bytes_of shown → found ≡ page_head_of shown
@@ -59,12 +61,6 @@ ReadCause_on old mid new ReadFailed reads cause = let h = reads.failed_reads in 
 ReadCause_on old mid new PowerCut reads cause = cause
 ReadCause_on old mid new _ reads cause = cause
 
--- what is erased stays so while pages are read
-pub erased_read : (d e : Device) (bad : set.FinSet nat_cmp) (n : ℕ) → OnlyReads d e → AreErased d bad n → AreErased e bad n
-erased_read d e bad n reads is p lt good =
-    reads.pages p
-    ∙ is p (subst (λ (g : Geometry). p / g.pages < n) reads.geometry lt) (subst (λ (g : Geometry). set.contains bad (p / g.pages) ≡ false) reads.geometry good)
-
 -- a read is one operation at most
 one_at_most : (on : Bool) → cond on 1 0 ≤ 1
 one_at_most true = omega arith
@@ -72,6 +68,53 @@ one_at_most false = omega arith
 
 pub reads_one : (old : Device) (p : ℕ) (was : List ℕ) (new : Device) (now : List ℕ) (result : Result PageState DevFault) → Reads old p was new now result → new.operations ≤ old.operations + 1
 reads_one old p was new now result reads = let h = reads.operates.operations in let one = one_at_most old.powered in omega arith
+
+-- pages may still be read after others were
+pub still_read : (d e : Device) (g : Geometry) (was now : List ℕ) → OnlyReads d e → length now ≡ length was → MayRead d g was → MayRead e g now
+still_read d e g was now reads len may = record { same = reads.geometry ∙ may.same; lawful = may.lawful; whole = len ∙ may.whole }
+
+pub reads_none : {T : Type 0} (d : Device) (n : ℕ) (t : T) → ReadsFew d d n (Ok t)
+reads_none d n t = record { only_reads = OnlyReads_itself d; operations = omega arith; why = tt }
+
+-- one read, and a refusal by it
+pub reads_done : {T : Type 0} (old : Device) (p : ℕ) (was : List ℕ) (new : Device) (now : List ℕ) (state : PageState) (t : T) → Reads old p was new now (Ok state) → ReadsFew old new 1 (Ok t)
+reads_done old p was new now state t reads = record {
+  only_reads = OnlyReads_from_read old p was new now (Ok state) reads;
+  operations = reads_one old p was new now (Ok state) reads;
+  why = tt;
+}
+
+pub reads_failed : {T : Type 0} (old : Device) (p : ℕ) (was : List ℕ) (new : Device) (now : List ℕ) → Reads old p was new now (Err Failed) → ReadsFew {T = T} old new 1 (Err ReadFailed)
+reads_failed old p was new now reads = record {
+  only_reads = OnlyReads_from_read old p was new now (Err Failed) reads;
+  operations = reads_one old p was new now (Err Failed) reads;
+  why = let one = reads.operates.failed_reads in omega arith;
+}
+
+pub reads_cut : {T : Type 0} (old : Device) (p : ℕ) (was : List ℕ) (new : Device) (now : List ℕ) → Reads old p was new now (Err DevFault.PowerCut) → ReadsFew {T = T} old new 1 (Err PowerCut)
+reads_cut old p was new now reads = record {
+  only_reads = OnlyReads_from_read old p was new now (Err DevFault.PowerCut) reads;
+  operations = reads_one old p was new now (Err DevFault.PowerCut) reads;
+  why = reads.operates.power;
+}
+
+-- a refusal after other reads
+pub reads_on : {T U : Type 0} (d e f : Device) (n m most : ℕ) (fault : Fault) → OnlyReads d e → e.operations ≤ d.operations + n → ReadsFew {T = T} e f m (Err fault) → n + m ≤ most → ReadsFew {T = U} d f most (Err fault)
+reads_on d e f n m most fault first few next all = record {
+  only_reads = OnlyReads_on d e f first next.only_reads;
+  operations = let h = next.operations in omega arith;
+  why = ReadCause_on d e f fault first next.why;
+}
+
+-- the pages of one more anchor are no more than those of all
+pub one_more_anchor : (anchor pages : ℕ) → anchor < ANCHORS → anchor * pages + pages ≤ ANCHORS * pages
+one_more_anchor anchor pages lt = let most : (anchor + 1) * pages ≤ ANCHORS * pages = mul-le-mul_right pages (omega arith) in omega (arith, most)
+
+-- what is erased stays so while pages are read
+pub erased_read : (d e : Device) (bad : set.FinSet nat_cmp) (n : ℕ) → OnlyReads d e → AreErased d bad n → AreErased e bad n
+erased_read d e bad n reads is p lt good =
+    reads.pages p
+    ∙ is p (subst (λ (g : Geometry). p / g.pages < n) reads.geometry lt) (subst (λ (g : Geometry). set.contains bad (p / g.pages) ≡ false) reads.geometry good)
 
 -- one page of a record after the other
 are_parts_first : (g : Geometry) (parts : ℕ → Option Part) (p : ℕ) (first : PageHead) (n others : ℕ) → are_parts g parts p first n (suc others) ≡ (is_part g first n (head_at parts (p + n)) && are_parts g parts p first (n + 1) others)

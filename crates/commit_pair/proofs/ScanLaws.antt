@@ -13,8 +13,8 @@ use Rattle.flash_model.specs.Reading.{OnlyReads, same_pages}
 use Rattle.record_format.specs.declared.page_head.PageHead.{PageHead}
 use Rattle.commit_pair.specs.declared.best.Found.{Found}
 use Rattle.commit_pair.specs.declared.best.Best.{Best}
-use Rattle.commit_pair.specs.declared.run.Run.{Run}
-use Rattle.commit_pair.specs.declared.run.Scan.{Scan}
+use Rattle.commit_pair.specs.declared.scan.Run.{Run}
+use Rattle.commit_pair.specs.declared.scan.Scan.{Scan}
 use Rattle.commit_pair.specs.Parts.{Part, part_of, head_at, is_part, are_parts, is_valid_record, record_head, considered, considered_with, best_below, parts_on, newest_at, pages_of}
 use Rattle.commit_pair.specs.Anchored.{AreErased}
 use Rattle.commit_pair.specs.Scanning.{begun_run, followed, settled, scan_next, IsRun, IsMet}

@@ -64,16 +64,23 @@ pub record ChangesAnchor (old : Device) (was : set.FinSet nat_cmp) (new : Device
   pub operations : new.operations ≤ old.operations + n
   pub why : IfErr result (IsPowerCut new)
 
+-- each page is as it was, erased or unreadable
+abbrev pub Fades : (ℕ → Page) → (ℕ → Page) → Type 0
+Fades was now = (p : ℕ) → (now p ≡ was p) ⊎ ((now p ≡ erased) ⊎ (now p ≡ unreadable))
+
+-- what an erase of an anchor leaves: where it was done its pages are erased; else each is so, unreadable, or as it was
+pub record ErasesAnchor (old : Device) (was : set.FinSet nat_cmp) (new : Device) (now : set.FinSet nat_cmp) (anchor : ℕ) (result : Result Bool Fault) : Type 0 where
+  pub erased : IfOk result (λ done. done ≡ true → (p : ℕ) → block_of old p ≡ anchor → new.pages p ≡ erased)
+  pub fades : Fades old.pages new.pages
+  pub changes : ChangesAnchor old was new now anchor 1 result
+  pub reads : new.failed_reads ≡ old.failed_reads
+
 -- n operations were asked for, and more only on blocks that failed: on each of these one at least, an erase and all its pages at most
 pub record Asked (old new : Device) (n : ℕ) : Type 0 where
   pub failed : ℕ
   pub failures : new.failures ≡ old.failures + failed
   pub least : old.operations + n + failed ≤ new.operations
   pub most : new.operations ≤ old.operations + n + failed * (old.geometry.pages + 1)
-
--- each page is as it was, erased or unreadable
-abbrev pub Fades : (ℕ → Page) → (ℕ → Page) → Type 0
-Fades was now = (p : ℕ) → (now p ≡ was p) ⊎ ((now p ≡ erased) ⊎ (now p ≡ unreadable))
 
 -- the anchors below n that are not in the list are erased
 abbrev pub AreErased : Device → set.FinSet nat_cmp → ℕ → Type 0

@@ -131,13 +131,6 @@ pub record IsInVain (old new : Device) (bad : set.FinSet nat_cmp) (fault : Fault
   pub why : TryCause new bad fault
   pub untouched : fault ≢ PowerCut → Untouched old bad new
 
--- a record stands on the first page of the next anchor, and what was asked for it
-pub record StandsNext (old new : Device) (now : set.FinSet nat_cmp) (r : Record) (home : ℕ) (found : Found) : Type 0 where
-  pub stands : StandsLast new.pages r found
-  pub next : (anchor : ℕ) × (found.page ≡ anchor * r.geometry.pages) × IsNextAnchor now home anchor
-  pub asked : Asked old new (1 + found.head.count)
-  pub writable : is_read_only now ≡ false
-
 -- a record stands where a commit from a place of its home puts it, and what was asked for it
 pub record StandsFrom (old : Device) (was : set.FinSet nat_cmp) (new : Device) (now : set.FinSet nat_cmp) (r : Record) (home place : ℕ) (found : Found) : Type 0 where
   pub stands : StandsLast new.pages r found

@@ -10,5 +10,6 @@ pub mod Keeping
 pub mod Payloads
 pub mod Committing
 pub mod Drafts
+pub mod Commit
 pub mod Remembering
 pub mod Following

@@ -3,8 +3,8 @@ use Rattle.std.specs.Prelude.{◌≡◌, ℕ, ◌+◌, ◌%◌, ◌<◌, ◌≤�
 use Rattle.flash_model.specs.declared.geometry.Geometry.{Geometry}
 use Rattle.record_format.specs.declared.page_head.PageHead.{PageHead}
 use Rattle.commit_pair.specs.declared.best.Best.{Best}
-use Rattle.commit_pair.specs.declared.run.Run.{Run}
-use Rattle.commit_pair.specs.declared.run.Scan.{Scan}
+use Rattle.commit_pair.specs.declared.scan.Run.{Run}
+use Rattle.commit_pair.specs.declared.scan.Scan.{Scan}
 use Rattle.commit_pair.specs.Parts.{Part, head_at, is_part, considered, best_below}
 
 -- the record of which a page is the first, if it may be one

@@ -1,22 +1,29 @@
-//! The newest record on the anchors.
-ghost use Rattle.std.specs.Prelude.{◌≡◌, ◌≢◌, ℕ, ◌+◌, ◌*◌, ◌<◌, ◌≤◌, false, length, None, IfOk, OnOk, OnErr, IfErr, MatchResult};
-ghost use Rattle.std.specs.FinSet as set;
+//! The place of the newest record on the anchors, and the commit of the next one.
+ghost use Rattle.std.specs.Prelude.{◌≡◌, ◌≢◌, ℕ, ◌+◌, ◌*◌, ◌<◌, ◌≤◌, false, None, IfOk, OnOk, OnErr, IfErr, MatchResult, ◌-◌, ◌^◌, ◌==◌, true, not, Err, vec_capacity};
 ghost use Rattle.std.specs.Ordering.{nat_cmp};
 ghost use Rattle.flash_model.specs.Geometry.{IsGeometry};
 ghost use Rattle.flash_model.specs.Reading.{OnlyReads};
-ghost use Rattle.commit_pair.specs.Parts as spec;
 ghost use Rattle.commit_pair.specs.Anchored.{OnlyAnchors, IsPowerCut, Fades, AreErased};
 ghost use Rattle.commit_pair.specs.Newest.{remembered, IsCleared, IsUncleared, KnowsEnd, IsNewestRecord, NewestCause};
-ghost use Rattle.commit_pair.specs.Remembering.{MayCommit};
+ghost use Rattle.commit_pair.specs.Remembering.{MayCommit, BeginsAt, ReadsNone, IsPlaced, Remembers, TriesEach, RefusesLast, CommitCause};
 ghost use Rattle.fs_types.specs.declared.limits.TheConstants.{ANCHORS, MAX_BAD_BLOCKS};
+ghost use Rattle.bad_blocks.specs.Mode.{is_read_only};
+ghost use Rattle.commit_pair.specs.Parts.{sequence_of, greatest_on};
+ghost use Rattle.commit_pair.specs.Reading.{MayRead, ReadsFew};
+ghost use Rattle.commit_pair.specs.Committing.{Suits, IsLowest, Commits, Untouched};
+ghost use Rattle.commit_pair.specs.Commit.{IsReady, IsSameCommit, Ends};
+ghost use Rattle.std.specs.FinSet as set;
+ghost use Rattle.commit_pair.specs.Parts as spec;
 
-use crate::best::{Best, Found};
-use crate::erasures::erase_anchors;
-use crate::scan::{find_best, find_payload};
-use bad_blocks::BadBlocks;
+use crate::anchor::erase_anchor;
+use crate::best::Found;
+use crate::commit::Commit;
+use crate::newest::read_best;
+use crate::scan::{find_best, find_greatest};
+use bad_blocks::{BadBlocks, is_read_only};
 use flash_model::{Flash, Geometry};
-use fs_types::Fault;
-use record_format::{Record, read_payload};
+use fs_types::{ANCHORS, Fault};
+use record_format::Record;
 use std::alloc::Global;
 
 /// The place of the newest record on the first eight blocks of a flash, where it is known.
@@ -105,39 +112,190 @@ impl Anchors {
         ensures why { IfErr result (IsPowerCut (F.device flash.new)) }
     {
         *self = Anchors::new();
-        erase_anchors(flash, bad)?;
+        for anchor in 0..ANCHORS {
+            erase_anchor(flash, bad, anchor)?;
+        }
         self.cleared = true;
+        Ok(())
+    }
+
+    /// Whether a sequence is left for the record after the newest one, whose place is remembered.
+    /// True where none is: the sequence is not known then.
+    pub fn has_next_sequence(&self) -> bool
+        ensures { result ≡ not (sequence_of (remembered self.now) == 2 ^ 64 - 1) }
+    {
+        match self.newest {
+            Some(newest) => newest.head.sequence != u64::MAX,
+            None => true,
+        }
+    }
+
+    /// Commits a record: it is the newest one then, with the next sequence and the list as it is
+    /// left. Its own sequence and bad list are not read. The anchors were read or cleared before,
+    /// and no block of the list is past the end of the flash.
+    ///
+    /// It goes after the last page of the newest record's anchor that is not erased, where that
+    /// block is not bad and has room to its end; else on the next anchor in ring order that is not
+    /// bad, which is erased first. Anchors that fail enter the list, and the next one is tried with
+    /// the list as it then is. After `clear` the lowest anchor that is not bad comes first, and is
+    /// not erased again; the sequence is one more than the greatest of a valid record that is still
+    /// on the anchors, or 1.
+    ///
+    /// `ReadOnly` as soon as seven anchors or 256 blocks are in the list; `Overflow` where the
+    /// greatest sequence is the greatest number there is; `PowerCut` where power is off; `NoMemory`
+    /// where room for a page could not be had, before any operation of the flash; `ReadFailed` only
+    /// in the first commit after `clear`. Where no sequence is left `Overflow` comes before
+    /// `NoMemory`, but in the first commit after `clear`, which has to read first. After a refusal the newest record is the one it was, and
+    /// a commit may follow; after `PowerCut` it may be the new one, and `newest` or `clear` has to
+    /// come first.
+    pub fn commit<F: Flash>(
+        &mut self,
+        alloc: Global,
+        flash: &mut F,
+        bad: &mut BadBlocks,
+        saved: &Record,
+    ) -> Result<(), Fault>
+        requires suits { Suits (F.device flash.old) bad.old saved.now }
+        requires ready { MayCommit (F.device flash.old) bad.old self.old }
+
+        // Where the record is then, and what was asked for.
+        ensures commits { Commits (F.device flash.old).pages (F.device flash.new).pages saved.now (greatest_on saved.now.geometry (F.device flash.old).pages + 1) bad.new result }
+        ensures placed { OnOk result ((reads : ℕ) × (ReadsNone bad.old self.old → reads ≡ 0) × (reads ≤ ANCHORS * saved.now.geometry.pages) × IsPlaced (F.device flash.old) bad.old self.old saved.now reads (F.device flash.new) bad.new) }
+        ensures tries { TriesEach (F.device flash.old) bad.old self.old (F.device flash.new) }
+        ensures only_anchors { OnlyAnchors (F.device flash.old) bad.old (F.device flash.new) bad.new }
+        ensures untouched { IfErr result (λ fault. fault ≢ Fault.PowerCut → Untouched (F.device flash.old) bad.new (F.device flash.new)) }
+
+        // A place that is remembered is forgotten by no answer; a commit may follow but where power went.
+        ensures remembers { MatchResult result (λ _. Remembers self.new bad.new) (λ _. self.new ≡ self.old) }
+        ensures ready { result ≢ Err Fault.PowerCut → MayCommit (F.device flash.new) bad.new self.new }
+
+        // Read-only mode is met at once. Nothing is written where no sequence is left; where that is known before, nothing is asked.
+        ensures at_once { is_read_only bad.old ≡ true → (result ≡ Err Fault.ReadOnly) × (F.device flash.new ≡ F.device flash.old) × (bad.new ≡ bad.old) }
+        ensures last { greatest_on saved.now.geometry (F.device flash.old).pages ≡ 2 ^ 64 - 1 → RefusesLast (F.device flash.old) bad.old self.old (F.device flash.new) bad.new result }
+        ensures why { IfErr result (CommitCause (F.device flash.old) bad.old self.old (F.device flash.new) bad.new) }
+    {
+        if is_read_only(bad) {
+            return Err(Fault::ReadOnly);
+        }
+        let next = self.next_sequence(alloc, flash, bad, saved.geometry)?;
+        let (sequence, mut page) = next;
+        let mut commit = Commit {
+            flash,
+            bad,
+            saved,
+            sequence,
+            page: &mut page,
+        };
+        self.commit_as(&mut commit)
+    }
+
+    /// The sequence of the next record, and room for a page.
+    #[tactic(auto, using(flash_model::specs::Reading::OnlyReads_itself))]
+    fn next_sequence<F: Flash>(
+        &self,
+        alloc: Global,
+        flash: &mut F,
+        bad: &BadBlocks,
+        geometry: Geometry,
+    ) -> Result<(u64, Vec<u8>), Fault>
+        requires same { (F.device flash.old).geometry ≡ geometry }
+        requires lawful { IsGeometry geometry }
+        requires ready { MayCommit (F.device flash.old) bad.now self.now }
+
+        // The sequence is above all. Where none is left and that is known, nothing is asked.
+        ensures next { IfOk result (λ next. next.0 ≡ greatest_on geometry (F.device flash.old).pages + 1) }
+        ensures left { IfOk result (λ next. next.0 < 2 ^ 64) }
+        ensures room { IfOk result (λ next. geometry.page ≤ vec_capacity next.1) }
+        ensures last { remembered self.now ≢ None → greatest_on geometry (F.device flash.old).pages ≡ 2 ^ 64 - 1
+            → (result ≡ Err Fault.Overflow) × (F.device flash.new ≡ F.device flash.old) }
+        ensures why { IfErr result (CommitCause (F.device flash.old) bad.now self.now (F.device flash.new) bad.now) }
+
+        // Where the place of the newest record is known, or no anchor is bad, nothing is read.
+        ensures only_reads { OnlyReads (F.device flash.old) (F.device flash.new) }
+        ensures quiet { ReadsNone bad.now self.now → (F.device flash.new).operations ≡ (F.device flash.old).operations }
+        ensures operations { (F.device flash.new).operations ≤ (F.device flash.old).operations + ANCHORS * geometry.pages }
+    {
+        if !self.has_next_sequence() {
+            return Err(Fault::Overflow);
+        }
+        let mut page = vec![in alloc; 0u8; geometry.page as usize]?;
+        let greatest = self.greatest(flash, bad, geometry, &mut page)?;
+        if greatest == u64::MAX {
+            return Err(Fault::Overflow);
+        }
+        Ok((greatest + 1, page))
+    }
+
+    /// The greatest sequence of a valid record, 0 where none is valid.
+    fn greatest<F: Flash>(
+        &self,
+        flash: &mut F,
+        bad: &BadBlocks,
+        geometry: Geometry,
+        page: &mut [u8],
+    ) -> Result<u64, Fault>
+        requires may { MayRead (F.device flash.old) geometry page.old }
+        requires ready { MayCommit (F.device flash.old) bad.now self.now }
+
+        // Where the place of the newest record is known, or no anchor is bad, nothing is read.
+        ensures greatest { IfOk result (λ greatest. greatest ≡ greatest_on geometry (F.device flash.old).pages) }
+        ensures none { IfErr result (λ fault. remembered self.now ≡ None) }
+        ensures quiet { ReadsNone bad.now self.now → (F.device flash.new).operations ≡ (F.device flash.old).operations }
+        ensures reads { ReadsFew (F.device flash.old) (F.device flash.new) (ANCHORS * geometry.pages) result }
+    {
+        match self.newest {
+            Some(newest) => Ok(newest.head.sequence),
+            None => find_greatest(flash, bad, geometry, page),
+        }
+    }
+
+    /// The anchor on which a commit begins, and the place on it.
+    fn start(&self, geometry: Geometry, bad: &BadBlocks) -> (u32, u32)
+        requires lawful { IsGeometry geometry }
+        requires open { is_read_only bad.now ≡ false }
+        ensures begins { BeginsAt geometry bad.now self.now result.0 result.1 }
+    {
+        match self.newest {
+            Some(newest) => (newest.page / geometry.pages, self.end),
+            None => (lowest_good(bad), 0),
+        }
+    }
+
+    /// Commits a record with a sequence that is above those of all valid records.
+    fn commit_as<F: Flash>(&mut self, commit: &mut Commit<'_, F>) -> Result<(), Fault>
+        requires ready { IsReady F.device commit.old }
+        requires may { MayCommit (F.device commit.old.flash.now) commit.old.bad.now self.old }
+        requires open { is_read_only commit.old.bad.now ≡ false }
+
+        // Where the record is then, and what was asked for.
+        ensures same { IsSameCommit commit.old commit.new }
+        ensures leaves { Ends F.device commit.old commit.new result }
+        ensures placed { OnOk result
+            (IsPlaced (F.device commit.old.flash.now) commit.old.bad.now self.old commit.old.saved.now 0 (F.device commit.new.flash.now) commit.new.bad.now) }
+
+        // A place that is remembered is forgotten by no answer; a commit may follow but where power went.
+        ensures remembers { MatchResult result (λ _. Remembers self.new commit.new.bad.now) (λ _. self.new ≡ self.old) }
+        ensures ready { result ≢ Err Fault.PowerCut → MayCommit (F.device commit.new.flash.now) commit.new.bad.now self.new }
+    {
+        let geometry = commit.saved.geometry;
+        let (home, place) = self.start(geometry, commit.bad);
+        let found = commit.after(home, place)?;
+        self.end = found.page % geometry.pages + found.head.count as u32;
+        self.newest = Some(found);
+        self.cleared = false;
         Ok(())
     }
 }
 
-/// The record of greatest sequence, where no other has that sequence.
-fn read_best<F: Flash>(
-    alloc: Global,
-    flash: &mut F,
-    geometry: Geometry,
-    best: Best,
-    page: &mut [u8],
-) -> Result<Option<Record>, Fault>
-    requires same { (F.device flash.old).geometry ≡ geometry }
-    requires lawful { IsGeometry geometry }
-    requires whole { length page.old ≡ geometry.page }
-    requires best { best ≡ spec.best_on geometry (spec.parts_on geometry (F.device flash.old).pages) }
-
-    // Its payload alone is read.
-    ensures newest { IfOk result (IsNewestRecord (F.device flash.old)) }
-    ensures found { OnOk result (best.found ≡ spec.newest_at geometry (spec.parts_on geometry (F.device flash.old).pages)) }
-    ensures only_reads { OnlyReads (F.device flash.old) (F.device flash.new) }
-    ensures operations { (F.device flash.new).operations ≤ (F.device flash.old).operations + spec.pages_of (spec.newest_at geometry (spec.parts_on geometry (F.device flash.old).pages)) }
-    ensures why { IfErr result (NewestCause (F.device flash.old) (F.device flash.new)) }
+/// The lowest anchor that is not in the list.
+fn lowest_good(bad: &BadBlocks) -> u32
+    requires { is_read_only bad.now ≡ false }
+    ensures { IsLowest bad.now result }
 {
-    if best.twice {
-        return Err(Fault::Damaged);
+    for anchor in 0..ANCHORS {
+        if !bad.contains(anchor) {
+            return anchor;
+        }
     }
-    let Some(found) = best.found else {
-        return Ok(None);
-    };
-    let payload = find_payload(flash, geometry, found, page)?;
-    let newest = read_payload(alloc, geometry, found.head.sequence, payload.as_slice())?;
-    Ok(Some(newest))
+    unreachable!()
 }

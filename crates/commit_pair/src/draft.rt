@@ -1,15 +1,18 @@
-//! A record that is to be written on an anchor.
-ghost use Rattle.std.specs.Prelude.{◌≡◌, ◌+◌, ◌*◌, ◌<◌, ◌≤◌, length};
+//! A record that is to be written on an anchor, and its payload.
+ghost use Rattle.std.specs.Prelude.{◌≡◌, ◌+◌, ◌*◌, ◌<◌, ◌≤◌, length, ℕ, [], true};
 ghost use Rattle.flash_model.specs.Geometry.{IsGeometry};
-ghost use Rattle.record_format.specs.Payloads.{longest};
+ghost use Rattle.record_format.specs.Payloads.{longest, is_record, written};
 ghost use Rattle.commit_pair.specs.Drafts.{IsDraft};
 ghost use Rattle.commit_pair.specs.Parts.{room};
+ghost use Rattle.fs_types.specs.declared.limits.TheConstants.{ANCHORS, MAX_BAD_BLOCKS};
+ghost use Rattle.commit_pair.specs.Payloads.{Means};
 ghost use Rattle.commit_pair.specs.Programming as spec;
-ghost use Rattle.fs_types.specs.declared.limits.TheConstants.{ANCHORS};
+ghost use Rattle.std.specs.FinSet as set;
 
 use crate::best::Found;
+use bad_blocks::BadBlocks;
 use flash_model::Geometry;
-use record_format::{HEAD_SIZE, PageHead};
+use record_format::{HEAD_SIZE, PageHead, Payload, Record, payload_laws, write_payload};
 
 /// A record that is to be written: its sequence, its payload, and how many pages that fills.
 #[derive(Clone, Copy, Debug)]
@@ -84,4 +87,18 @@ pub(crate) fn piece_of(geometry: Geometry, payload: &[u8], n: u16) -> &[u8]
     } else {
         rest
     }
+}
+
+/// The payload of a record in the format that is written, with the list in force in place of its
+/// own. It takes no memory.
+pub(crate) fn payload_with(saved: &Record, bad: &BadBlocks) -> Payload
+    requires lawful { is_record (written saved.now []) ≡ true }
+    requires on_flash { (b : ℕ) → set.contains bad.now b ≡ true → b < saved.now.geometry.blocks }
+    requires room { set.len bad.now ≤ MAX_BAD_BLOCKS }
+    ensures means { (sequence : ℕ) → Means saved.now sequence bad.now result.items }
+    ensures some { 0 < length result.items }
+    ensures short { length result.items ≤ longest }
+{
+    payload_laws();
+    write_payload(saved, bad.iter().as_slice())
 }

@@ -1,19 +1,13 @@
 //! The newest commit record on the anchors of a flash: where it is, what it says, and the next one.
 #![tactic(auto)]
 
+mod anchor;
 mod anchors;
-mod attempts;
 mod best;
-mod commits;
+mod commit;
 mod draft;
-mod erasures;
 mod laws;
-mod left;
-mod parts;
-mod payload;
-mod record_pages;
-mod ring;
-mod run;
+mod newest;
 mod scan;
 
 pub use anchors::Anchors;

@@ -1,45 +1,149 @@
-//! All pages of all anchors, gone over once.
-ghost use Rattle.std.specs.Prelude.{◌≡◌, ◌≢◌, ◌⊎◌, ℕ, ◌+◌, ◌*◌, ◌/◌, ◌≤◌, ◌<◌, ◌++◌, length, Some, Err, IfOk, IfErr};
+//! All pages of all anchors, gone over once: the records on them, and the best one.
+ghost use Rattle.std.specs.Prelude.{◌≡◌, ◌≤◌, ℕ, ◌+◌, ◌*◌, ◌<◌, IfOk, ◌≢◌, ◌/◌, Some, false};
+ghost use Rattle.flash_model.specs.Geometry.{IsGeometry};
+ghost use Rattle.fs_types.specs.declared.limits.TheConstants.{ANCHORS};
+ghost use Rattle.record_format.specs.Pages.{used_bytes};
+ghost use Rattle.std.specs.Option.{option_map};
+ghost use Rattle.commit_pair.specs.Reading.{IsEnd, MayRead, ReadsFew};
 ghost use Rattle.std.specs.Bool.{OnTrue, OnFalse};
 ghost use Rattle.flash_model.specs.Device.{erased};
-ghost use Rattle.flash_model.specs.Geometry.{IsGeometry};
-ghost use Rattle.flash_model.specs.Reading.{OnlyReads};
-ghost use Rattle.record_format.specs.Payloads.{payload_at};
 ghost use Rattle.commit_pair.specs.declared.best.Found.{Found};
+ghost use Rattle.commit_pair.specs.Anchored.{AreErased};
+ghost use Rattle.commit_pair.specs.Scanning as scanning;
 ghost use Rattle.commit_pair.specs.Parts as spec;
-ghost use Rattle.commit_pair.specs.Payloads.{IsLongFront};
-ghost use Rattle.commit_pair.specs.Reading.{IsEnd, PageReadCause};
+ghost use Rattle.std.specs.FinSet as set;
 
 use crate::best::{Best, Found};
-use crate::parts::read_head;
-use crate::run::Scan;
-use arrayvec::ArrayVec;
+use bad_blocks::BadBlocks;
 use flash_model::{DevFault, Flash, Geometry, PageState};
 use fs_types::{ANCHORS, Fault};
-use record_format::{HEAD_SIZE, LONGEST_PAYLOAD, PageHead, Payload, refuse_long};
+use record_format::{HEAD_SIZE, PageHead};
 
-/// Reads a page of an anchor: the header of a part of a record or None, and whether the page is
-/// erased.
-fn read_page<F: Flash>(
+/// A record of which the first pages were met: where it begins, and how many they are.
+#[derive(Clone, Copy, Debug)]
+pub(crate) struct Run {
+    pub(crate) found: Found,
+    pub(crate) met: u16,
+}
+
+/// The record of greatest sequence among those that were met whole, and the one whose pages are
+/// being met.
+#[derive(Clone, Copy, Debug)]
+pub(crate) struct Scan {
+    pub(crate) best: Best,
+    pub(crate) run: Option<Run>,
+}
+
+/// Whether the n-th page of `count` holds as many bytes as it must.
+fn is_filled(geometry: Geometry, count: u16, n: u16, used: u16) -> bool
+    requires { 20 ≤ geometry.page }
+    ensures { result ≡ spec.is_filled geometry count n used }
+{
+    let room = geometry.page - HEAD_SIZE as u32;
+    if n as u32 + 1 == count as u32 {
+        0 < used && used as u32 <= room
+    } else {
+        used as u32 == room
+    }
+}
+
+/// Whether a page is the n-th of the record whose first header is given.
+fn is_part(geometry: Geometry, first: PageHead, n: u16, head: Option<PageHead>) -> bool
+    requires { 20 ≤ geometry.page }
+    ensures { result ≡ spec.is_part geometry first n head }
+{
+    let Some(head) = head else {
+        return false;
+    };
+    head.sequence == first.sequence
+        && head.count == first.count
+        && head.index == n
+        && is_filled(geometry, first.count, n, head.used)
+}
+
+/// The record of which this page is the first, if it may be one.
+fn begun(geometry: Geometry, page: u32, head: Option<PageHead>) -> Option<Run>
+    requires room { 20 ≤ geometry.page }
+    requires lawful { IsGeometry geometry }
+    ensures { result ≡ scanning.begun_run geometry page head }
+{
+    let first = head?;
+    let fits = first.count > 0 && page % geometry.pages + first.count as u32 <= geometry.pages;
+    if fits && is_part(geometry, first, 0, head) {
+        let found = Found { page, head: first };
+        Some(Run { found, met: 1 })
+    } else {
+        None
+    }
+}
+
+/// The record whose pages are being met after one more page.
+fn followed(geometry: Geometry, run: Option<Run>, page: u32, head: Option<PageHead>) -> Option<Run>
+    requires room { 20 ≤ geometry.page }
+    requires lawful { IsGeometry geometry }
+    requires goes_on { scanning.LacksPages run }
+    ensures { result ≡ scanning.followed geometry run page head }
+{
+    let Some(run) = run else {
+        return begun(geometry, page, head);
+    };
+    if is_part(geometry, run.found.head, run.met, head) {
+        Some(Run {
+            found: run.found,
+            met: run.met + 1,
+        })
+    } else {
+        begun(geometry, page, head)
+    }
+}
+
+/// The best record after a page: the one whose pages are being met counts once all of them were.
+fn settled(best: Best, run: Option<Run>) -> Scan
+    ensures { result ≡ scanning.settled best run }
+{
+    let Some(met) = run else {
+        return Scan { best, run };
+    };
+    if met.met == met.found.head.count {
+        let best = best.considered(met.found.page, Some(met.found.head));
+        Scan { best, run: None }
+    } else {
+        Scan { best, run }
+    }
+}
+
+impl Scan {
+    /// After one more page with this header.
+    pub(crate) fn next(self, geometry: Geometry, page: u32, head: Option<PageHead>) -> Scan
+        requires room { 20 ≤ geometry.page }
+        requires lawful { IsGeometry geometry }
+        requires goes_on { scanning.LacksPages self.run }
+        ensures { result ≡ scanning.scan_next geometry self page head }
+    {
+        let run = followed(geometry, self.run, page, head);
+        settled(self.best, run)
+    }
+}
+
+/// Reads a page of an anchor: the header of a part of a record, whose bytes are then in the buffer, or
+/// None, and whether the page is erased.
+pub(crate) fn read_page<F: Flash>(
     flash: &mut F,
     geometry: Geometry,
     page: u32,
     buffer: &mut [u8],
 ) -> Result<(Option<PageHead>, bool), Fault>
-    requires same { (F.device flash.old).geometry ≡ geometry }
-    requires lawful { IsGeometry geometry }
+    requires may { MayRead (F.device flash.old) geometry buffer.old }
     requires in_range { page < ANCHORS * geometry.pages }
-    requires whole { length buffer.old ≡ geometry.page }
 
     // What the page holds.
-    ensures head { IfOk result (λ read. read.0 ≡ spec.head_at (spec.parts_on geometry (F.device flash.old).pages) page) }
+    ensures part { IfOk result (λ read. option_map (λ head. record { head = head; bytes = used_bytes head buffer.new }) read.0
+        ≡ spec.parts_on geometry (F.device flash.old).pages page) }
     ensures blank { IfOk result (λ read. OnTrue read.1 ((F.device flash.old).pages page ≡ erased)) }
     ensures other { IfOk result (λ read. OnFalse read.1 ((F.device flash.old).pages page ≢ erased)) }
 
     // By reads alone, and how many.
-    ensures only_reads { OnlyReads (F.device flash.old) (F.device flash.new) }
-    ensures operations { (F.device flash.new).operations ≤ (F.device flash.old).operations + 1 }
-    ensures why { IfErr result (PageReadCause (F.device flash.old) (F.device flash.new)) }
+    ensures reads { ReadsFew (F.device flash.old) (F.device flash.new) 1 result }
 {
     match flash.read(page, buffer) {
         Ok(PageState::Data) => Ok((PageHead::of(buffer), false)),
@@ -52,17 +156,15 @@ fn read_page<F: Flash>(
 
 /// Reads each page of an anchor once: the best record, this anchor's among them, and the place after
 /// the anchor's last page that is not erased.
-pub(crate) fn scan_anchor<F: Flash>(
+fn scan_anchor<F: Flash>(
     flash: &mut F,
     geometry: Geometry,
     anchor: u32,
     best: Best,
     buffer: &mut [u8],
 ) -> Result<(Best, u32), Fault>
-    requires same { (F.device flash.old).geometry ≡ geometry }
-    requires lawful { IsGeometry geometry }
+    requires may { MayRead (F.device flash.old) geometry buffer.old }
     requires anchor { anchor < ANCHORS }
-    requires whole { length buffer.old ≡ geometry.page }
     requires best { best ≡ spec.best_below geometry (spec.parts_on geometry (F.device flash.old).pages) (anchor * geometry.pages) }
 
     // The best record, and the anchor's end.
@@ -70,9 +172,7 @@ pub(crate) fn scan_anchor<F: Flash>(
     ensures end { IfOk result (λ read. IsEnd geometry (F.device flash.old).pages anchor geometry.pages read.1) }
 
     // By reads alone, and how many.
-    ensures only_reads { OnlyReads (F.device flash.old) (F.device flash.new) }
-    ensures operations { (F.device flash.new).operations ≤ (F.device flash.old).operations + geometry.pages }
-    ensures why { IfErr result (PageReadCause (F.device flash.old) (F.device flash.new)) }
+    ensures reads { ReadsFew (F.device flash.old) (F.device flash.new) geometry.pages result }
 {
     let mut scan = Scan { best, run: None };
     let mut end = 0;
@@ -106,18 +206,14 @@ pub(crate) fn find_best<F: Flash>(
     geometry: Geometry,
     buffer: &mut [u8],
 ) -> Result<(Best, u32), Fault>
-    requires same { (F.device flash.old).geometry ≡ geometry }
-    requires lawful { IsGeometry geometry }
-    requires whole { length buffer.old ≡ geometry.page }
+    requires may { MayRead (F.device flash.old) geometry buffer.old }
 
     // The best record, and the end of its anchor.
     ensures best { IfOk result (λ read. read.0 ≡ spec.best_on geometry (spec.parts_on geometry (F.device flash.old).pages)) }
     ensures end { IfOk result (λ read. (found : Found) → read.0.found ≡ Some found → IsEnd geometry (F.device flash.old).pages (found.page / geometry.pages) geometry.pages read.1) }
 
     // By reads alone, and how many.
-    ensures only_reads { OnlyReads (F.device flash.old) (F.device flash.new) }
-    ensures operations { (F.device flash.new).operations ≤ (F.device flash.old).operations + ANCHORS * geometry.pages }
-    ensures why { IfErr result (PageReadCause (F.device flash.old) (F.device flash.new)) }
+    ensures reads { ReadsFew (F.device flash.old) (F.device flash.new) (ANCHORS * geometry.pages) result }
 {
     let mut best = Best {
         found: None,
@@ -134,64 +230,59 @@ pub(crate) fn find_best<F: Flash>(
     Ok((best, end))
 }
 
-/// The payload bytes of a part of a record whose page is in the buffer.
-fn bytes_of(head: Option<PageHead>, page: &[u8]) -> &[u8]
-    requires { 20 ≤ length page.now }
-    ensures { result.now ≡ spec.held_bytes head page.now }
-{
-    let Some(head) = head else {
-        return &[];
-    };
-    let bytes = &page[HEAD_SIZE..];
-    if (head.used as usize) < bytes.len() {
-        &bytes[..head.used as usize]
-    } else {
-        bytes
-    }
-}
-
-/// Puts bytes after those of a payload, as far as there is room, and answers whether there was room
-/// for all.
-fn push_bytes(payload: &mut Payload, bytes: &[u8]) -> bool
-    ensures all { OnTrue result (payload.new.items ≡ payload.old.items ++ bytes.now) }
-    ensures front { OnFalse result (IsLongFront (payload.old.items ++ bytes.now) payload.new.items) }
-{
-    let room = LONGEST_PAYLOAD - payload.len();
-    if room < bytes.len() {
-        payload.try_extend_from_slice(&bytes[..room]).unwrap();
-        return false;
-    }
-    payload.try_extend_from_slice(bytes).unwrap();
-    true
-}
-
-/// The payload of a record that was found. One that is longer than any is refused by its first bytes;
-/// no more of it are kept.
-pub(crate) fn find_payload<F: Flash>(
+/// The best record, those on an anchor among them. Each page of the anchor is read once where it is
+/// in the list; else they are erased.
+fn scan_left<F: Flash>(
     flash: &mut F,
+    bad: &BadBlocks,
     geometry: Geometry,
-    found: Found,
+    anchor: u32,
+    best: Best,
     buffer: &mut [u8],
-) -> Result<Payload, Fault>
-    requires same { (F.device flash.old).geometry ≡ geometry }
-    requires lawful { IsGeometry geometry }
-    requires in_range { found.page + found.head.count ≤ ANCHORS * geometry.pages }
-    requires whole { length buffer.old ≡ geometry.page }
+) -> Result<Best, Fault>
+    requires may { MayRead (F.device flash.old) geometry buffer.old }
+    requires anchor { anchor < ANCHORS }
+    requires erased { AreErased (F.device flash.old) bad.now ANCHORS }
+    requires best { best ≡ spec.best_below geometry (spec.parts_on geometry (F.device flash.old).pages) (anchor * geometry.pages) }
 
-    // The payload.
-    ensures payload { IfOk result (λ payload. payload.items ≡ spec.payload_of geometry (spec.parts_on geometry (F.device flash.old).pages) found) }
+    // The best record, this anchor's among them.
+    ensures best { IfOk result (λ next. next ≡ spec.best_below geometry (spec.parts_on geometry (F.device flash.old).pages) ((anchor + 1) * geometry.pages)) }
 
     // By reads alone, and how many.
-    ensures only_reads { OnlyReads (F.device flash.old) (F.device flash.new) }
-    ensures operations { (F.device flash.new).operations ≤ (F.device flash.old).operations + found.head.count }
-    ensures why { IfErr result (λ fault. PageReadCause (F.device flash.old) (F.device flash.new) fault ⊎ (payload_at geometry found.head.sequence (spec.payload_of geometry (spec.parts_on geometry (F.device flash.old).pages) found) ≡ Err fault)) }
+    ensures reads { ReadsFew (F.device flash.old) (F.device flash.new) geometry.pages result }
+    ensures quiet { set.contains bad.now anchor ≡ false → (F.device flash.new).operations ≡ (F.device flash.old).operations }
 {
-    let mut payload = ArrayVec::new();
-    for n in 0..found.head.count {
-        let head = read_head(flash, geometry, found.page + n as u32, buffer)?;
-        if !push_bytes(&mut payload, bytes_of(head, buffer)) {
-            return Err(refuse_long(geometry, payload.as_slice()));
-        }
+    if !bad.contains(anchor) {
+        return Ok(best);
     }
-    Ok(payload)
+    let (next, _end) = scan_anchor(flash, geometry, anchor, best, buffer)?;
+    Ok(next)
+}
+
+/// The greatest sequence of a valid record on the anchors, 0 where none is valid. Only those in the
+/// list are read, each page once; the others are erased.
+pub(crate) fn find_greatest<F: Flash>(
+    flash: &mut F,
+    bad: &BadBlocks,
+    geometry: Geometry,
+    buffer: &mut [u8],
+) -> Result<u64, Fault>
+    requires may { MayRead (F.device flash.old) geometry buffer.old }
+    requires erased { AreErased (F.device flash.old) bad.now ANCHORS }
+
+    // The greatest sequence.
+    ensures greatest { IfOk result (λ greatest. greatest ≡ spec.greatest_on geometry (F.device flash.old).pages) }
+
+    // By reads alone, and how many.
+    ensures reads { ReadsFew (F.device flash.old) (F.device flash.new) (ANCHORS * geometry.pages) result }
+    ensures quiet { ((b : ℕ) → b < ANCHORS → set.contains bad.now b ≡ false) → (F.device flash.new).operations ≡ (F.device flash.old).operations }
+{
+    let mut best = Best {
+        found: None,
+        twice: false,
+    };
+    for anchor in 0..ANCHORS {
+        best = scan_left(flash, bad, geometry, anchor, best, buffer)?;
+    }
+    Ok(best.sequence())
 }

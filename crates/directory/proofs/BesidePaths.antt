@@ -1,5 +1,5 @@
 -- A look up of a path that begins where it parts from another one.
-use Rattle.std.proofs.Common.{◌≡◌, ℕ, zero, suc, ◌+◌, ◌-◌, ◌<◌, ◌≤◌, Bool, true, false, cond, Option, Some, Result, Ok, List, [], ◌∷◌, length, take, drop, get_or, refl, sym, ap, ◌∙◌, arith}
+use Rattle.std.proofs.Common.{◌≡◌, ℕ, zero, suc, ◌+◌, ◌-◌, ◌<◌, ◌≤◌, Bool, true, false, cond, Option, Some, Result, Ok, List, [], ◌∷◌, length, take, drop, get_or, refl, sym, ap, subst, ◌∙◌, arith}
 use Rattle.std.specs.Prelude.{nat_le, slice_index, slice_index_or, unwrap_or}
 use Rattle.std.proofs.lemmas.List.{get_or_default, length-take, get_or-take}
 use Rattle.std.proofs.Math.Seq.{drop-cons}
@@ -12,9 +12,9 @@ use Rattle.node_format.specs.declared.place.Place.{Place}
 use Rattle.node_format.specs.declared.place.Place.TheVariants.{Dir}
 use Rattle.block_trees.specs.Bodies.{Blocks}
 use Rattle.block_trees.specs.Trees.{entries_in, child, leads}
-use Rattle.directory.specs.Lookups.{directory_at, found_of, look_up, ◌>>=◌}
+use Rattle.directory.specs.Lookups.{directory_at, found_of, look_up, way_nodes, ◌>>=◌}
 use Rattle.directory.specs.Moves.{common}
-use Rattle.directory.specs.Beside.{parting}
+use Rattle.directory.specs.Beside.{parting, beside_nodes}
 use Rattle.directory.specs.Trails.{IsTrail, IsWay}
 use Rattle.directory.proofs.Directories.{place_named}
 use Rattle.directory.proofs.LookupLaws.{found_items}
@@ -131,3 +131,22 @@ beside f root other path trail k is way =
         let counted = way.counted in
         ap (λ (p : Path). leads f (Dir root) p) (sym (take_common (suc k) other path le)) ∙ way.through (suc k) (omega arith)
         ∙ ap (λ (b : ℕ). Some (Dir b)) (sym (get_or_default trail (suc k) root 0 (omega arith)))
+
+-- a look up that goes on in a block, with the first blocks of the other trail
+pub record GoesOnBeside (f : Blocks) (root : ℕ) (other path : Path) (trail front : List ℕ) (block : ℕ) : Type 0 where
+  pub within : length front ≤ length path
+  pub looked : look_up f block (drop (length front) path) ≡ look_up f root path
+  pub way : IsWay f root path front block
+  pub nodes : way_nodes f block (drop (length front) path) ≡ beside_nodes f root other trail path
+
+pub goes_beside : (f : Blocks) (root : ℕ) (other path : Path) (trail front : List ℕ) (k block : ℕ) → k ≡ parting other path → IsTrail f root other trail → front ≡ take k trail → block ≡ slice_index_or trail k root → GoesOnBeside f root other path trail front block
+goes_beside f root other path trail front k block at trail_of begun here =
+    let is = beside f root other path trail k at trail_of in
+    let long : length front ≡ k = ap length begun ∙ is.counted in
+    let parts : block ≡ slice_index_or trail (parting other path) root = here ∙ ap (λ (n : ℕ). slice_index_or trail n root) at in
+    record {
+      within = omega (arith, long, is.within);
+      looked = (λ i. look_up f (here i) (drop (long i) path)) ∙ is.looked;
+      way = subst (λ (b : ℕ). IsWay f root path front b) (sym here) (subst (λ (t : List ℕ). IsWay f root path t (slice_index_or trail k root)) (sym begun) is.way);
+      nodes = λ i. way_nodes f (parts i) (drop ((long ∙ at) i) path);
+    }

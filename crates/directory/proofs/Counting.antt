@@ -111,6 +111,15 @@ pub count_ext : (p q : ℕ → Bool) → ((b : ℕ) → p b ≡ q b) → (n : �
 count_ext p q same zero = refl
 count_ext p q same (suc n) = λ i. count_ext p q same n i + cond (same n i) 1 0
 
+-- what passes one test passes another
+pub count_le : (p q : ℕ → Bool) → ((b : ℕ) → p b ≡ true → q b ≡ true) → (n : ℕ) → count_below p n ≤ count_below q n
+count_le p q more zero = omega arith
+count_le p q more (suc n) = omega (arith, count_le p q more n, on (p n) (q n) (more n))
+  where
+    on : (s t : Bool) → (s ≡ true → t ≡ true) → cond s 1 0 ≤ cond t 1 0
+    on false t more = omega arith
+    on true t more = rw (more refl) (omega arith)
+
 -- what passes a test is in the list of those that do
 pub filter_has : (p : ℕ → Bool) (xs : List ℕ) (x : ℕ) → Contains xs x → p x ≡ true → Contains (filter p xs) x
 filter_has p [] x h is = absurd (omega (arith, h.1))
@@ -122,14 +131,6 @@ filter_has p (y ∷ xs) x (suc k, lt, same) is = on (p y) (filter_has p xs x (k,
     on : (t : Bool) → Contains (filter p xs) x → Contains (cond t (y ∷ filter p xs) (filter p xs)) x
     on true (j, below, at) = (suc j, omega (arith, below), at)
     on false h = h
-
-pub filter_few : (p : ℕ → Bool) (xs : List ℕ) → length (filter p xs) ≤ length xs
-filter_few p [] = omega arith
-filter_few p (x ∷ xs) = on (p x) (filter_few p xs)
-  where
-    on : (t : Bool) → length (filter p xs) ≤ length xs → length (cond t (x ∷ filter p xs) (filter p xs)) ≤ suc (length xs)
-    on true few = omega (arith, few)
-    on false few = omega (arith, few)
 
 -- ---- of what was seen, what was not known
 
@@ -145,6 +146,9 @@ loud_few quiet seen list n within = count_few (is_loud quiet seen) (loud_of quie
   where
     in_list : (b : ℕ) → is_loud quiet seen b ≡ true → Contains (loud_of quiet list) b
     in_list b here = let both = loud_parts (contains seen b) (contains quiet b) here in filter_has (λ b. not (contains quiet b)) list b (within b both.0) both.1
+
+pub loud_le : (quiet seen seen' : FinSet nat_cmp) → ((b : ℕ) → contains seen b ≡ true → contains seen' b ≡ true) → (n : ℕ) → count_below (is_loud quiet seen) n ≤ count_below (is_loud quiet seen') n
+loud_le quiet seen seen' stays = count_le (is_loud quiet seen) (is_loud quiet seen') (λ b here. let both = loud_parts (contains seen b) (contains quiet b) here in ap (λ (t : Bool). t && not (contains quiet b)) (stays b both.0) ∙ both.1)
 
 -- one block more was seen
 pub loud_put : (quiet : FinSet nat_cmp) (p q : ℕ → Bool) (x : ℕ) → ((b : ℕ) → q b ≡ (eqb b x || p b)) → p x ≡ false → (n : ℕ) → x < n

@@ -13,7 +13,7 @@ use Rattle.block_trees.specs.Chains.{link_of, link_items, next_of, most_after, e
 use Rattle.block_trees.proofs.Chains.{by_test, head_of, either_of, next_is, items_are}
 use Rattle.block_trees.proofs.Chained.{among_chain, held_chain}
 use Rattle.directory.specs.Depths.{count_below, is_directory_at, names_directory, is_left, IsSeen, AreFoundBelow, NamesWhole, AreOf, AreAmong, AreNamedBy, HasDirectories, is_loud}
-use Rattle.directory.proofs.Counting.{count_none, count_put, count_most, loud_put, loud_seen}
+use Rattle.directory.proofs.Counting.{count_put, count_most, loud_put}
 use Rattle.directory.proofs.Levels.{any_contains, contains_insert}
 
 -- ---- what nodes name
@@ -330,14 +330,11 @@ way_step f f2 blocks block at at' seen0 found0 seen seen' found found' same size
     (way_on f blocks block at at' seen0.members found0.members seen.members found.members found'.members way left (subst (λ (g : Blocks). next_of (g at) ≡ at') same to)
     (λ b. added b ∙ (λ i. contains found.members b || (nat_lt b (size i) && names_directory (link_items (same i at)) b))))
 
-pub reads_step : (quiet : FinSet nat_cmp) (blocks at first now then : ℕ) (seen0 seen seen' : BlockSet) → seen0.blocks ≡ blocks → IsLeft blocks seen.members at → seen' ≡ with_block seen at
-    → now + count_below (is_loud quiet seen0.members) seen0.blocks ≡ first + count_below (is_loud quiet seen.members) seen0.blocks → then ≡ now + cond (contains quiet at) 0 1
-    → then + count_below (is_loud quiet seen0.members) seen0.blocks ≡ first + count_below (is_loud quiet seen'.members) seen0.blocks
-reads_step quiet blocks at first now then seen0 seen seen' size left put so_far one =
-    let below : at < seen0.blocks = omega (arith, size, left.below) in
-    let more : count_below (is_loud quiet seen'.members) seen0.blocks ≡ count_below (is_loud quiet seen.members) seen0.blocks + cond (contains quiet at) 0 1 =
-    ap (λ (s : BlockSet). count_below (is_loud quiet s.members) seen0.blocks) put ∙ loud_put quiet (contains seen.members) (contains (insert seen.members at)) at (contains_insert seen.members at) left.new seen0.blocks below in
-    omega (arith, so_far, one, more)
+pub loud_step : (quiet : FinSet nat_cmp) (blocks at n : ℕ) (seen seen' : BlockSet) → n ≡ blocks → IsLeft blocks seen.members at → seen' ≡ with_block seen at
+    → count_below (is_loud quiet seen'.members) n ≡ count_below (is_loud quiet seen.members) n + cond (contains quiet at) 0 1
+loud_step quiet blocks at n seen seen' size left put =
+    let below : at < n = omega (arith, size, left.below) in
+    ap (λ (s : BlockSet). count_below (is_loud quiet s.members) n) put ∙ loud_put quiet (contains seen.members) (contains (insert seen.members at)) at (contains_insert seen.members at) left.new n below
 
 pub measure_falls : (blocks at : ℕ) (seen seen' : BlockSet) → seen.blocks ≡ blocks → IsLeft blocks seen.members at → seen' ≡ with_block seen at → seen'.blocks - count_below (contains seen'.members) seen'.blocks < seen.blocks - count_below (contains seen.members) seen.blocks
 measure_falls blocks at seen seen' size left put =
@@ -347,9 +344,6 @@ measure_falls blocks at seen seen' size left put =
     ap (λ (s : BlockSet). count_below (contains s.members) seen.blocks) put ∙ counted_more seen.members at seen.blocks below left.new in
     let most : count_below (contains seen'.members) seen.blocks ≤ seen.blocks = count_most (contains seen'.members) seen.blocks in
     subst (λ (n : ℕ). n - count_below (contains seen'.members) n < seen.blocks - count_below (contains seen.members) seen.blocks) (sym same) (omega (arith, more, most))
-
-pub none_counted : (quiet s : FinSet nat_cmp) (n : ℕ) → s ≡ empty → count_below (is_loud quiet s) n ≡ 0
-none_counted quiet s n is = count_none (is_loud quiet s) n (λ b here. true≢false (sym (loud_seen quiet s b here) ∙ ap (λ (t : FinSet nat_cmp). contains t b) is ∙ contains-empty nat_cmp b))
 
 pub later_has : (f h : Blocks) (blocks blocks' : ℕ) (roots list : List ℕ) → h ≡ f → blocks' ≡ blocks → HasDirectories f blocks roots list → HasDirectories h blocks' roots list
 later_has f h blocks blocks' roots list same size all = subst (λ (e : Blocks). HasDirectories e blocks' roots list) (sym same) (subst (λ (n : ℕ). HasDirectories f n roots list) (sym size) all)

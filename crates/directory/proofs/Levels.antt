@@ -2,20 +2,19 @@
 use Rattle.std.proofs.Common.{◌≡◌, ℕ, zero, suc, ◌⊎◌, inl, inr, ◌+◌, ◌*◌, ◌<◌, ◌≤◌, Bool, true, false, cond, ◌&&◌, ◌||◌, eqb, Option, Some, None, List, [], ◌∷◌, ◌++◌, length, take, refl, sym, ap, subst, ◌∙◌, arith, rules, length-append}
 use Rattle.std.specs.Prelude.{nat_lt, nat_le, IsSome, Contains, unwrap_or}
 use Rattle.std.specs.Option.{is_some, option_and_then}
-use Rattle.std.specs.List.{list_any, range_with_len}
+use Rattle.std.specs.List.{list_any}
 use Rattle.std.specs.FinSet.{FinSet, contains, insert, empty, members, contains-empty}
 use Rattle.std.specs.Ordering.{nat_cmp}
 use Rattle.std.proofs.lemmas.Bool.{true≢false, eqb-true, eq-eqb, ltb-true, ltb-false, lt-ltb, leb-true, leb-false}
 use Rattle.std.proofs.lemmas.List.{length-take-le}
 use Rattle.std.proofs.lemmas.List.Elements.{Contains-append_left, Contains-push, Contains-push_cases}
-use Rattle.std.proofs.lemmas.List.FromFn.{length-range_with_len, get_or-range_with_len}
 use Rattle.fs_types.specs.Names.{Name, Path, same_name}
 use Rattle.fs_types.proofs.Orders.{same_name-own}
 use Rattle.node_format.specs.Items.{Item, named_place}
 use Rattle.node_format.specs.declared.place.Place.{Place}
 use Rattle.node_format.specs.declared.place.Place.TheVariants.{Dir, File}
 use Rattle.block_trees.specs.Bodies.{Blocks}
-use Rattle.block_trees.specs.Chains.{link_of, link_items, next_of, and_after, entries_after, most_after, in_order}
+use Rattle.block_trees.specs.Chains.{link_of, link_items, and_after, entries_after, most_after, in_order}
 use Rattle.block_trees.specs.Trees.{child, leads, entries_in, items_in}
 use Rattle.block_trees.specs.Laws.{IsShallow}
 use Rattle.block_trees.proofs.Chains.{by_test}
@@ -23,7 +22,7 @@ use Rattle.block_trees.proofs.Chained.{entry_named}
 use Rattle.block_trees.proofs.RootMaps.{leads-append}
 use Rattle.directory.specs.Lookups.{LeadsToDirectories}
 use Rattle.directory.proofs.Directories.{empty_first}
-use Rattle.directory.specs.Depths.{IsDeeper, is_directory_at, names_directory, AreNamedBy, HasBlocks, HasDirectories}
+use Rattle.directory.specs.Depths.{IsDeeper, is_directory_at, names_directory, AreNamedBy, HasBlocks}
 
 -- ---- the directories that entries name
 
@@ -299,15 +298,6 @@ block_past blocks x list level has past = record {
     on : (b : ℕ) → b < blocks → Contains list b ⊎ (x ≡ b) → contains level b ≡ true
     on b below (inl before) = has.all b before below
     on b below (inr same) = absurd (omega (arith, same))
-
--- ---- the directories of a list
-
--- all blocks have all directories
-pub range_has : (f : Blocks) (blocks : ℕ) (roots : List ℕ) → HasDirectories f blocks roots (range_with_len 0 blocks)
-range_has f blocks roots = record { first = λ b rooted below. at b below; next = λ parent b within below names. at b below; on = λ b within some below. at (next_of (f b)) below }
-  where
-    at : (b : ℕ) → b < blocks → Contains (range_with_len 0 blocks) b
-    at b below = (b, omega (arith, length-range_with_len 0 blocks), get_or-range_with_len 0 blocks b b below ∙ omega arith)
 
 -- so many blocks a level
 pub one_level_more : (k blocks : ℕ) → (k + 1) * blocks ≡ k * blocks + blocks

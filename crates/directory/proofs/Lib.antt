@@ -27,3 +27,4 @@ pub mod ReadLists
 pub mod ListEdits
 pub mod BesidePaths
 pub mod DirectoryPuts
+pub mod NodeCalls

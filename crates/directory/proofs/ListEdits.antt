@@ -170,12 +170,8 @@ leads_on items changed more name place m only led = by_test (same_name name m) h
         on (Some p) is = (joined changed (Some p) (led_other ∙ is)).1 refl ∙ sym ((joined items (Some p) is).1 refl)
 
 -- what an edited list that was put back makes
-pub record IsWritten (old new : Blocks) (kept kept' : ℕ → Bool) (block to : ℕ) (name : Name) (place : Option Place) (changed : List Item) : Type 0 where
-  pub edited : IsDirectoryEdit old new block to name place
-  pub nodes : IsFreshChain old new kept kept' block to
-
 pub edit_written : (old new : Blocks) (kept kept' : ℕ → Bool) (block left : ℕ) (items changed : List Item) (tail to : ℕ) (name : Name) (place : Option Place) → IsHeld old kept (Dir block) → IsReadTo old block left items tail → IsEnough items tail name (is_some place)
-    → IsEdited items name place changed → PutsDirectory old kept new kept' tail to changed → IsWritten old new kept kept' block to name place changed
+    → IsEdited items name place changed → PutsDirectory old kept new kept' tail to changed → IsDirectoryEdit old new block to name place × IsFreshChain old new kept kept' block to
 edit_written old new kept kept' block left items changed tail to name place held r e edited puts = elim e.ends [
   | inl last ↦ made (put_all old new kept kept' block left items changed tail to r last edited.lawful puts) (all last)
   | inr there ↦ made (put_some old new kept kept' block left items changed tail to name place held r there.0 there.1 edited puts) (λ p none. absurd (true≢false (sym there.0 ∙ ap is_some none)))
@@ -191,15 +187,12 @@ edit_written old new kept kept' block left items changed tail to name place held
         same_rest [] ys e = e
         same_rest (x ∷ xs) ys e = same_rest xs ys (let tails : xs ++ ys ≡ xs = cc in tails)
 
-    made : (p : IsPutBack old new kept kept' block left items changed tail to) → ((q : IsPutBack old new kept kept' block left items changed tail to) → place ≡ None → q.more ≡ []) → IsWritten old new kept kept' block to name place changed
-    made p only = record {
-      edited = (changed ++ p.more, p.now, λ m. leads_on items changed p.more name place m (only p) (edited.leads m) ∙ ap (λ (xs : List Item). cond (same_name name m) place (named_place xs m)) (sym (items_are old block (items ++ p.more) p.was)));
-      nodes = p.nodes;
-    }
+    made : (p : IsPutBack old new kept kept' block left items changed tail to) → ((q : IsPutBack old new kept kept' block left items changed tail to) → place ≡ None → q.more ≡ []) → IsDirectoryEdit old new block to name place × IsFreshChain old new kept kept' block to
+    made p only = ((changed ++ p.more, p.now, λ m. leads_on items changed p.more name place m (only p) (edited.leads m) ∙ ap (λ (xs : List Item). cond (same_name name m) place (named_place xs m)) (sym (items_are old block (items ++ p.more) p.was))), p.nodes)
 
 -- the same of a call: the state at first (0), with the entries read (1), and with the new directory written (2)
 pub edit_done : (f0 f1 f2 : Blocks) (k0 k1 k2 : ℕ → Bool) (block left : ℕ) (items changed listed : List Item) (tail : ℕ) (name : Name) (place : Option Place) (r : Result ℕ Fault) → f1 ≡ f0 → k1 ≡ k0 → listed ≡ changed → IsHeld f0 k0 (Dir block) → IsReadTo f0 block left items tail
-    → IsEnough items tail name (is_some place) → IsEdited items name place changed → IfOk r (λ to. PutsDirectory f1 k1 f2 k2 tail to listed) → IfOk r (λ to. IsWritten f0 f2 k0 k2 block to name place changed)
+    → IsEnough items tail name (is_some place) → IsEdited items name place changed → IfOk r (λ to. PutsDirectory f1 k1 f2 k2 tail to listed) → IfOk r (λ to. IsDirectoryEdit f0 f2 block to name place × IsFreshChain f0 f2 k0 k2 block to)
 edit_done f0 f1 f2 k0 k1 k2 block left items changed listed tail name place (Err fault) same_nodes same_kept same held read enough edited puts = tt
 edit_done f0 f1 f2 k0 k1 k2 block left items changed listed tail name place (Ok to) same_nodes same_kept same held read enough edited puts =
     edit_written f0 f2 k0 k2 block left items changed tail to name place held read enough edited

@@ -98,9 +98,9 @@ same_parted f0 f1 f2 k0 k1 k2 block first second held =
     (later.0 ∙ here.0, later.1 ∙ here.1)
 
 pub path_parted : (f0 f1 f2 f3 : Blocks) (k0 k1 k2 k3 : ℕ → Bool) (block : ℕ) (n m : Name) (p q : Path) (place : Place) (former here : Option Place) (r : Result ℕ Fault) → Parts f0 f1 f2 k0 k1 k2 block n m p q place former here → Keeps k2 f2 k3 f3
-    → IfOk r (λ to. IsSecondEdit f2 f3 block to n former m here) → IfOk r (λ to. IsFreshChain f2 f3 k2 k3 block to) → IfOk r (λ to. IsMoved f0 f3 k0 k3 block to (n ∷ p) (m ∷ q) place)
-path_parted f0 f1 f2 f3 k0 k1 k2 k3 block n m p q place former here (Err fault) parts third edited fresh = tt
-path_parted f0 f1 f2 f3 k0 k1 k2 k3 block n m p q place former here (Ok to) parts third edited fresh =
+    → IfOk r (λ to. IsSecondEdit f2 f3 block to n former m here × IsFreshChain f2 f3 k2 k3 block to) → IfOk r (λ to. IsMoved f0 f3 k0 k3 block to (n ∷ p) (m ∷ q) place)
+path_parted f0 f1 f2 f3 k0 k1 k2 k3 block n m p q place former here (Err fault) parts third done = tt
+path_parted f0 f1 f2 f3 k0 k1 k2 k3 block n m p q place former here (Ok to) parts third (edited, fresh) =
     let first = parts.first in
     let later = held_later f0 f1 k0 k1 first block parts.held in
     let fresh_one = fresh_before f1 f2 f3 k1 k2 k3 parts.second parts.was_fresh_too block to later fresh in (

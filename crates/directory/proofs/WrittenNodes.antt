@@ -1,8 +1,8 @@
 -- Nodes of a directory written before others, one after the other from the last on.
 use Rattle.std.proofs.Common.{◌≡◌, ℕ, zero, suc, ◌+◌, ◌-◌, ◌*◌, ◌%◌, ◌<◌, ◌≤◌, ◌⊎◌, inl, inr, Bool, true, false, eqb, Option, Some, None, Result, Ok, Err, List, [], ◌∷◌, ◌++◌, length, take, drop, append_assoc, sym, ap, subst, refl, ◌∙◌, arith}
-use Rattle.std.specs.Prelude.{IfOk, Contains}
+use Rattle.std.specs.Prelude.{IfOk, Contains, min}
+use Rattle.plain_trees.specs.Trees.{nodes_for}
 use Rattle.std.specs.Option.{option_map_or}
-use Rattle.std.specs.Int.{div_ceil}
 use Rattle.std.proofs.lemmas.Bool.{lt-ltb, cases_lt}
 use Rattle.std.proofs.lemmas.List.{take-append-drop, take_all, length-take, length-drop, length-append, drop-drop}
 use Rattle.fs_types.specs.declared.limits.TheConstants.{ANCHORS, NODE_ENTRIES}
@@ -67,11 +67,10 @@ put_blocks f0 f1 k0 k1 n next to items more same one was =
     rw not_zero (ap (λ (b : ℕ). to ∷ blocks_after n f1 b) to_is ∙ ap (λ (bs : List ℕ). to ∷ bs) frame.1)
 
 -- the entries of a group, as they are cut out
-pub group_part : (list part : List Item) (group held : ℕ) → NODE_ENTRIES * group < length list → (length list - NODE_ENTRIES * group ≤ NODE_ENTRIES → held ≡ length list - NODE_ENTRIES * group) → (NODE_ENTRIES ≤ length list - NODE_ENTRIES * group → held ≡ NODE_ENTRIES)
-    → part ≡ take held (drop (NODE_ENTRIES * group) list) → part ≡ take NODE_ENTRIES (drop (NODE_ENTRIES * group) list)
-group_part list part group held within whole full is = is ∙ elim (cases_lt (length list - NODE_ENTRIES * group) NODE_ENTRIES) [
-  | inl few ↦ let all = whole (omega arith) in take_all held (drop (NODE_ENTRIES * group) list) (omega (arith, left, all)) ∙ sym (take_all NODE_ENTRIES (drop (NODE_ENTRIES * group) list) (omega (arith, left, few)))
-  | inr many ↦ ap (λ (n : ℕ). take n (drop (NODE_ENTRIES * group) list)) (full many)
+pub group_part : (list part : List Item) (group held : ℕ) → held ≡ min (length list - NODE_ENTRIES * group) NODE_ENTRIES → part ≡ take held (drop (NODE_ENTRIES * group) list) → part ≡ take NODE_ENTRIES (drop (NODE_ENTRIES * group) list)
+group_part list part group held size is = is ∙ elim (cases_lt (length list - NODE_ENTRIES * group) NODE_ENTRIES) [
+  | inl few ↦ take_all held (drop (NODE_ENTRIES * group) list) (omega (arith, left, few, size)) ∙ sym (take_all NODE_ENTRIES (drop (NODE_ENTRIES * group) list) (omega (arith, left, few)))
+  | inr many ↦ let all : held ≡ NODE_ENTRIES = omega (arith, many, size) in ap (λ (n : ℕ). take n (drop (NODE_ENTRIES * group) list)) all
 ]
   where
     left : length (drop (NODE_ENTRIES * group) list) ≡ length list - NODE_ENTRIES * group
@@ -111,11 +110,17 @@ one_group f0 f1 f2 k0 k1 k2 groups group n tail next to items more same stays wa
         let inside : Contains (blocks_after (groups - group + n) f1 next) b = (k, omega (arith, lt), e) in
         elim (was.fresh b inside) [ inl free ↦ inl (free.0, ap is_chained (same b (was.here.held b inside)) ∙ free.1) | inr stood ↦ inr stood ]
 
-pub all_groups : (f0 f1 : Blocks) (k0 k1 : ℕ → Bool) (groups group tail to : ℕ) (items : List Item) → group ≡ 0 → PutsBefore f0 k0 f1 k1 (groups - group) tail to (drop (NODE_ENTRIES * group) items) → PutsBefore f0 k0 f1 k1 groups tail to items
-all_groups f0 f1 k0 k1 groups group tail to items none put =
-    let none' : NODE_ENTRIES * group ≡ 0 = omega arith in
-    let all : groups - group ≡ groups = omega arith in
-    subst (λ (k : ℕ). PutsBefore f0 k0 f1 k1 k tail to items) all (subst (λ (k : ℕ). PutsBefore f0 k0 f1 k1 (groups - group) tail to (drop k items)) none' put)
+pub no_items : (items : List Item) → length items ≡ 0 → items ≡ []
+no_items [] none = refl
+no_items (item ∷ items) none = absurd (omega arith)
+
+-- no group is written yet
+pub no_group : (f : Blocks) (kept : ℕ → Bool) (groups group tail : ℕ) (items : List Item) → group ≡ groups → length items ≤ NODE_ENTRIES * group → PutsBefore f kept f kept (groups - group) tail tail (drop (NODE_ENTRIES * group) items)
+no_group f kept groups group tail items all long n more was =
+    let none : drop (NODE_ENTRIES * group) items ≡ [] = no_items (drop (NODE_ENTRIES * group) items) (omega (arith, long, length-drop (NODE_ENTRIES * group) items)) in
+    let left : n ≡ groups - group + n = omega arith in
+    let put : IsPut f kept n tail f kept n tail more = record { here = was; fresh = λ b inside. inr inside } in
+    subst (λ (j : ℕ). IsPut f kept n tail f kept j tail (drop (NODE_ENTRIES * group) items ++ more)) left (subst (λ (xs : List Item). IsPut f kept n tail f kept n tail (xs ++ more)) (sym none) put)
 
 -- ---- nodes as a directory
 
@@ -148,19 +153,15 @@ directory_put old new kept kept' n tail all to items few some order put = on (af
           nodes = λ b inside. let here = subst (λ (bs : List ℕ). Contains bs b) same inside in (put.here.held b here, put.fresh b here);
         }
 
-pub no_items : (items : List Item) → length items ≡ 0 → items ≡ []
-no_items [] none = refl
-no_items (item ∷ items) none = absurd (omega arith)
-
 pub last_tail : (tail count : ℕ) → (tail ≡ 0) ⊎ ((0 < count) × (count % NODE_ENTRIES ≡ 0)) → count ≡ 0 → tail ≡ 0
 last_tail tail count (inl last) none = last
 last_tail tail count (inr (some, whole)) none = absurd (omega (arith, some, none))
 
 -- entries, one or more, as a directory
-pub puts_directory : (old new : Blocks) (kept kept' : ℕ → Bool) (tail to : ℕ) (items : List Item) → 0 < length items → PutsBefore old kept new kept' (div_ceil (length items) NODE_ENTRIES) tail to items → PutsDirectory old kept new kept' tail to items
+pub puts_directory : (old new : Blocks) (kept kept' : ℕ → Bool) (tail to : ℕ) (items : List Item) → 0 < length items → PutsBefore old kept new kept' (nodes_for (length items)) tail to items → PutsDirectory old kept new kept' tail to items
 puts_directory old new kept kept' tail to items some put n more few order was =
-    let groups = div_ceil (length items) NODE_ENTRIES in
-    let nodes : div_ceil (length items) NODE_ENTRIES + n ≡ suc (div_ceil (length items) NODE_ENTRIES - 1 + n) = omega arith in
+    let groups = nodes_for (length items) in
+    let nodes : groups + n ≡ suc (groups - 1 + n) = omega arith in
     directory_put old new kept kept' n tail (groups - 1 + n) to (items ++ more) (omega (arith, few)) (omega (arith, some, length-append items more)) order
     (subst (λ (j : ℕ). IsPut old kept n tail new kept' j to (items ++ more)) nodes (put n more was))
 
@@ -169,11 +170,11 @@ pub empty_written : (f : Blocks) (block : ℕ) → link_of (f block) ≡ Some (l
 empty_written f block is = first_law f 0 block (link true 0 []) [] (omega arith) is refl refl
 
 -- no entries, in one node
-pub puts_empty : (old new : Blocks) (kept kept' : ℕ → Bool) (tail to : ℕ) (items : List Item) → tail ≡ 0 → items ≡ [] → IsOneMore kept new kept' tail to items → PutsDirectory old kept new kept' tail to items
-puts_empty old new kept kept' tail to items last none one n more few order was =
-    let no_more : more ≡ [] = nothing n was.entries in
-    let nothing_left : items ++ more ≡ [] = (λ i. none i ++ no_more i) in
-    let node : link_of (new to) ≡ Some (link true 0 []) = one.node ∙ (λ i. Some (link true (last i) (none i))) in
+pub puts_empty : (old new : Blocks) (kept was kept' : ℕ → Bool) (tail to : ℕ) (items none : List Item) → ((b : ℕ) → was b ≡ false → kept b ≡ false) → tail ≡ 0 → items ≡ [] → none ≡ [] → IsOneMore was new kept' 0 to none → PutsDirectory old kept new kept' tail to items
+puts_empty old new kept was kept' tail to items none was_free last is_none none_is one n more few order stood =
+    let no_more : more ≡ [] = nothing n stood.entries in
+    let nothing_left : items ++ more ≡ [] = (λ i. is_none i ++ no_more i) in
+    let node : link_of (new to) ≡ Some (link true 0 []) = one.node ∙ ap (λ (xs : List Item). Some (link true 0 xs)) none_is in
     let alone : chain new to ≡ to ∷ [] = chain_is new to (link true 0 []) node ∙ ap (λ (bs : List ℕ). to ∷ bs) (end most_after) in
     record {
       entries = empty_written new to node ∙ ap (λ (xs : List Item). Some xs) (sym nothing_left);
@@ -192,5 +193,22 @@ puts_empty old new kept kept' tail to items last none one n more few order was =
         last_one (suc n) is = cc
 
     only : (b : ℕ) → Contains (to ∷ []) b → (kept' b ≡ true) × (IsFreshNode kept new b ⊎ Contains (blocks_after n old tail) b)
-    only b (zero, lt, e) = (ap kept' (sym e) ∙ one.is_kept, inl (one_fresh kept kept new kept' tail to b items (λ c free. free) one e))
+    only b (zero, lt, e) = (ap kept' (sym e) ∙ one.is_kept, inl (one_fresh kept was new kept' 0 to b none was_free one e))
     only b (suc k, lt, e) = absurd (omega (arith, lt))
+
+-- the first group, before the others, or the node without entries
+pub first_group : (f0 f1 f2 : Blocks) (k0 k1 k2 : ℕ → Bool) (group tail next : ℕ) (items : List Item) (r : Result ℕ Fault) → ((b : ℕ) → k1 b ≡ true → f2 b ≡ f1 b) → ((b : ℕ) → k1 b ≡ true → k2 b ≡ true) → ((b : ℕ) → k1 b ≡ false → k0 b ≡ false)
+    → group ≡ 1 → (next ≡ 0) ⊎ (NODE_ENTRIES ≤ length items) → (tail ≡ 0) ⊎ ((0 < length items) × (length items % NODE_ENTRIES ≡ 0)) → PutsBefore f0 k0 f1 k1 (nodes_for (length items) - group) tail next (drop (NODE_ENTRIES * group) items)
+    → IfOk r (λ to. IsOneMore k1 f2 k2 next to (take NODE_ENTRIES items)) → IfOk r (λ to. PutsDirectory f0 k0 f2 k2 tail to items)
+first_group f0 f1 f2 k0 k1 k2 group tail next items (Err fault) same stays was_free last full fills put one = tt
+first_group f0 f1 f2 k0 k1 k2 group tail next items (Ok to) same stays was_free last full fills put one = elim (cases_lt 0 (length items)) [
+  | inl some ↦ puts_directory f0 f2 k0 k2 tail to items some (λ n more was.
+      let groups = nodes_for (length items) in
+      let here = subst (λ (k : ℕ). IsPut f0 k0 n tail f1 k1 (groups - k + n) next (drop (NODE_ENTRIES * k) items ++ more)) last (put n more was) in
+      let all : groups - (1 - 1) + n ≡ groups + n = omega arith in
+      subst (λ (k : ℕ). IsPut f0 k0 n tail f2 k2 k to (items ++ more)) all (one_group f0 f1 f2 k0 k1 k2 groups 1 n tail next to items more same stays was_free (omega arith) (omega arith) some one here))
+  | inr none ↦
+      let nothing : items ≡ [] = no_items items (omega (arith, none)) in
+      let ends : next ≡ 0 = elim full [ inl ends ↦ ends | inr many ↦ absurd (omega (arith, none, many)) ] in
+      puts_empty f0 f2 k0 k1 k2 tail to items (take NODE_ENTRIES items) was_free (last_tail tail (length items) fills (omega (arith, none))) nothing (ap (take NODE_ENTRIES) nothing) (subst (λ (n : ℕ). IsOneMore k1 f2 k2 n to (take NODE_ENTRIES items)) ends one)
+]

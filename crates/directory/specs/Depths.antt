@@ -64,6 +64,12 @@ NamesWhole f block b = (items : List Item) → entries_in f block ≡ Some items
 abbrev pub AreOf : Blocks → ℕ → ℕ → FinSet nat_cmp → FinSet nat_cmp → Type 0
 AreOf f blocks block old new = (b : ℕ) → contains new b ≡ true → (contains old b ≡ true) ⊎ ((b < blocks) × NamesWhole f block b)
 
+-- the nodes of the directory in a block were read: the directories that they name were found
+pub record IsChainRead (f : Blocks) (blocks block : ℕ) (seen found seen' found' : FinSet nat_cmp) : Type 0 where
+  pub below : AreFoundBelow f blocks seen found → AreFoundBelow f blocks seen' found'
+  pub here : IsSeen f seen' block
+  pub named : AreOf f blocks block found found'
+
 -- those that the second set has more are in a list
 abbrev pub AreAmong : List ℕ → FinSet nat_cmp → FinSet nat_cmp → Type 0
 AreAmong list old new = (b : ℕ) → contains new b ≡ true → (contains old b ≡ true) ⊎ Contains list b

@@ -1,5 +1,5 @@
 //! How many names the paths below a directory have.
-ghost use Rattle.std.specs.Prelude.{◌≡◌, ℕ, ◌+◌, ◌*◌, ◌≤◌, ◌<◌, true, false, ◌||◌, ◌&&◌, nat_lt, List, Contains, length, Some, OnOk, OnErr, IfOk, IfErr, if◌then◌else◌};
+ghost use Rattle.std.specs.Prelude.{◌≡◌, ℕ, ◌+◌, ◌-◌, ◌*◌, ◌≤◌, ◌<◌, true, false, ◌||◌, ◌&&◌, nat_lt, List, Contains, length, Some, OnOk, OnErr, IfOk, IfErr, if◌then◌else◌};
 ghost use Rattle.std.specs.FinSet as set;
 ghost use Rattle.node_format.specs.declared.place.Place.TheVariants.{Dir};
 ghost use Rattle.block_trees.specs.Chains.{link_items, next_of};
@@ -7,7 +7,7 @@ ghost use Rattle.block_trees.specs.Laws.{IsShallow};
 ghost use Rattle.directory.specs.Lookups.{LeadsToDirectories};
 ghost use Rattle.directory.specs.Depths as spec;
 ghost use Rattle.node_store.specs.Faults.{IsLookFault};
-ghost use Rattle.node_store.specs.Words.{Looks};
+ghost use Rattle.node_store.specs.Words.{LooksWithin};
 ghost use Rattle.fs_types.specs.declared.limits.TheConstants.{MAX_NAMES};
 
 use allocator::BlockSet;
@@ -43,10 +43,7 @@ fn add_named<N: Nodes>(nodes: &mut N, block: u32, found: &mut BlockSet) -> Resul
     ensures size { found.new.blocks ≡ found.old.blocks }
 
     // Why not, and what is read.
-    ensures why { IfErr result (λ fault. N.causes nodes.old nodes.new fault) }
-    ensures faults { IfErr result IsLookFault }
-    ensures looks { Looks N.Nodes nodes.old nodes.new }
-    ensures reads { N.reads nodes.new ≡ N.reads nodes.old + 1 }
+    ensures calls { LooksWithin N.Nodes IsLookFault 1 nodes.old result nodes.new }
 {
     let brought = brings(nodes, block)?;
     if !brought {
@@ -79,10 +76,7 @@ fn add_unknown<N: Nodes>(
     ensures size { found.new.blocks ≡ found.old.blocks }
 
     // Why not, and what is read.
-    ensures why { IfErr result (λ fault. N.causes nodes.old nodes.new fault) }
-    ensures faults { IfErr result IsLookFault }
-    ensures looks { Looks N.Nodes nodes.old nodes.new }
-    ensures reads { N.reads nodes.new ≡ N.reads nodes.old + (if set.contains quiet.now.members block then 0 else 1) }
+    ensures calls { LooksWithin N.Nodes IsLookFault (if set.contains quiet.now.members block then 0 else 1) nodes.old result nodes.new }
 {
     if quiet.contains(block) {
         return Ok(nexts[block as usize]);
@@ -110,20 +104,15 @@ fn add_chain<N: Nodes>(
     requires sound { N.is_sound nodes.old }
     requires quiet { spec.AreQuiet (N.node nodes.old) quiet.now.members nexts.now }
     requires size { (seen.old.blocks ≡ N.blocks nodes.old) × (found.old.blocks ≡ N.blocks nodes.old) }
-    ensures read { OnOk result (spec.AreFoundBelow (N.node nodes.old) (N.blocks nodes.old) seen.old.members found.old.members → spec.AreFoundBelow (N.node nodes.old) (N.blocks nodes.old) seen.new.members found.new.members) }
-    ensures here { OnOk result (spec.IsSeen (N.node nodes.old) seen.new.members block) }
-    ensures named { OnOk result (spec.AreOf (N.node nodes.old) (N.blocks nodes.old) block found.old.members found.new.members) }
+    ensures read { OnOk result (spec.IsChainRead (N.node nodes.old) (N.blocks nodes.old) block seen.old.members found.old.members seen.new.members found.new.members) }
 
     // Whatever is answered, those seen stay so, and more are among any list that has the block and all that it names.
     ensures stays { (b : ℕ) → set.contains seen.old.members b ≡ true → set.contains seen.new.members b ≡ true }
     ensures among { (roots list : List ℕ) → spec.HasDirectories (N.node nodes.old) (N.blocks nodes.old) roots list → Contains list block → spec.AreAmong list seen.old.members seen.new.members × spec.AreAmong list found.old.members found.new.members }
     ensures size { (seen.new.blocks ≡ seen.old.blocks) × (found.new.blocks ≡ found.old.blocks) }
-    ensures why { IfErr result (λ fault. N.causes nodes.old nodes.new fault) }
-    ensures faults { IfErr result IsLookFault }
-    ensures looks { Looks N.Nodes nodes.old nodes.new }
 
     // Each read is of a block that was not seen, and whose node is not known.
-    ensures reads { N.reads nodes.new + spec.count_below (spec.is_loud quiet.now.members seen.old.members) seen.old.blocks ≡ N.reads nodes.old + spec.count_below (spec.is_loud quiet.now.members seen.new.members) seen.old.blocks }
+    ensures calls { LooksWithin N.Nodes IsLookFault (spec.count_below (spec.is_loud quiet.now.members seen.new.members) seen.old.blocks - spec.count_below (spec.is_loud quiet.now.members seen.old.members) seen.old.blocks) nodes.old result nodes.new }
 {
     let mut at = block;
     'chain: while is_left(seen, at) {
@@ -137,10 +126,7 @@ fn add_chain<N: Nodes>(
 fn has_entries<N: Nodes>(nodes: &mut N, block: u32) -> Result<bool, Fault>
     requires { N.is_sound nodes.old }
     ensures value { IfOk result (λ some. some ≡ nat_lt 0 (length (link_items (N.node nodes.old block)))) }
-    ensures why { IfErr result (λ fault. N.causes nodes.old nodes.new fault) }
-    ensures faults { IfErr result IsLookFault }
-    ensures looks { Looks N.Nodes nodes.old nodes.new }
-    ensures reads { N.reads nodes.new ≡ N.reads nodes.old + 1 }
+    ensures calls { LooksWithin N.Nodes IsLookFault 1 nodes.old result nodes.new }
 {
     let brought = brings(nodes, block)?;
     if !brought {
@@ -165,11 +151,8 @@ fn next_level<N: Nodes>(
     requires quiet { spec.AreQuiet (N.node nodes.old) quiet.now.members nexts.now }
     requires within { (b : ℕ) → set.contains level.now.members b ≡ true → b < level.now.blocks }
     requires size { level.now.blocks ≡ N.blocks nodes.old }
-    ensures named { IfOk result (λ next. spec.AreNamedBy (N.node nodes.old) level.now.blocks (set.contains level.now.members) next.members) }
-    ensures size { IfOk result (λ next. next.blocks ≡ level.now.blocks) }
-    ensures why { IfErr result (λ fault. N.causes nodes.old nodes.new fault) }
-    ensures faults { IfErr result IsLookFault }
-    ensures looks { Looks N.Nodes nodes.old nodes.new }
+    ensures named { IfOk result (λ next. spec.AreNamedBy (N.node nodes.old) level.now.blocks (set.contains level.now.members) next.members × (next.blocks ≡ level.now.blocks)) }
+    ensures calls { LooksWithin N.Nodes IsLookFault (N.blocks nodes.old) nodes.old result nodes.new }
 
     // What is read and found is among any list that has the level and all that it names.
     ensures among { IfOk result (λ next. (roots list : List ℕ) → spec.HasDirectories (N.node nodes.old) (N.blocks nodes.old) roots list → ((b : ℕ) → set.contains level.now.members b ≡ true → Contains list b) → (b : ℕ) → set.contains next.members b ≡ true → Contains list b) }
@@ -195,9 +178,7 @@ fn any_has_entries<N: Nodes>(nodes: &mut N, level: &BlockSet) -> Result<bool, Fa
     ensures none { IfOk result (λ some. some ≡ false → (b : ℕ) → set.contains level.now.members b ≡ true → length (link_items (N.node nodes.old b)) ≡ 0) }
 
     // Why not, and what is read.
-    ensures why { IfErr result (λ fault. N.causes nodes.old nodes.new fault) }
-    ensures faults { IfErr result IsLookFault }
-    ensures looks { Looks N.Nodes nodes.old nodes.new }
+    ensures calls { LooksWithin N.Nodes IsLookFault level.now.blocks nodes.old result nodes.new }
     ensures reads { (list : List ℕ) → ((b : ℕ) → set.contains level.now.members b ≡ true → Contains list b) → N.reads nodes.new ≤ N.reads nodes.old + length list }
 {
     for block in 0..level.blocks() {
@@ -249,9 +230,7 @@ pub fn any_is_deeper<N: Nodes>(
     requires most { most ≤ MAX_NAMES }
     ensures deeper { ((root : ℕ) → Contains roots.now root → LeadsToDirectories (N.node nodes.old) root) → IfOk result (λ deep. deep ≡ true → (root : ℕ) × Contains roots.now root × spec.IsDeeper (N.node nodes.old) (Dir root) most) }
     ensures shallow { IfOk result (λ deep. deep ≡ false → (root : ℕ) → Contains roots.now root → IsShallow (N.node nodes.old) (Dir root) most) }
-    ensures why { IfErr result (λ fault. N.causes nodes.old nodes.new fault) }
-    ensures faults { IfErr result IsLookFault }
-    ensures looks { Looks N.Nodes nodes.old nodes.new }
+    ensures calls { LooksWithin N.Nodes IsLookFault ((most + 1) * N.blocks nodes.old) nodes.old result nodes.new }
 
     // A level reads the nodes of its directories alone that are not known: they are among any list that has the roots and all
     // that it names.
@@ -283,10 +262,7 @@ pub fn is_deeper<N: Nodes>(
     ensures shallow { IfOk result (λ deep. deep ≡ false → IsShallow (N.node nodes.old) (Dir block) most) }
 
     // Why not, and what is read.
-    ensures why { IfErr result (λ fault. N.causes nodes.old nodes.new fault) }
-    ensures faults { IfErr result IsLookFault }
-    ensures looks { Looks N.Nodes nodes.old nodes.new }
-    ensures reads { N.reads nodes.new ≤ N.reads nodes.old + (most + 1) * N.blocks nodes.old }
+    ensures calls { LooksWithin N.Nodes IsLookFault ((most + 1) * N.blocks nodes.old) nodes.old result nodes.new }
 {
     let none = BlockSet::new(alloc, 0)?;
     any_is_deeper(alloc, nodes, &[block], most, &none, &[])

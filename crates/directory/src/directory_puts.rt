@@ -1,12 +1,12 @@
 //! Many entries of a directory put at once: it is read once and written once.
-ghost use Rattle.std.specs.Prelude.{◌≡◌, ℕ, ◌+◌, ◌≤◌, ◌<◌, true, length, IfOk, IfErr, IsSome};
+ghost use Rattle.std.specs.Prelude.{◌+◌, ◌<◌, length, IfOk, IsSome};
 ghost use Rattle.plain_trees.specs.Trees.{nodes_for};
 ghost use Rattle.block_trees.specs.Trees.{entries_in, items_in};
 ghost use Rattle.block_trees.specs.Rewritten.{IsFreshChain};
 ghost use Rattle.directory.specs.Counts.{nodes_in};
 ghost use Rattle.directory.specs.Puts as spec;
 ghost use Rattle.directory.specs.Trails.{IsChangeFault};
-ghost use Rattle.node_store.specs.Words.{Works};
+ghost use Rattle.node_store.specs.Words.{WorksWithin};
 
 use crate::list_writes::write_list;
 use crate::node_lists::read_list;
@@ -57,15 +57,10 @@ pub fn put_in_directory<N: Nodes>(
     requires room { spec.HasRoomFor (items_in (N.node nodes.old) block) puts.now }
 
     // The new directory.
-    ensures put { IfOk result (λ to. spec.IsDirectoryPut (N.node nodes.old) (N.node nodes.new) block to puts.now) }
-    ensures chain { IfOk result (λ to. IsFreshChain (N.node nodes.old) (N.node nodes.new) (N.kept nodes.old) (N.kept nodes.new) block to) }
+    ensures put { IfOk result (λ to. spec.IsDirectoryPut (N.node nodes.old) (N.node nodes.new) block to puts.now × IsFreshChain (N.node nodes.old) (N.node nodes.new) (N.kept nodes.old) (N.kept nodes.new) block to) }
 
     // What it is refused with, and what it asks for.
-    ensures why { IfErr result (λ fault. N.causes nodes.old nodes.new fault) }
-    ensures faults { IfErr result IsChangeFault }
-    ensures writes { N.writes nodes.new ≤ N.writes nodes.old + nodes_for (length (items_in (N.node nodes.old) block) + spec.count_missing (items_in (N.node nodes.old) block) puts.now) }
-    ensures reads { N.reads nodes.new ≤ N.reads nodes.old + nodes_in (N.node nodes.old) block }
-    ensures works { Works N.Nodes nodes.old nodes.new }
+    ensures calls { WorksWithin N.Nodes IsChangeFault (nodes_in (N.node nodes.old) block) (nodes_for (length (items_in (N.node nodes.old) block) + spec.count_missing (items_in (N.node nodes.old) block) puts.now)) nodes.old result nodes.new }
 {
     let (read, tail) = read_list(alloc, nodes, block, puts[0].name, None)?;
     let edited = put_each(alloc, &read.list(), puts)?;

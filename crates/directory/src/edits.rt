@@ -1,18 +1,18 @@
 //! Entries put and taken out: the directories that a look up went through written anew, from the
 //! deepest up.
-ghost use Rattle.std.specs.Prelude.{◌≡◌, ℕ, ◌+◌, ◌≤◌, ◌<◌, true, false, length, drop, slice_index, Some, None, IsSome, Ok, IfOk, IfErr, IfSome};
+ghost use Rattle.std.specs.Prelude.{◌≡◌, ◌+◌, ◌<◌, true, false, length, drop, slice_index, Some, None, IsSome, Ok, IfOk, IfSome};
 ghost use Rattle.std.specs.Option.{is_some};
 ghost use Rattle.node_format.specs.Items.{is_place};
 ghost use Rattle.node_format.specs.declared.place.Place.TheVariants.{Dir};
 ghost use Rattle.block_trees.specs.Trees.{leads, entries_in, items_in};
 ghost use Rattle.block_trees.specs.Rewritten.{IsDirectoryEdit, IsFreshChain, IsRewritten};
-ghost use Rattle.directory.specs.Counts.{edit_nodes, read_nodes, written_nodes, path_nodes};
+ghost use Rattle.directory.specs.Counts.{edit_nodes, read_nodes, path_nodes};
 ghost use Rattle.directory.specs.Lookups.{look_up};
 ghost use Rattle.directory.specs.declared.lookups.Found.TheVariants.{Missing};
 ghost use Rattle.directory.specs.Edits.{OnlyReaches};
 ghost use Rattle.directory.specs.Making.{IsNewDirectory};
 ghost use Rattle.directory.specs.Trails as spec;
-ghost use Rattle.node_store.specs.Words.{IsHeld, Keeps, Works};
+ghost use Rattle.node_store.specs.Words.{IsHeld, Keeps, WorksWithin};
 
 use crate::list_writes::write_list;
 use crate::node_lists::{edit_list, read_list};
@@ -38,16 +38,10 @@ pub(crate) fn edit_directory<N: Nodes>(
     requires held { IsHeld N.Nodes nodes.old (Dir block) }
 
     // The new directory.
-    ensures edited { IfOk result (λ to. IsDirectoryEdit (N.node nodes.old) (N.node nodes.new) block to name.now place) }
-    ensures chain { IfOk result (λ to. IsFreshChain (N.node nodes.old) (N.node nodes.new) (N.kept nodes.old) (N.kept nodes.new) block to) }
+    ensures edited { IfOk result (λ to. IsDirectoryEdit (N.node nodes.old) (N.node nodes.new) block to name.now place × IsFreshChain (N.node nodes.old) (N.node nodes.new) (N.kept nodes.old) (N.kept nodes.new) block to) }
 
     // What it is refused with, and what it asks for.
-    ensures why { IfErr result (λ fault. N.causes nodes.old nodes.new fault) }
-    ensures faults { IfErr result spec.IsChangeFault }
-    ensures written { IfOk result (λ _. N.writes nodes.new ≡ N.writes nodes.old + written_nodes (items_in (N.node nodes.old) block) name.now place) }
-    ensures writes { N.writes nodes.new ≤ N.writes nodes.old + edit_nodes (items_in (N.node nodes.old) block) name.now (is_some place) }
-    ensures reads { N.reads nodes.new ≤ N.reads nodes.old + read_nodes (items_in (N.node nodes.old) block) name.now (is_some place) }
-    ensures works { Works N.Nodes nodes.old nodes.new }
+    ensures calls { WorksWithin N.Nodes spec.IsChangeFault (read_nodes (items_in (N.node nodes.old) block) name.now (is_some place)) (edit_nodes (items_in (N.node nodes.old) block) name.now (is_some place)) nodes.old result nodes.new }
 {
     let (read, tail) = read_list(alloc, nodes, block, name, place)?;
     let edited = edit_list(alloc, &read.list(), name, place)?;
@@ -74,11 +68,7 @@ pub(crate) fn rewrite_from<N: Nodes>(
     ensures rewritten { IfOk result (λ to. IsRewritten (N.node nodes.old) (N.node nodes.new) (N.kept nodes.old) (N.kept nodes.new) (slice_index trail.now level) to (drop level names.now) place) }
 
     // What it is refused with, and what it asks for.
-    ensures why { IfErr result (λ fault. N.causes nodes.old nodes.new fault) }
-    ensures faults { IfErr result spec.IsChangeFault }
-    ensures writes { N.writes nodes.new ≤ N.writes nodes.old + path_nodes (N.node nodes.old) trail.now names.now (is_some place) level }
-    ensures reads { N.reads nodes.new ≤ N.reads nodes.old + path_nodes (N.node nodes.old) trail.now names.now false level }
-    ensures works { Works N.Nodes nodes.old nodes.new }
+    ensures calls { WorksWithin N.Nodes spec.IsChangeFault (path_nodes (N.node nodes.old) trail.now names.now false level) (path_nodes (N.node nodes.old) trail.now names.now (is_some place) level) nodes.old result nodes.new }
 {
     let last = names.len() - 1;
     let mut to = edit_directory(alloc, nodes, trail[last], &names[last], place)?;
@@ -115,11 +105,7 @@ pub fn put_entry<N: Nodes>(
     ensures keeps { Keeps N.Nodes nodes.old nodes.new }
 
     // What it is refused with, and what it asks for.
-    ensures why { IfErr result (λ fault. N.causes nodes.old nodes.new fault) }
-    ensures faults { IfErr result spec.IsChangeFault }
-    ensures writes { N.writes nodes.new ≤ N.writes nodes.old + path_nodes (N.node nodes.old) trail.now path.now true 0 }
-    ensures reads { N.reads nodes.new ≤ N.reads nodes.old + path_nodes (N.node nodes.old) trail.now path.now false 0 }
-    ensures works { Works N.Nodes nodes.old nodes.new }
+    ensures calls { WorksWithin N.Nodes spec.IsChangeFault (path_nodes (N.node nodes.old) trail.now path.now false 0) (path_nodes (N.node nodes.old) trail.now path.now true 0) nodes.old result nodes.new }
 {
     let blocks = trail.blocks();
     let begins = blocks[0] == root;
@@ -147,11 +133,7 @@ pub fn remove_entry<N: Nodes>(
     ensures keeps { Keeps N.Nodes nodes.old nodes.new }
 
     // What it is refused with, and what it asks for.
-    ensures why { IfErr result (λ fault. N.causes nodes.old nodes.new fault) }
-    ensures faults { IfErr result spec.IsChangeFault }
-    ensures writes { N.writes nodes.new ≤ N.writes nodes.old + path_nodes (N.node nodes.old) trail.now path.now false 0 }
-    ensures reads { N.reads nodes.new ≤ N.reads nodes.old + path_nodes (N.node nodes.old) trail.now path.now false 0 }
-    ensures works { Works N.Nodes nodes.old nodes.new }
+    ensures calls { WorksWithin N.Nodes spec.IsChangeFault (path_nodes (N.node nodes.old) trail.now path.now false 0) (path_nodes (N.node nodes.old) trail.now path.now false 0) nodes.old result nodes.new }
 {
     let blocks = trail.blocks();
     let begins = blocks[0] == root;
@@ -183,11 +165,7 @@ pub fn put_directory<N: Nodes>(
     ensures keeps { Keeps N.Nodes nodes.old nodes.new }
 
     // What it is refused with, and what it asks for.
-    ensures why { IfErr result (λ fault. N.causes nodes.old nodes.new fault) }
-    ensures faults { IfErr result spec.IsChangeFault }
-    ensures writes { N.writes nodes.new ≤ N.writes nodes.old + (path_nodes (N.node nodes.old) trail.now path.now true 0 + 1) }
-    ensures reads { N.reads nodes.new ≤ N.reads nodes.old + path_nodes (N.node nodes.old) trail.now path.now false 0 }
-    ensures works { Works N.Nodes nodes.old nodes.new }
+    ensures calls { WorksWithin N.Nodes spec.IsChangeFault (path_nodes (N.node nodes.old) trail.now path.now false 0) (path_nodes (N.node nodes.old) trail.now path.now true 0 + 1) nodes.old result nodes.new }
 {
     let fits = nodes.block_bytes() as usize >= MIN_BLOCK_BYTES;
     prove!(fits);

@@ -1,13 +1,12 @@
 //! The names in a directory, how many they are, and whether there are any.
-ghost use Rattle.std.specs.Prelude.{◌≡◌, ℕ, ◌+◌, ◌≤◌, ◌==◌, ◌++◌, Bool, true, false, List, length, Some, None, OnOk, IfOk, IfErr, IsErrOf};
+ghost use Rattle.std.specs.Prelude.{◌≡◌, ◌+◌, ◌≤◌, ◌==◌, ◌++◌, List, length, Some, None, OnOk, IfOk, IfErr, IsErrOf};
 ghost use Rattle.fs_types.specs.declared.fault.Fault.TheVariants.{NoMemory, Damaged};
 ghost use Rattle.fs_types.specs.declared.limits.TheConstants.{NODE_ENTRIES};
 ghost use Rattle.node_store.specs.Faults.{IsReadFault};
-ghost use Rattle.node_store.specs.Words.{Looks};
+ghost use Rattle.node_store.specs.Words.{LooksWithin};
 ghost use Rattle.node_format.specs.Items.{Item};
 ghost use Rattle.block_trees.specs.Chains.{link_of, link_items, next_of, chain};
 ghost use Rattle.block_trees.specs.Trees.{entries_in, names_of};
-ghost use Rattle.directory.specs.Lookups.{is_path_fault};
 
 use crate::lookups::MOST_AFTER;
 use fs_types::{Fault, Name, Sequence};
@@ -47,10 +46,7 @@ fn add_names<N: Nodes>(
 
     // Why not, and what is read.
     ensures damaged { IsErrOf result Damaged → link_of (N.node nodes.old block) ≡ None }
-    ensures why { IfErr result (λ fault. is_path_fault fault ≡ false → N.causes nodes.old nodes.new fault) }
-    ensures faults { IfErr result IsReadFault }
-    ensures looks { Looks N.Nodes nodes.old nodes.new }
-    ensures reads { N.reads nodes.new ≡ N.reads nodes.old + 1 }
+    ensures calls { LooksWithin N.Nodes IsReadFault 1 nodes.old result nodes.new }
 {
     nodes.read(block)?;
     let Some(node) = Entries::of(nodes.lent()) else {
@@ -78,10 +74,7 @@ pub fn names<N: Nodes>(
 
     // Why not, and what is read.
     ensures damaged { IsErrOf result Damaged → entries_in (N.node nodes.old) block ≡ None }
-    ensures why { IfErr result (λ fault. is_path_fault fault ≡ false → N.causes nodes.old nodes.new fault) }
-    ensures faults { IfErr result IsReadFault }
-    ensures looks { Looks N.Nodes nodes.old nodes.new }
-    ensures reads { N.reads nodes.new ≤ N.reads nodes.old + length (chain (N.node nodes.old) block) }
+    ensures calls { LooksWithin N.Nodes IsReadFault (length (chain (N.node nodes.old) block)) nodes.old result nodes.new }
 {
     let mut names = Sequence::new(alloc);
     let mut next = add_names(alloc, nodes, block, &mut names)?;
@@ -106,10 +99,7 @@ fn count_at<N: Nodes>(nodes: &mut N, block: u32) -> Result<(usize, u32), Fault>
 
     // Why not, and what is read.
     ensures damaged { IsErrOf result Damaged → link_of (N.node nodes.old block) ≡ None }
-    ensures why { IfErr result (λ fault. is_path_fault fault ≡ false → N.causes nodes.old nodes.new fault) }
-    ensures faults { IfErr result IsReadFault }
-    ensures looks { Looks N.Nodes nodes.old nodes.new }
-    ensures reads { N.reads nodes.new ≡ N.reads nodes.old + 1 }
+    ensures calls { LooksWithin N.Nodes IsReadFault 1 nodes.old result nodes.new }
 {
     nodes.read(block)?;
     let Some(node) = Entries::of(nodes.lent()) else {
@@ -131,10 +121,7 @@ pub fn entry_count<N: Nodes>(nodes: &mut N, block: u32) -> Result<usize, Fault>
 
     // Why not, and what is read.
     ensures damaged { IsErrOf result Damaged → entries_in (N.node nodes.old) block ≡ None }
-    ensures why { IfErr result (λ fault. is_path_fault fault ≡ false → N.causes nodes.old nodes.new fault) }
-    ensures faults { IfErr result IsReadFault }
-    ensures looks { Looks N.Nodes nodes.old nodes.new }
-    ensures reads { N.reads nodes.new ≤ N.reads nodes.old + length (chain (N.node nodes.old) block) }
+    ensures calls { LooksWithin N.Nodes IsReadFault (length (chain (N.node nodes.old) block)) nodes.old result nodes.new }
 {
     let (mut count, mut next) = count_at(nodes, block)?;
     for _ in 0..MOST_AFTER {
@@ -161,10 +148,7 @@ pub fn is_empty<N: Nodes>(nodes: &mut N, block: u32) -> Result<bool, Fault>
 
     // Why not, and what is read.
     ensures damaged { IsErrOf result Damaged → entries_in (N.node nodes.old) block ≡ None }
-    ensures why { IfErr result (λ fault. is_path_fault fault ≡ false → N.causes nodes.old nodes.new fault) }
-    ensures faults { IfErr result IsReadFault }
-    ensures looks { Looks N.Nodes nodes.old nodes.new }
-    ensures reads { N.reads nodes.new ≡ N.reads nodes.old + 1 }
+    ensures calls { LooksWithin N.Nodes IsReadFault 1 nodes.old result nodes.new }
 {
     let (count, _next) = count_at(nodes, block)?;
     Ok(count == 0)

@@ -1,9 +1,9 @@
 //! What a path leads to.
-ghost use Rattle.std.specs.Prelude.{◌≡◌, ℕ, ◌+◌, ◌≤◌, true, false, length, drop, Some, None, Ok, Err, IfOk, IfErr, IsErrOf};
+ghost use Rattle.std.specs.Prelude.{◌≡◌, ◌+◌, ◌≤◌, true, length, Some, None, Ok, Err, IfOk, IfErr, IsErrOf};
 ghost use Rattle.fs_types.specs.declared.fault.Fault.TheVariants.{NoEntry, NotDirectory, Damaged};
 ghost use Rattle.fs_types.specs.declared.limits.TheConstants.{NODE_ENTRIES};
 ghost use Rattle.node_store.specs.Faults.{IsReadFault};
-ghost use Rattle.node_store.specs.Words.{Looks};
+ghost use Rattle.node_store.specs.Words.{LooksWithin};
 ghost use Rattle.block_trees.specs.Chains.{link_of, chain};
 ghost use Rattle.directory.specs.Seeking as seeking;
 ghost use Rattle.directory.specs.Lookups as spec;
@@ -59,10 +59,7 @@ fn look_at<N: Nodes>(nodes: &mut N, block: u32, name: &Name) -> Result<Sight, Fa
 
     // Why not, and what is read.
     ensures damaged { IsErrOf result Damaged → link_of (N.node nodes.old block) ≡ None }
-    ensures why { IfErr result (λ fault. spec.is_path_fault fault ≡ false → N.causes nodes.old nodes.new fault) }
-    ensures faults { IfErr result IsReadFault }
-    ensures looks { Looks N.Nodes nodes.old nodes.new }
-    ensures reads { N.reads nodes.new ≡ N.reads nodes.old + 1 }
+    ensures calls { LooksWithin N.Nodes IsReadFault 1 nodes.old result nodes.new }
 {
     nodes.read(block)?;
     let Some((node, split)) = Entries::split(nodes.lent(), name.as_bytes()) else {
@@ -103,10 +100,7 @@ fn seek<N: Nodes>(nodes: &mut N, block: u32, name: &Name) -> Result<Sought, Faul
 
     // Why not, and what is read.
     ensures damaged { IsErrOf result Damaged → spec.place_in (N.node nodes.old) name.now block ≡ Err Damaged }
-    ensures why { IfErr result (λ fault. spec.is_path_fault fault ≡ false → N.causes nodes.old nodes.new fault) }
-    ensures faults { IfErr result IsReadFault }
-    ensures looks { Looks N.Nodes nodes.old nodes.new }
-    ensures reads { N.reads nodes.new ≤ N.reads nodes.old + length (chain (N.node nodes.old) block) }
+    ensures calls { LooksWithin N.Nodes IsReadFault (length (chain (N.node nodes.old) block)) nodes.old result nodes.new }
 {
     let mut sight = look_at(nodes, block, name)?;
     let mut count = sight.count;
@@ -141,10 +135,7 @@ pub(crate) fn place_in<N: Nodes>(
 
     // Why not, and what is read.
     ensures damaged { IsErrOf result Damaged → spec.place_in (N.node nodes.old) name.now block ≡ Err Damaged }
-    ensures why { IfErr result (λ fault. spec.is_path_fault fault ≡ false → N.causes nodes.old nodes.new fault) }
-    ensures faults { IfErr result IsReadFault }
-    ensures looks { Looks N.Nodes nodes.old nodes.new }
-    ensures reads { N.reads nodes.new ≤ N.reads nodes.old + length (chain (N.node nodes.old) block) }
+    ensures calls { LooksWithin N.Nodes IsReadFault (length (chain (N.node nodes.old) block)) nodes.old result nodes.new }
 {
     let sought = seek(nodes, block, name)?;
     Ok(sought.place)
@@ -173,10 +164,7 @@ pub fn found_in<N: Nodes>(nodes: &mut N, block: u32, name: &Name) -> Result<Foun
 
     // Why not, and what is read.
     ensures damaged { IsErrOf result Damaged → spec.place_in (N.node nodes.old) name.now block ≡ Err Damaged }
-    ensures why { IfErr result (λ fault. spec.is_path_fault fault ≡ false → N.causes nodes.old nodes.new fault) }
-    ensures faults { IfErr result IsReadFault }
-    ensures looks { Looks N.Nodes nodes.old nodes.new }
-    ensures reads { N.reads nodes.new ≤ N.reads nodes.old + length (chain (N.node nodes.old) block) }
+    ensures calls { LooksWithin N.Nodes IsReadFault (length (chain (N.node nodes.old) block)) nodes.old result nodes.new }
 {
     let sought = seek(nodes, block, name)?;
     let is_full = sought.count >= MAX_ENTRIES;
@@ -198,10 +186,7 @@ pub fn lookup<N: Nodes>(nodes: &mut N, root: u32, path: &Path) -> Result<Found, 
 
     // Why not, and what is read.
     ensures refused { IfErr result (λ fault. spec.is_path_fault fault ≡ true → spec.look_up (N.node nodes.old) root path.now ≡ Err fault) }
-    ensures why { IfErr result (λ fault. spec.is_path_fault fault ≡ false → N.causes nodes.old nodes.new fault) }
-    ensures faults { IfErr result spec.IsLookupFault }
-    ensures looks { Looks N.Nodes nodes.old nodes.new }
-    ensures reads { N.reads nodes.new ≤ N.reads nodes.old + spec.way_nodes (N.node nodes.old) root path.now }
+    ensures calls { LooksWithin N.Nodes spec.IsLookupFault (spec.way_nodes (N.node nodes.old) root path.now) nodes.old result nodes.new }
 {
     let (found, _trail) = find(nodes, root, path)?;
     Ok(found)

@@ -1,19 +1,15 @@
 //! What stands at one path moved to another, by the directories that a look up of each went through.
-ghost use Rattle.std.specs.Prelude.{◌≡◌, ℕ, ◌+◌, ◌≤◌, ◌<◌, true, false, length, drop, slice_index, slice_index_or, [], Some, None, IsSome, IfOk, IfErr, IfSome};
+ghost use Rattle.std.specs.Prelude.{◌≡◌, ◌+◌, ◌<◌, true, false, length, drop, slice_index, slice_index_or, [], Some, None, IfOk, IfSome};
 ghost use Rattle.std.specs.Option.{is_some};
-ghost use Rattle.fs_types.specs.Names.{same_name, same_path};
-ghost use Rattle.plain_trees.specs.Contents.{Apart, parent_of};
-ghost use Rattle.plain_trees.specs.Trees.{nodes_for};
 ghost use Rattle.node_format.specs.Items.{is_place};
 ghost use Rattle.node_format.specs.declared.place.Place.TheVariants.{Dir};
-ghost use Rattle.block_trees.specs.Trees.{child, leads, entries_in, items_in};
+ghost use Rattle.block_trees.specs.Trees.{items_in};
 ghost use Rattle.block_trees.specs.Rewritten.{IsSecondEdit, IsFreshChain, IsBranch, IsMoved};
 ghost use Rattle.directory.specs.Counts.{nodes_in, edit_nodes, path_nodes, fork_nodes, move_nodes};
-ghost use Rattle.directory.specs.Lookups.{look_up};
 ghost use Rattle.directory.specs.Edits.{OnlyReaches};
-ghost use Rattle.directory.specs.Trails.{IsTrail, IsHeldTrail, TakesName, IsChangeFault, has_room, takes};
+ghost use Rattle.directory.specs.Trails.{IsHeldTrail, TakesName, IsChangeFault, takes};
 ghost use Rattle.directory.specs.Moves as spec;
-ghost use Rattle.node_store.specs.Words.{Keeps, Works};
+ghost use Rattle.node_store.specs.Words.{Keeps, WorksWithin};
 
 use crate::edits::{edit_directory, rewrite_from};
 use crate::list_writes::write_list;
@@ -54,16 +50,10 @@ fn edit_directory_twice<N: Nodes>(
     requires takes { spec.TakesTwo (N.node nodes.old) block name.now gone other.now here }
 
     // The new directory.
-    ensures edited { IfOk result (λ to. IsSecondEdit (N.node nodes.old) (N.node nodes.new) block to name.now gone other.now here) }
-    ensures chain { IfOk result (λ to. IsFreshChain (N.node nodes.old) (N.node nodes.new) (N.kept nodes.old) (N.kept nodes.new) block to) }
+    ensures edited { IfOk result (λ to. IsSecondEdit (N.node nodes.old) (N.node nodes.new) block to name.now gone other.now here × IsFreshChain (N.node nodes.old) (N.node nodes.new) (N.kept nodes.old) (N.kept nodes.new) block to) }
 
     // What it is refused with, and what it asks for.
-    ensures why { IfErr result (λ fault. N.causes nodes.old nodes.new fault) }
-    ensures faults { IfErr result IsChangeFault }
-    ensures written { IfOk result (λ _. N.writes nodes.new ≡ N.writes nodes.old + nodes_for (spec.edited_twice_count (items_in (N.node nodes.old) block) name.now gone other.now here)) }
-    ensures writes { N.writes nodes.new ≤ N.writes nodes.old + edit_nodes (items_in (N.node nodes.old) block) other.now (is_some gone) }
-    ensures reads { N.reads nodes.new ≤ N.reads nodes.old + nodes_in (N.node nodes.old) block }
-    ensures works { Works N.Nodes nodes.old nodes.new }
+    ensures calls { WorksWithin N.Nodes IsChangeFault (nodes_in (N.node nodes.old) block) (edit_nodes (items_in (N.node nodes.old) block) other.now (is_some gone)) nodes.old result nodes.new }
 {
     let (read, tail) = read_list(alloc, nodes, block, name, None)?;
     let edited = edit_list_twice(alloc, &read.list(), name, gone, other, here)?;
@@ -91,11 +81,7 @@ fn rewrite_branch<N: Nodes>(
     ensures lawful { IfOk result (λ now. IfSome now (λ p. is_place p ≡ true)) }
 
     // What it is refused with, and what it asks for.
-    ensures why { IfErr result (λ fault. N.causes nodes.old nodes.new fault) }
-    ensures faults { IfErr result IsChangeFault }
-    ensures writes { N.writes nodes.new ≤ N.writes nodes.old + path_nodes (N.node nodes.old) trail.now names.now (is_some place) (fork + 1) }
-    ensures reads { N.reads nodes.new ≤ N.reads nodes.old + path_nodes (N.node nodes.old) trail.now names.now false (fork + 1) }
-    ensures works { Works N.Nodes nodes.old nodes.new }
+    ensures calls { WorksWithin N.Nodes IsChangeFault (path_nodes (N.node nodes.old) trail.now names.now false (fork + 1)) (path_nodes (N.node nodes.old) trail.now names.now (is_some place) (fork + 1)) nodes.old result nodes.new }
 {
     if fork + 1 == names.len() {
         return Ok(place);
@@ -125,11 +111,7 @@ fn rewrite_fork<N: Nodes>(
     ensures moved { IfOk result (λ to. IsMoved (N.node nodes.old) (N.node nodes.new) (N.kept nodes.old) (N.kept nodes.new) (slice_index old_trail.now fork) to (drop fork old.now) (drop fork new.now) place) }
 
     // What it is refused with, and what it asks for.
-    ensures why { IfErr result (λ fault. N.causes nodes.old nodes.new fault) }
-    ensures faults { IfErr result IsChangeFault }
-    ensures writes { N.writes nodes.new ≤ N.writes nodes.old + fork_nodes (N.node nodes.old) old_trail.now old.now new_trail.now new.now fork }
-    ensures reads { N.reads nodes.new ≤ N.reads nodes.old + fork_nodes (N.node nodes.old) old_trail.now old.now new_trail.now new.now fork }
-    ensures works { Works N.Nodes nodes.old nodes.new }
+    ensures calls { WorksWithin N.Nodes IsChangeFault (fork_nodes (N.node nodes.old) old_trail.now old.now new_trail.now new.now fork) (fork_nodes (N.node nodes.old) old_trail.now old.now new_trail.now new.now fork) nodes.old result nodes.new }
 {
     let gone = rewrite_branch(alloc, nodes, old_trail, old, fork, None)?;
     let here = rewrite_branch(alloc, nodes, new_trail, new, fork, Some(place))?;
@@ -173,11 +155,7 @@ pub fn move_entry<N: Nodes>(
     ensures keeps { Keeps N.Nodes nodes.old nodes.new }
 
     // What it is refused with, and what it asks for.
-    ensures why { IfErr result (λ fault. N.causes nodes.old nodes.new fault) }
-    ensures faults { IfErr result IsChangeFault }
-    ensures writes { N.writes nodes.new ≤ N.writes nodes.old + move_nodes (N.node nodes.old) old_trail.now old.now new_trail.now new.now }
-    ensures reads { N.reads nodes.new ≤ N.reads nodes.old + move_nodes (N.node nodes.old) old_trail.now old.now new_trail.now new.now }
-    ensures works { Works N.Nodes nodes.old nodes.new }
+    ensures calls { WorksWithin N.Nodes IsChangeFault (move_nodes (N.node nodes.old) old_trail.now old.now new_trail.now new.now) (move_nodes (N.node nodes.old) old_trail.now old.now new_trail.now new.now) nodes.old result nodes.new }
 {
     let blocks = old_trail.blocks();
     let names = old.names();

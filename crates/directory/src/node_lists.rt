@@ -1,17 +1,17 @@
 //! The entries of a directory as a list: read as far as an edit wants them, and edited.
-ghost use Rattle.std.specs.Prelude.{◌≡◌, ℕ, ◌+◌, ◌≤◌, ◌⊎◌, true, false, ◌++◌, length, Some, None, IsSome, OnOk, IfOk, IfErr, IfSome};
+ghost use Rattle.std.specs.Prelude.{◌≡◌, ℕ, ◌≤◌, true, false, length, Some, None, IsSome, IfOk, IfSome};
 ghost use Rattle.std.specs.Option.{is_some};
 ghost use Rattle.fs_types.specs.declared.limits.TheConstants.{MAX_ENTRIES};
 ghost use Rattle.fs_types.specs.Names.{same_name};
-ghost use Rattle.node_store.specs.Words.{Looks};
-ghost use Rattle.node_format.specs.Items.{is_place, named_place, are_ascending};
-ghost use Rattle.node_format.specs.Links.{Link};
+ghost use Rattle.node_store.specs.Faults.{IsLookFault};
+ghost use Rattle.node_store.specs.Words.{LooksWithin};
+ghost use Rattle.node_format.specs.Items.{is_place, named_place};
 ghost use Rattle.node_format.specs.Edits.{IsEdited};
 ghost use Rattle.block_trees.specs.Chains.{entries_in, items_in, link_of};
 ghost use Rattle.directory.specs.Counts.{read_nodes};
 ghost use Rattle.directory.specs.Moves.{IsEditedTwice};
 ghost use Rattle.directory.specs.Reads as spec;
-ghost use Rattle.directory.specs.Trails.{IsChangeFault, takes};
+ghost use Rattle.directory.specs.Trails.{takes};
 
 use fs_types::{CHAIN_NODES, Fault, Name};
 use node_format::{Entries, EntryList, Place, Spelled};
@@ -36,10 +36,7 @@ fn append_node<N: Nodes>(
     requires sound { N.is_sound nodes.old }
     requires there { spec.MayAppend (link_of (N.node nodes.old block)) list.old }
     ensures appended { IfOk result (λ seen. spec.IsAppended (link_of (N.node nodes.old block)) name.now list.old list.new seen.has_name seen.next) }
-    ensures why { IfErr result (λ fault. N.causes nodes.old nodes.new fault) }
-    ensures faults { IfErr result IsChangeFault }
-    ensures looks { Looks N.Nodes nodes.old nodes.new }
-    ensures reads { N.reads nodes.new ≡ N.reads nodes.old + 1 }
+    ensures calls { LooksWithin N.Nodes IsLookFault 1 nodes.old result nodes.new }
 {
     nodes.read(block)?;
     let Some((node, split)) = Entries::split(nodes.lent(), name.as_bytes()) else {
@@ -78,10 +75,7 @@ pub(crate) fn read_list<N: Nodes>(
     ensures enough { IfOk result (λ r. spec.IsEnough r.0 r.1 name.now (is_some place)) }
 
     // What it is refused with, and what it asks for.
-    ensures why { IfErr result (λ fault. N.causes nodes.old nodes.new fault) }
-    ensures faults { IfErr result IsChangeFault }
-    ensures looks { Looks N.Nodes nodes.old nodes.new }
-    ensures reads { N.reads nodes.new ≤ N.reads nodes.old + read_nodes (items_in (N.node nodes.old) block) name.now (is_some place) }
+    ensures calls { LooksWithin N.Nodes IsLookFault (read_nodes (items_in (N.node nodes.old) block) name.now (is_some place)) nodes.old result nodes.new }
 {
     let puts = place.is_some();
     let mut list = Spelled::new(alloc);

@@ -23,9 +23,8 @@ fn count_front<N: Nodes>(nodes: &mut N, block: u32) -> Result<(usize, u32), Faul
     requires node { (l : Link) × (link_of (N.node nodes.old block) ≡ Some l) }
 
     // What was found.
-    ensures count { IfOk result (λ c. length (link_items (N.node nodes.old block)) ≡ c.0) }
+    ensures counted { IfOk result (λ c. (length (link_items (N.node nodes.old block)) ≡ c.0) × (next_of (N.node nodes.old block) ≡ c.1)) }
     ensures few { IfOk result (λ c. c.0 ≤ NODE_ENTRIES) }
-    ensures next { IfOk result (λ c. next_of (N.node nodes.old block) ≡ c.1) }
 
     // Why not, and what is read: one page.
     ensures refused { IfErr result (λ fault. IsLookFault fault × N.causes nodes.old nodes.new fault) }

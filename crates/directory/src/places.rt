@@ -1,13 +1,12 @@
 //! The entries of a directory that come after a name, each with its place.
-ghost use Rattle.std.specs.Prelude.{◌≡◌, ◌+◌, ◌≤◌, ◌++◌, false, List, length, Some, None, OnOk, IfOk, IfErr, IsErrOf};
+ghost use Rattle.std.specs.Prelude.{◌≡◌, ◌+◌, ◌++◌, List, length, Some, None, OnOk, IfOk, IfErr, IsErrOf};
 ghost use Rattle.std.specs.Option.{option_copied};
 ghost use Rattle.fs_types.specs.declared.fault.Fault.TheVariants.{NoMemory, Damaged};
 ghost use Rattle.node_store.specs.Faults.{IsReadFault};
-ghost use Rattle.node_store.specs.Words.{Looks};
+ghost use Rattle.node_store.specs.Words.{LooksWithin};
 ghost use Rattle.node_format.specs.Items.{Item};
 ghost use Rattle.block_trees.specs.Chains.{link_of, link_items, next_of, chain};
 ghost use Rattle.block_trees.specs.Trees.{entries_in};
-ghost use Rattle.directory.specs.Lookups.{is_path_fault};
 ghost use Rattle.directory.specs.Places.{places_after, is_read};
 
 use crate::lookups::MOST_AFTER;
@@ -53,10 +52,7 @@ fn add_places<N: Nodes>(
 
     // Why not, and what is read.
     ensures damaged { IsErrOf result Damaged → link_of (N.node nodes.old block) ≡ None }
-    ensures why { IfErr result (λ fault. is_path_fault fault ≡ false → N.causes nodes.old nodes.new fault) }
-    ensures faults { IfErr result IsReadFault }
-    ensures looks { Looks N.Nodes nodes.old nodes.new }
-    ensures reads { N.reads nodes.new ≡ N.reads nodes.old + 1 }
+    ensures calls { LooksWithin N.Nodes IsReadFault 1 nodes.old result nodes.new }
 {
     nodes.read(block)?;
     let Some(node) = Entries::of(nodes.lent()) else {
@@ -93,10 +89,7 @@ pub fn places_after<N: Nodes>(
 
     // Why not, and what is read.
     ensures damaged { IsErrOf result Damaged → entries_in (N.node nodes.old) block ≡ None }
-    ensures why { IfErr result (λ fault. is_path_fault fault ≡ false → N.causes nodes.old nodes.new fault) }
-    ensures faults { IfErr result IsReadFault }
-    ensures looks { Looks N.Nodes nodes.old nodes.new }
-    ensures reads { N.reads nodes.new ≤ N.reads nodes.old + length (chain (N.node nodes.old) block) }
+    ensures calls { LooksWithin N.Nodes IsReadFault (length (chain (N.node nodes.old) block)) nodes.old result nodes.new }
 {
     let mut places = Sequence::new(alloc);
     let mut next = add_places(alloc, nodes, block, from, most, &mut places)?;

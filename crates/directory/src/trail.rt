@@ -1,9 +1,9 @@
 //! What a path leads to, with the directories that it goes through.
-ghost use Rattle.std.specs.Prelude.{◌≡◌, ℕ, ◌+◌, ◌≤◌, ◌<◌, true, false, length, take, drop, slice_index_or, [], ◌∷◌, ◌++◌, Ok, Err, IfOk, IfErr};
+ghost use Rattle.std.specs.Prelude.{◌≡◌, ℕ, ◌+◌, ◌≤◌, ◌<◌, true, length, take, drop, slice_index_or, [], ◌∷◌, ◌++◌, Ok, Err, IfOk, IfErr};
 ghost use Rattle.directory.specs.Lookups as spec;
 ghost use Rattle.directory.specs.Trails.{IsTrail, IsWay};
 ghost use Rattle.directory.specs.Beside.{beside_nodes};
-ghost use Rattle.node_store.specs.Words.{Looks};
+ghost use Rattle.node_store.specs.Words.{LooksWithin};
 ghost use Rattle.fs_types.specs.declared.limits.TheConstants.{MAX_NAMES};
 
 use crate::lookups::{Found, directory_at, found_in, place_in};
@@ -91,14 +91,9 @@ fn find_from<N: Nodes>(
     ensures found { IfOk result (λ r. spec.look_up (N.node nodes.old) block (drop (length trail) path.now) ≡ Ok r.0) }
     ensures trail { (root : ℕ) → spec.LeadsToDirectories (N.node nodes.old) root → IsWay (N.node nodes.old) root path.now trail block → IfOk result (λ r. IsTrail (N.node nodes.old) root path.now r.1) }
 
-    // Why not.
+    // Why not, and what is read.
     ensures refused { IfErr result (λ fault. spec.is_path_fault fault ≡ true → spec.look_up (N.node nodes.old) block (drop (length trail) path.now) ≡ Err fault) }
-    ensures why { IfErr result (λ fault. spec.is_path_fault fault ≡ false → N.causes nodes.old nodes.new fault) }
-    ensures faults { IfErr result spec.IsLookupFault }
-
-    // Nodes were read alone.
-    ensures looks { Looks N.Nodes nodes.old nodes.new }
-    ensures reads { N.reads nodes.new ≤ N.reads nodes.old + spec.way_nodes (N.node nodes.old) block (drop (length trail) path.now) }
+    ensures calls { LooksWithin N.Nodes spec.IsLookupFault (spec.way_nodes (N.node nodes.old) block (drop (length trail) path.now)) nodes.old result nodes.new }
 {
     let names = path.names();
     let mut trail = trail;
@@ -133,10 +128,7 @@ pub fn find<N: Nodes>(nodes: &mut N, root: u32, path: &Path) -> Result<(Found, T
 
     // Why not, and what is read.
     ensures refused { IfErr result (λ fault. spec.is_path_fault fault ≡ true → spec.look_up (N.node nodes.old) root path.now ≡ Err fault) }
-    ensures why { IfErr result (λ fault. spec.is_path_fault fault ≡ false → N.causes nodes.old nodes.new fault) }
-    ensures faults { IfErr result spec.IsLookupFault }
-    ensures looks { Looks N.Nodes nodes.old nodes.new }
-    ensures reads { N.reads nodes.new ≤ N.reads nodes.old + spec.way_nodes (N.node nodes.old) root path.now }
+    ensures calls { LooksWithin N.Nodes spec.IsLookupFault (spec.way_nodes (N.node nodes.old) root path.now) nodes.old result nodes.new }
 {
     find_from(nodes, Trail::new(), root, path)
 }
@@ -160,14 +152,9 @@ pub fn find_beside<N: Nodes>(
     ensures found { IfOk result (λ r. spec.look_up (N.node nodes.old) root path.now ≡ Ok r.0) }
     ensures trail { spec.LeadsToDirectories (N.node nodes.old) root → IfOk result (λ r. IsTrail (N.node nodes.old) root path.now r.1) }
 
-    // Why not.
+    // Why not, and what is read.
     ensures refused { IfErr result (λ fault. spec.is_path_fault fault ≡ true → spec.look_up (N.node nodes.old) root path.now ≡ Err fault) }
-    ensures why { IfErr result (λ fault. spec.is_path_fault fault ≡ false → N.causes nodes.old nodes.new fault) }
-    ensures faults { IfErr result spec.IsLookupFault }
-
-    // Nodes were read alone, those from where the paths part.
-    ensures looks { Looks N.Nodes nodes.old nodes.new }
-    ensures reads { N.reads nodes.new ≤ N.reads nodes.old + beside_nodes (N.node nodes.old) root other.now other_trail.now path.now }
+    ensures calls { LooksWithin N.Nodes spec.IsLookupFault (beside_nodes (N.node nodes.old) root other.now other_trail.now path.now) nodes.old result nodes.new }
 {
     let blocks = other_trail.blocks();
     let common = common_names(other.names(), path.names());

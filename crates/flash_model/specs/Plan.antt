@@ -1,5 +1,5 @@
 -- A plan of device faults: which entry is due, which wait.
-use Rattle.std.specs.Prelude.{◌≡◌, ℕ, ◌+◌, ◌≤◌, Bool, true, false, not, ◌&&◌, ◌||◌, ◌==◌, nat_lt, if◌then◌else◌, List, [], ◌∷◌, ◌++◌, length, reverse, find, filter, Option, None, option_map}
+use Rattle.std.specs.Prelude.{◌≡◌, ℕ, ◌+◌, ◌≤◌, Bool, true, false, not, ◌&&◌, ◌||◌, ◌==◌, nat_lt, if◌then◌else◌, List, [], ◌∷◌, ◌++◌, length, reverse, find, filter, Option, Some, None, option_map}
 use Rattle.std.specs.List.{list_any}
 use Rattle.flash_model.specs.declared.flash.DevFault.{DevFault}
 use Rattle.flash_model.specs.declared.flash.DevFault.TheVariants.{Failed, PowerCut}
@@ -88,6 +88,10 @@ kind_at class n entries = option_map (λ entry. entry.kind) (find (is_for class 
 abbrev pub kind_due : Schedule → Operation → Option FaultKind
 kind_due s class =
     if nat_lt (count_of s.counters class) greatest then kind_at class (count_of s.counters class + 1) s.waiting else None
+
+-- what the next operation of a class is refused with: with the power off by a cut, else by what is due
+abbrev pub answer_due : Bool → Schedule → Operation → Option DevFault
+answer_due powered s class = if powered then option_map kind_answer (kind_due s class) else Some PowerCut
 
 -- the plan when one more operation of a class has begun: entries whose number has come no longer wait
 abbrev pub begun : Schedule → Operation → Schedule

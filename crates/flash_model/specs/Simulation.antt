@@ -1,14 +1,13 @@
 -- A flash in memory that fails as planned: the device that it is, and the plan that it follows.
-use Rattle.std.specs.Prelude.{◌≡◌, ℕ, ◌+◌, true, false, slice_index_or, Option, Some, option_map, Result, if◌then◌else◌}
+use Rattle.std.specs.Prelude.{◌≡◌, ℕ, ◌+◌, true, false, slice_index_or, Option, Result, if◌then◌else◌}
 use Rattle.flash_model.specs.declared.flash.DevFault.{DevFault}
-use Rattle.flash_model.specs.declared.flash.DevFault.TheVariants.{PowerCut}
 use Rattle.flash_model.specs.declared.geometry.Geometry.{Geometry}
 use Rattle.flash_model.specs.declared.fault_kind.Operation.{Operation}
 use Rattle.flash_model.specs.declared.fault_kind.Counters.{Counters}
 use Rattle.flash_model.specs.declared.sim_flash.SimFlash.{SimFlash}
 use Rattle.flash_model.specs.Device.{Device, erased, failed, cut, power_after, Wears}
 use Rattle.flash_model.specs.Stored.{page_at}
-use Rattle.flash_model.specs.Plan.{Schedule, kind_due, begun, kind_answer, count_more}
+use Rattle.flash_model.specs.Plan.{Schedule, answer_due, begun, count_more}
 
 -- the device
 abbrev pub device_of : SimFlash → Device
@@ -37,7 +36,7 @@ counts_after flash class = if flash.powered then count_more (counts_of flash) cl
 
 -- why the next operation of a class is not done: with the power off for want of it, else by what is due
 abbrev pub refusal_due : SimFlash → Operation → Option DevFault
-refusal_due flash class = if flash.powered then option_map kind_answer (kind_due flash.plan class) else Some PowerCut
+refusal_due flash class = answer_due flash.powered flash.plan class
 
 -- the plan after the next operation of a class: it counts with the power on
 abbrev pub plan_after : SimFlash → Operation → Schedule

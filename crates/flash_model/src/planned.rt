@@ -1,8 +1,9 @@
 //! A flash whose faults can be planned while it is used.
 ghost use Rattle.std.specs.Prelude.{◌≡◌, ◌≤◌, ◌<◌, ◌↔◌, OnOk, OnErr, IfErr, true, length};
+ghost use Rattle.std.specs.Result.{result_err};
 ghost use Rattle.flash_model.specs.Geometry.{page_count};
 ghost use Rattle.flash_model.specs.Device.{erased, Reads, Programs, Erases};
-ghost use Rattle.flash_model.specs.Plan.{Schedule, planned, schedule_after, IsPlanFull};
+ghost use Rattle.flash_model.specs.Plan.{Schedule, planned, schedule_after, answer_due, IsPlanFull};
 
 use crate::fault_kind::{FaultKind, Operation};
 use crate::flash::{DevFault, Flash, PageState};
@@ -12,7 +13,8 @@ use fs_types::Fault;
 ///
 /// The contract of a [`Flash`] says nothing of a plan. So each of its operations stands here once
 /// more, with what it leaves of the plan: it counts among those of its class where power is on, and
-/// takes from the plan what has come due. A flash whose own operations do so has only to call them.
+/// takes from the plan what has come due, by which alone it is refused. A flash whose own operations
+/// do so has only to call them.
 pub trait Planned: Flash {
     ghost schedule: { Self → Schedule };
 
@@ -32,6 +34,7 @@ pub trait Planned: Flash {
         requires in_range { page < page_count (Self.device self.old).geometry }
         requires whole { length buffer.old ≡ (Self.device self.old).geometry.page }
         ensures reads { Reads (Self.device self.old) page buffer.old (Self.device self.new) buffer.new result }
+        ensures answer { result_err result ≡ answer_due (Self.device self.old).powered (schedule self.old) Operation.Read }
         ensures plan { schedule self.new ≡ schedule_after (Self.device self.old).powered (schedule self.old) Operation.Read };
 
     /// Programs a page, as [`Flash::program`] does.
@@ -40,12 +43,14 @@ pub trait Planned: Flash {
         requires whole { length bytes.now ≡ (Self.device self.old).geometry.page }
         requires blank { (Self.device self.old).pages page ≡ erased }
         ensures programs { Programs (Self.device self.old) page bytes.now (Self.device self.new) result }
+        ensures answer { result_err result ≡ answer_due (Self.device self.old).powered (schedule self.old) Operation.Program }
         ensures plan { schedule self.new ≡ schedule_after (Self.device self.old).powered (schedule self.old) Operation.Program };
 
     /// Erases a block, as [`Flash::erase`] does.
     fn erase_as_planned(&mut self, block: u32) -> Result<(), DevFault>
         requires { block < (Self.device self.old).geometry.blocks }
         ensures erases { Erases (Self.device self.old) block (Self.device self.new) result }
+        ensures answer { result_err result ≡ answer_due (Self.device self.old).powered (schedule self.old) Operation.Erase }
         ensures plan { schedule self.new ≡ schedule_after (Self.device self.old).powered (schedule self.old) Operation.Erase };
 
     /// Puts the power on, as [`Flash::power_on`] does. The plan stays.

@@ -8,8 +8,7 @@ use Rattle.flash_model.specs.declared.geometry.Geometry.{Geometry}
 use Rattle.flash_model.specs.declared.sim_flash.SimFlash.{SimFlash}
 use Rattle.flash_image.specs.Images.{IsFault}
 use Rattle.flash_image.specs.declared.image_fault.ImageFault.{ImageFault}
-use Rattle.mounting.specs.Formats.{FormatCause}
-use Rattle.script_runs.specs.Flashes.{IsNewFlash, IsDecoded, AreLawful}
+use Rattle.script_runs.specs.Flashes.{IsNewFlash, IsDecoded, AreLawful, IsUnformatted}
 use Rattle.script_runs.specs.Scripts.{IsUnmounted}
 use Rattle.script_runs.specs.declared.scripts.ScriptFault.{ScriptFault}
 use Rattle.image_buffer.specs.Faults.{buffer_fault_of_image, buffer_fault_of_system, buffer_fault_of_script}
@@ -21,7 +20,7 @@ pub lawful_limit : (sizes : Geometry) (limit : ℕ) → IsGeometry sizes → (li
 lawful_limit sizes limit lawful low high = record { geometry = lawful; least = omega arith; most = omega arith }
 
 -- a format that is refused
-pub format_refused : (sizes : Geometry) (limit : ℕ) (start end : SimFlash) (fault : Fault) → IsNewFlash sizes start → FormatCause (device_of start) limit fault (device_of end)
+pub format_refused : (sizes : Geometry) (limit : ℕ) (start end : SimFlash) (fault : Fault) → IsNewFlash sizes start → IsUnformatted limit start end fault
     → MakeRefusal sizes limit (buffer_fault_of_system fault)
 format_refused sizes limit start end Fault.NoMemory new cause = tt
 format_refused sizes limit start end fault new cause = inr (start, end, new, cause)

@@ -6,10 +6,9 @@ use Rattle.flash_model.specs.Simulation.{device_of}
 use Rattle.flash_model.specs.declared.sim_flash.SimFlash.{SimFlash}
 use Rattle.flash_model.specs.declared.geometry.Geometry.{Geometry}
 use Rattle.flash_image.specs.Images.{image_of, IsFault}
-use Rattle.mounting.specs.Formats.{FormatCause}
 use Rattle.system.specs.Mounts.{IsMountOf}
 use Rattle.system.specs.declared.systems.System.{System}
-use Rattle.script_runs.specs.Flashes.{IsNewFlash, IsDecoded, IsMade}
+use Rattle.script_runs.specs.Flashes.{IsNewFlash, IsDecoded, IsMade, IsUnformatted}
 use Rattle.script_runs.specs.Scripts.{streams_at, EndsOnSimFlash, IsUnmounted}
 use Rattle.script_runs.specs.declared.scripts.ScriptFault.{ScriptFault}
 use Rattle.image_buffer.specs.Faults.{buffer_fault_of_script}
@@ -31,7 +30,7 @@ HoldsImage old flash count new = HoldsAtFront old (image_of (device_of flash)) c
 abbrev pub MakeRefusal : Geometry → ℕ → BufferFault → Type 0
 MakeRefusal sizes limit BufferFault.Memory = Unit {0}
 MakeRefusal sizes limit (BufferFault.System fault) = ((fault ≡ Fault.BadGeometry) × (IsGeometry sizes → ⊥))
-    ⊎ ((start : SimFlash) × (end : SimFlash) × IsNewFlash sizes start × FormatCause (device_of start) limit fault (device_of end))
+    ⊎ ((start : SimFlash) × (end : SimFlash) × IsNewFlash sizes start × IsUnformatted limit start end fault)
 MakeRefusal sizes limit _ = ⊥
 
 -- why no image of one stands in a buffer of so many bytes: there is none, or it has more bytes

@@ -11,9 +11,8 @@ use crate::buffer_fault::BufferFault;
 use crate::front::put_front;
 use flash_image::{decode, encode};
 use flash_model::{Geometry, SimFlash};
-use script_runs::run_script;
+use script_runs::{format_as_planned, mount_as_planned, run_script};
 use std::alloc::Global;
-use undofs::{format, mount};
 
 /// How many bytes were written at the front of each buffer.
 #[derive(Clone, Copy, Debug, PartialEq, Eq)]
@@ -62,7 +61,7 @@ pub fn check_buffer(alloc: Global, image: &[u8]) -> Result<(), BufferFault>
     ensures { BufferCheckEnds image.now result }
 {
     let mut flash = read_flash(alloc, image)?;
-    match mount(alloc, &mut flash) {
+    match mount_as_planned(alloc, &mut flash) {
         Ok(_) => Ok(()),
         Err(fault) => Err(BufferFault::of_system(fault)),
     }
@@ -110,7 +109,7 @@ fn make_flash(alloc: Global, sizes: Geometry, history: u32) -> Result<SimFlash, 
         Ok(flash) => flash,
         Err(fault) => return Err(BufferFault::of_system(fault)),
     };
-    match format(alloc, &mut flash, history) {
+    match format_as_planned(alloc, &mut flash, history) {
         Ok(()) => Ok(flash),
         Err(fault) => Err(BufferFault::of_system(fault)),
     }

@@ -10,12 +10,11 @@ use Rattle.flash_model.specs.Simulation.{device_of}
 use Rattle.flash_model.specs.declared.sim_flash.SimFlash.{SimFlash}
 use Rattle.flash_model.specs.declared.geometry.Geometry.{Geometry}
 use Rattle.flash_image.specs.Images.{image_of, IsFault}
-use Rattle.mounting.specs.Formats.{FormatCause}
 use Rattle.system.specs.Mounts.{IsMountOf}
 use Rattle.system.specs.declared.systems.System.{System}
 use Rattle.image_jobs.specs.Failures.{of_system}
 use Rattle.host_files.specs.Files.{Held, AreBytesRead}
-use Rattle.script_runs.specs.Flashes.{IsNewFlash, AreLawful, IsDecoded, IsMade}
+use Rattle.script_runs.specs.Flashes.{IsNewFlash, AreLawful, IsDecoded, IsMade, IsUnformatted}
 use Rattle.image_jobs.specs.Images.{DecodeCause, IsUnclaimed, IsUnread, IsSpelledFlash, LoadCause, IsImageFile, Unsaved, SavesChange, ChangeUnsaved, FormatEnds, FormatFailure, PlaysBy, Plays, host_at, RunEnds, CheckEnds}
 use Rattle.script_runs.specs.Scripts.{streams_at}
 use Rattle.image_jobs.specs.declared.failure.Failure.{Failure}
@@ -30,7 +29,7 @@ pub format_saved : (sizes : Geometry) (limit : ℕ) (flash : SimFlash) (held sav
 format_saved sizes limit flash held saved (Ok done) made ok err = (flash, made, ok)
 format_saved sizes limit flash held saved (Err failure) made ok err = inr (flash, made, err)
 
-pub format_refused : (sizes : Geometry) (limit : ℕ) (start end : SimFlash) (fault : Fault) → IsNewFlash sizes start → FormatCause (device_of start) limit fault (device_of end)
+pub format_refused : (sizes : Geometry) (limit : ℕ) (start end : SimFlash) (fault : Fault) → IsNewFlash sizes start → IsUnformatted limit start end fault
     → FormatFailure sizes limit (of_system fault)
 format_refused sizes limit start end Fault.NoMemory new cause = tt
 format_refused sizes limit start end fault new cause = inr (start, end, new, cause)

@@ -8,12 +8,11 @@ use Rattle.flash_model.specs.Simulation.{device_of, plan_of}
 use Rattle.flash_model.specs.declared.sim_flash.SimFlash.{SimFlash}
 use Rattle.flash_model.specs.declared.geometry.Geometry.{Geometry}
 use Rattle.flash_image.specs.Images.{image_of, IsFault, IsFresh}
-use Rattle.mounting.specs.Formats.{FormatCause}
 use Rattle.system.specs.Mounts.{IsMountOf}
 use Rattle.system.specs.declared.systems.System.{System}
 use Rattle.image_jobs.specs.Failures.{of_script, of_system}
 use Rattle.host_files.specs.Files.{Held}
-use Rattle.script_runs.specs.Flashes.{IsNewFlash, IsMade}
+use Rattle.script_runs.specs.Flashes.{IsNewFlash, IsMade, IsUnformatted}
 use Rattle.script_runs.specs.Scripts.{Streams, streams_at, IsUnmounted, ScriptEnds}
 use Rattle.host_files.specs.declared.image_files.TheConstants.{MOST_BYTES}
 use Rattle.image_jobs.specs.declared.failure.Failure.{Failure}
@@ -76,7 +75,7 @@ abbrev pub FormatFailure : Geometry → ℕ → Failure → Type 0
 FormatFailure sizes limit Failure.Unavailable = Unit {0}
 FormatFailure sizes limit Failure.Memory = Unit {0}
 FormatFailure sizes limit (Failure.System fault) = ((fault ≡ Fault.BadGeometry) × (IsGeometry sizes → ⊥))
-    ⊎ ((start : SimFlash) × (end : SimFlash) × IsNewFlash sizes start × FormatCause (device_of start) limit fault (device_of end))
+    ⊎ ((start : SimFlash) × (end : SimFlash) × IsNewFlash sizes start × IsUnformatted limit start end fault)
 FormatFailure sizes limit _ = ⊥
 
 -- a file is the image of a new flash of these sizes that was formatted; else no image is made and it is as it was, or one is

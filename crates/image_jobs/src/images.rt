@@ -14,10 +14,9 @@ use flash_image::{decode, encode};
 use flash_model::{Geometry, SimFlash};
 use host_files::ImageFiles;
 use script::write_out;
-use script_runs::run_script_until;
+use script_runs::{format_as_planned, mount_as_planned, run_script_until};
 use std::alloc::Global;
 use std::io::{Read, Write};
-use undofs::{format, mount};
 
 /// Makes an image of a flash of these sizes with an empty file system that keeps so many versions,
 /// in the place of what has the name, which is claimed first.
@@ -64,7 +63,7 @@ pub fn formatted_flash(alloc: Global, sizes: Geometry, history: u32) -> Result<S
         Ok(flash) => flash,
         Err(fault) => return Err(Failure::of_system(fault)),
     };
-    match format(alloc, &mut flash, history) {
+    match format_as_planned(alloc, &mut flash, history) {
         Ok(()) => Ok(flash),
         Err(fault) => Err(Failure::of_system(fault)),
     }
@@ -106,7 +105,7 @@ pub fn check_image<F: ImageFiles, W: Write>(
         Ok(flash) => flash,
         Err(failure) => return Err(failure),
     };
-    match mount(alloc, &mut flash) {
+    match mount_as_planned(alloc, &mut flash) {
         Ok(_) => write_ok(out),
         Err(fault) => Err(Failure::of_system(fault)),
     }

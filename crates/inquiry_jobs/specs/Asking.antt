@@ -14,6 +14,7 @@ use Rattle.inquiries.specs.declared.inquiry.Inquiry.{Inquiry}
 use Rattle.image_jobs.specs.Failures.{of_system, of_refusal}
 use Rattle.inquiry_jobs.specs.PathWords.{path_spelled}
 use Rattle.image_jobs.specs.declared.failure.Failure.{Failure}
+use Rattle.script_runs.specs.Plans.{FollowsPlan}
 use Rattle.script_runs.specs.declared.scripts.Refusal.{Refusal}
 
 -- the view that a line `stat` names, or how the line is refused
@@ -79,4 +80,4 @@ IsToldBy IsThere inquiry bytes = (start : SimFlash) × IsThere start × Tells (d
 -- why nothing is told: there is no flash for its cause, or it is not mounted, or what is asked is refused
 abbrev pub UntoldBy : (SimFlash → Type 0) → (Failure → Type 0) → Inquiry → Failure → Type 0
 UntoldBy IsThere Cause inquiry failure = Cause failure
-    ⊎ ((start : SimFlash) × (end : SimFlash) × (fault : AskFault) × IsThere start × AskCause (device_of start) inquiry (device_of end) fault × (failure ≡ of_ask fault))
+    ⊎ ((start : SimFlash) × (end : SimFlash) × (fault : AskFault) × IsThere start × AskCause (device_of start) inquiry (device_of end) fault × FollowsPlan start end × (failure ≡ of_ask fault))

@@ -4,11 +4,12 @@ ghost use Rattle.inquiry_jobs.specs.Asking.{file_spelled, tree_spelled, differen
 ghost use Rattle.inquiry_jobs.specs.Tellings.{DiffEnds, status_of_told, IsTold, UntoldCause, TellEnds};
 
 use crate::path_word::path_of_word;
+use crate::planned::ask_as_planned;
 use crate::view_word::view_of_word;
 use fs_types::Bytes;
 use host_files::ImageFiles;
 use image_jobs::{Failure, load};
-use inquiries::{AskFault, Inquiry, ask};
+use inquiries::{AskFault, Inquiry};
 use script::write_out;
 use script_runs::Refusal;
 use std::alloc::Global;
@@ -189,7 +190,7 @@ fn ask_image<F: ImageFiles>(
         Ok(flash) => flash,
         Err(failure) => return Err(failure),
     };
-    match ask(alloc, &mut flash, inquiry) {
+    match ask_as_planned(alloc, &mut flash, inquiry) {
         Ok(bytes) => Ok(bytes),
         Err(fault) => Err(of_ask(fault)),
     }

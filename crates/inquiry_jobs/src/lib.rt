@@ -4,8 +4,10 @@
 
 mod asking;
 mod path_word;
+mod planned;
 mod view_word;
 
 pub use asking::{of_ask, tell_differences, tell_file, tell_tree, tell_versions};
 pub use path_word::path_of_word;
+pub use planned::list_as_planned;
 pub use view_word::view_of_word;

@@ -1,9 +1,11 @@
 -- What calls leave of nodes, in one word each over the trait `Nodes`.
-use Rattle.std.specs.Prelude.{ℕ, ◌-◌}
+use Rattle.std.specs.Prelude.{ℕ, ◌+◌, ◌-◌, ◌≤◌, Result, IfErr}
+use Rattle.fs_types.specs.declared.fault.Fault.{Fault}
 use Rattle.node_format.specs.Headers.{body_header}
 use Rattle.node_format.specs.declared.place.Place.{Place}
 use Rattle.block_trees.specs.Reached as reached
 use Rattle.block_trees.specs.Trees as trees
+use Rattle.node_store.specs.Faults.{IsLookFault}
 use Rattle.node_store.specs.Frames as frames
 use Rattle.node_store.specs.declared.nodes.Nodes.{Ghosts}
 
@@ -26,3 +28,18 @@ IsHeld N s place = reached.IsHeld (N.node s) (N.kept s) place
 -- a block is the root of a tree
 abbrev pub IsRoot : {S : Type 0} → Ghosts S → S → ℕ → Type 0
 IsRoot N s root = trees.IsRoot (N.limit s - body_header) (N.node s) root
+
+-- a call that only reads, so many nodes at most; a refusal is one of these, and one that nodes give has its cause
+pub record LooksWithin {S T : Type 0} (N : Ghosts S) (IsOwn : Fault → Type 0) (most_reads : ℕ) (old : S) (result : Result T Fault) (new : S) : Type 0 where
+  pub looks : Looks N old new
+  pub reads : N.reads new ≤ N.reads old + most_reads
+  pub why : IfErr result (λ fault. IsLookFault fault → N.causes old new fault)
+  pub faults : IfErr result IsOwn
+
+-- a call that reads and writes so many nodes at most; a refusal is one of these, and has its cause
+pub record WorksWithin {S T : Type 0} (N : Ghosts S) (IsOwn : Fault → Type 0) (most_reads most_writes : ℕ) (old : S) (result : Result T Fault) (new : S) : Type 0 where
+  pub works : Works N old new
+  pub reads : N.reads new ≤ N.reads old + most_reads
+  pub writes : N.writes new ≤ N.writes old + most_writes
+  pub why : IfErr result (λ fault. N.causes old new fault)
+  pub faults : IfErr result IsOwn

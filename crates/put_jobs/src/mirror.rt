@@ -11,8 +11,8 @@ ghost use Rattle.put_jobs.specs.Mirrors.{AreRemoved, IsListed, UnlistedBy, remov
 use crate::batch::Batch;
 use fs_types::{Event, Path};
 use image_jobs::{Failure, flash_of};
-use inquiries::{Item, list};
-use inquiry_jobs::of_ask;
+use inquiries::Item;
+use inquiry_jobs::{list_as_planned, of_ask};
 use put_removals::{Kept, is_removed, removal};
 use std::alloc::{AllocError, Global};
 
@@ -48,7 +48,7 @@ fn items_of(alloc: Global, bytes: &[u8]) -> Result<Vec<Item>, Failure>
         Ok(flash) => flash,
         Err(failure) => return Err(failure),
     };
-    match list(alloc, &mut flash) {
+    match list_as_planned(alloc, &mut flash) {
         Ok(items) => Ok(items),
         Err(fault) => Err(of_ask(fault)),
     }

@@ -28,10 +28,10 @@ use image_jobs::{Failure, SourceFault, flash_of, save_changed, take_image};
 use inquiry_jobs::path_of_word;
 use job_messages::{tell_misplaced, tell_refusal};
 use put_lots::{Taken, Thing, events_of, take_in};
-use script_runs::Refusal;
+use script_runs::{Refusal, mount_as_planned};
 use std::alloc::Global;
 use std::io::Write;
-use undofs::{System, mount, serve};
+use undofs::{System, serve};
 
 /// So many things are put between two lines that tell how far a put has come.
 const THINGS_A_LINE: usize = 100;
@@ -246,7 +246,7 @@ pub fn put_on_flash<F: ImageFiles, E: Write>(
     ensures err { IfErr result (PutCause (Is flash) IsNever removed.now (F.held files.now) batch.now.base (map source_found batch.now.sources.items)) }
 {
     let mut flash = flash;
-    let system = match mount(alloc, &mut flash) {
+    let system = match mount_as_planned(alloc, &mut flash) {
         Ok(system) => Some(system),
         Err(fault) => return Err(Failure::of_system(fault)),
     };

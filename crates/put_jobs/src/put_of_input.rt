@@ -19,10 +19,9 @@ use fs_types::{Bytes, Call, Event, MAX_FILE_BYTES, Path};
 use host_files::ImageFiles;
 use image_jobs::{Failure, flash_of, save_changed, take_image};
 use job_messages::tell_fault;
-use script_runs::Refusal;
+use script_runs::{Refusal, mount_as_planned};
 use std::alloc::Global;
 use std::io::{Read, Write};
-use undofs::mount;
 
 /// The word that stands for the input where what is not put is told.
 const INPUT: &str = "-";
@@ -113,7 +112,7 @@ fn write_on<E: Write>(
         Ok(flash) => flash,
         Err(failure) => return Err(failure),
     };
-    let system = match mount(alloc, &mut flash) {
+    let system = match mount_as_planned(alloc, &mut flash) {
         Ok(system) => Some(system),
         Err(fault) => return Err(Failure::of_system(fault)),
     };

@@ -18,10 +18,9 @@ use host_files::ImageFiles;
 use image_jobs::{Failure, flash_of, save_changed, take_image};
 use job_messages::tell_refusal;
 use put_lots::Thing;
-use script_runs::Refusal;
+use script_runs::{Refusal, mount_as_planned};
 use std::alloc::Global;
 use std::io::Write;
-use undofs::mount;
 
 /// Puts lots into an image, which is claimed first, as one version. The image is written back where all of
 /// them were put.
@@ -59,7 +58,7 @@ fn put_lots_on<E: Write>(
         Ok(flash) => flash,
         Err(failure) => return Err(failure),
     };
-    let system = match mount(alloc, &mut flash) {
+    let system = match mount_as_planned(alloc, &mut flash) {
         Ok(system) => Some(system),
         Err(fault) => return Err(Failure::of_system(fault)),
     };

@@ -1,6 +1,6 @@
 -- What a table keeps of the heads of files.
 use Rattle.std.proofs.Common.{◌≡◌, ◌≢◌, ◌⊎◌, inl, inr, ℕ, zero, suc, ◌+◌, ◌<◌, ◌≤◌, Bool, true, false, cond, Option, Some, None, List, [], ◌∷◌, ◌++◌, length, take, drop, refl, sym, ap, subst, ◌∙◌, arith}
-use Rattle.std.specs.Prelude.{Contains, slice_index, slice_index_or, slice_set, is_some, nat_le, eqb, ◌||◌}
+use Rattle.std.specs.Prelude.{Contains, slice_index, slice_index_or, slice_set, is_some, nat_le, eqb, ◌||◌, ◌&&◌}
 use Rattle.std.specs.FinSet as set
 use Rattle.std.specs.Option.{option_map, option_map_or}
 use Rattle.std.specs.Ordering.{nat_cmp}
@@ -14,7 +14,8 @@ use Rattle.node_format.specs.declared.place.Place.{Place}
 use Rattle.node_format.specs.declared.place.Place.TheVariants.{Dir, File}
 use Rattle.block_trees.specs.Bodies.{head_index}
 use Rattle.reclaim.specs.Heads.{fits, FitsHead, FitHeads, IsKept, KeepsHeads, IsNew, KeepsLinks, longest_by}
-use Rattle.reclaim.specs.Tables.{IsSized}
+use Rattle.reclaim.specs.Passes.{AreNoted}
+use Rattle.reclaim.specs.Tables.{IsSized, TakesIn}
 use Rattle.reclaim.specs.declared.edge.Edge.{Edge}
 use Rattle.reclaim.specs.declared.looks.Parts.{Parts}
 use Rattle.reclaim.specs.declared.table.Table.{Table}
@@ -375,7 +376,7 @@ module _ (t t1 t2 t3 : Table) (block allowed : ℕ) (edge : Option Edge) (next :
       ap (λ (xs : List ℕ). slice_index xs block) (both ∙ ap (λ (o : Option ℕ). option_map_or (λ n. slice_set (slice_set t.words.items block allowed) block n) o (slice_set t.words.items block allowed)) is)
       ∙ get_or-set_same (slice_set t.words.items block allowed) block n 0 (omega (arith, within, length-set t.words.items block allowed))
 
-  pub taken_next : (n : ℕ) → option_map (λ (e : Edge). e.next) edge ≡ Some n → slice_index t3.words.items block ≡ n
+  taken_next : (n : ℕ) → option_map (λ (e : Edge). e.next) edge ≡ Some n → slice_index t3.words.items block ≡ n
   taken_next n is =
       keeps.stay block (ap (λ s. set.contains s block) all_links ∙ ap (λ (s : Bool). set.contains (cond s (set.insert t.links.members block) t.links.members) block) linked ∙ contains-insert_same t.links.members block)
       ∙ next_word n (next_is ∙ is)
@@ -383,12 +384,24 @@ module _ (t t1 t2 t3 : Table) (block allowed : ℕ) (edge : Option Edge) (next :
       linked : is_some edge ≡ true
       linked = sym (some_mapped edge) ∙ ap is_some is
 
-  pub taken_stay : (b : ℕ) → b ≢ block → set.contains t.links.members b ≡ true → slice_index t3.words.items b ≡ slice_index t.words.items b
+  taken_stay : (b : ℕ) → b ≢ block → set.contains t.links.members b ≡ true → slice_index t3.words.items b ≡ slice_index t.words.items b
   taken_stay b other has = keeps.stay b (ap (λ s. set.contains s b) all_links ∙ on (is_some edge)) ∙ other_word b other
     where
       on : (s : Bool) → set.contains (cond s (set.insert t.links.members block) t.links.members) b ≡ true
       on true = contains-kept t.links.members block b has
       on false = has
+
+  pub takes_in : (parts : Parts) (directories : List ℕ) → edge ≡ parts.edge → AreNoted t1.named.members directories t1.links.blocks t2.named.members
+      → t2.quiet.members ≡ cond (is_some next && eqb (length directories) 0) (set.insert t1.quiet.members block) t1.quiet.members → TakesIn t block parts directories t3
+  takes_in parts directories is named quiet = record {
+    sized = links_sized t.links.blocks t2 t3 keeps (subst (λ l. IsSized l.blocks t2) same_links sized);
+    links = ap (λ (x : Table). x.links.members) keeps.same ∙ all_links ∙ ap (λ (e : Option Edge). cond (is_some e) (set.insert t.links.members block) t.links.members) is;
+    named = subst (λ (x : Table). AreNoted t.named.members directories t.links.blocks x.named.members) (sym keeps.same) (subst (λ (x : Table). AreNoted x.named.members directories x.links.blocks t2.named.members) same named);
+    quiet = ap (λ (x : Table). x.quiet.members) keeps.same ∙ quiet ∙ ap (λ (x : Table). cond (is_some next && eqb (length directories) 0) (set.insert x.quiet.members block) x.quiet.members) same
+        ∙ ap (λ (s : Bool). cond (s && eqb (length directories) 0) (set.insert t.quiet.members block) t.quiet.members) (some_next ∙ ap is_some is);
+    next = λ n own. taken_next n (ap (option_map (λ (e : Edge). e.next)) is ∙ own);
+    stay = taken_stay;
+  }
 
   pub taken_node : (capacity : ℕ) (most : ℕ → ℕ) (seen : List ℕ) (told : List Place) (parts : Parts) → KeepsHeads capacity most seen told t → IsNew capacity most parts block t → parts.edge ≡ edge
       → allowed ≡ longest_by capacity parts.index parts.used → (slice_index t.words.items block ≡ 0) ⊎ (fits capacity (slice_index t.words.items block) allowed ≡ true) → KeepsHeads capacity most (seen ++ block ∷ []) told t2

@@ -154,14 +154,6 @@ asked_more page f old p q before mid after begins below next one so_far =
     let all : sum_by g (take q.next q.order) ≡ sum_by g (take (p.next + 1) q.order) = ap (λ (k : ℕ). sum_by g (take k q.order)) next in
     omega (arith, more, front, here, all, one, so_far)
 
-pub asked_same : (page page' : ℕ) (f g : Blocks) (b before after : ℕ) → page' ≡ page → g ≡ f → after ≤ before + mark_pages page' (g b) → after ≤ before + mark_pages page (f b)
-asked_same page page' f g b before after same_page same most =
-    subst (λ (n : ℕ). after ≤ before + n) (λ i. mark_pages (same_page i) (same i b)) most
-
--- a marking went on
-pub continues_itself : (p : Pass) → Begins p.order p.order → Advances p p
-continues_itself p begins = record { blocks = refl; roots = refl; begins = begins }
-
 -- ---- blocks noted one after the other
 
 contains_insert : (s : set.FinSet nat_cmp) (x b : ℕ) → set.contains (set.insert s x) b ≡ (eqb b x || set.contains s b)

@@ -20,3 +20,6 @@ pub mod HeadLengths
 pub mod MoreRoots
 pub mod Paths
 pub mod BodyHeaders
+pub mod NodeCalls
+pub mod Noting
+pub mod DepthCosts

@@ -1,8 +1,8 @@
 -- What one look at a block shows.
-use Rattle.std.proofs.Common.{◌≡◌, ◌≢◌, ◌↔◌, ◌⊎◌, inl, inr, ℕ, zero, suc, ◌+◌, ◌-◌, ◌*◌, ◌^◌, ◌<◌, ◌≤◌, Bool, true, false, ◌&&◌, Option, Some, None, List, [], length, drop, length-drop, refl, sym, ap, subst, ◌∙◌, arith}
+use Rattle.std.proofs.Common.{◌≡◌, ◌≢◌, ◌↔◌, ◌⊎◌, inl, inr, ℕ, zero, suc, ◌+◌, ◌-◌, ◌*◌, ◌^◌, ◌<◌, ◌≤◌, Bool, true, false, cond, ◌&&◌, Option, Some, None, List, [], length, drop, length-drop, refl, sym, ap, subst, ◌∙◌, arith}
 use Rattle.std.specs.Prelude.{◌||◌, not, IsTrue, is_some, nat_eq, nat_lt, unwrap_or, slice_index}
 use Rattle.std.specs.Option.{option_map, option_map_or, option_eq}
-use Rattle.std.proofs.lemmas.Bool.{true≢false, cases_lt, and_parts, ltb-true, lt-ltb, eqb-true}
+use Rattle.std.proofs.lemmas.Bool.{true≢false, cases_lt, and_parts, ltb-true, lt-ltb, eqb-true, ne_eqb}
 use Rattle.fs_types.specs.declared.fault.Fault.{Fault}
 use Rattle.fs_types.specs.declared.fault.Fault.TheVariants.{ReadFailed, PowerCut, NoMemory, Damaged}
 use Rattle.node_store.specs.Faults.{IsLookFault, IsReadFault}
@@ -11,8 +11,9 @@ use Rattle.block_trees.specs.Bodies.{Blocks, index_of, pointer_of, data_of}
 use Rattle.block_trees.specs.Chains.{link_of, next_of}
 use Rattle.reclaim.specs.Naming.{has_slot}
 use Rattle.reclaim.specs.declared.edge.Edge.{Edge}
+use Rattle.reclaim.specs.declared.looks.Parts.{Parts}
 use Rattle.reclaim.specs.Sound.{IsPlainNode, HoldsSlot, IsSoundBody}
-use Rattle.reclaim.specs.Looks.{SlotsHold, NextHoldsLink, IsFollowed, IsLooked, is_chained, edge_of, edge_at, last_name, may_follow, body_of, pointer_reads, AreSteppedTo, ArePartsOf, IsSoundAt, AreSoundParts}
+use Rattle.reclaim.specs.Looks.{SlotsHold, NextHoldsLink, IsFollowed, IsLooked, is_chained, edge_of, edge_at, last_name, may_follow, body_of, index_reads, link_reads, edge_reads, parts_reads, look_reads, Says, AreSteppedTo, ArePartsOf, IsSoundAt, AreSoundParts}
 use Rattle.fs_types.specs.Names.{Name}
 use Rattle.fields.proofs.Found.{some_is as found_is}
 use Rattle.reclaim.proofs.Chains.{fewer_slots}
@@ -36,13 +37,11 @@ look_read _ is = absurd (never is)
 pub look_other : (fault : Fault) → IsLookFault fault → fault ≡ Damaged → ⊥
 look_other fault is damaged = never (subst IsLookFault damaged is)
 
--- ---- bodies
+pub read_look : (fault : Fault) → IsReadFault fault → (fault ≡ Damaged → ⊥) → IsLookFault fault
+read_look Damaged is other = absurd (other refl)
+read_look _ is other = is
 
-pub body_shown : (node : Option (List ℕ)) (bytes : List ℕ) (index held : ℕ) → node ≡ Some bytes → index_of (Some bytes) ≡ Some index → held ≡ length bytes - 80
-    → Some (index, held) ≡ body_of node
-body_shown own bytes index held is has size =
-    let count : length (drop 80 bytes) ≡ held = length-drop 80 bytes ∙ sym size in
-    sym (ap body_of is ∙ ap (option_map {U = ℕ × ℕ} (λ (i : ℕ). (i, length (drop 80 bytes)))) has ∙ ap (λ (n : ℕ). Some (index, n)) count)
+-- ---- bodies
 
 -- the parts of a body
 pub body_parts : (node : Option (List ℕ)) (index held : ℕ) → body_of node ≡ Some (index, held) → (index_of node ≡ Some index) × (length (data_of node) ≡ held)
@@ -53,12 +52,6 @@ body_parts node index held is = on (index_of node) is
     on (Some i) is =
         let pair : (i, length (data_of node)) ≡ (index, held) = ap (λ (o : Option (ℕ × ℕ)). unwrap_or o (i, length (data_of node))) is in
         (ap (λ (p : ℕ × ℕ). Some p.0) pair, ap (λ (p : ℕ × ℕ). p.1) pair)
-
--- no body, no index
-no_index : (node : Option (List ℕ)) (index : ℕ) → body_of node ≡ None → index_of node ≡ Some index → ⊥
-no_index node index none is =
-    let some : body_of node ≡ Some (index, length (data_of node)) = ap (option_map {U = ℕ × ℕ} (λ (i : ℕ). (i, length (data_of node)))) is in
-    true≢false (ap is_some (sym some ∙ none))
 
 -- a test of pairs that says no difference
 pub same_pair : (o : Option (ℕ × ℕ)) (index held : ℕ) (differs : Bool) → differs ≡ not (option_eq (λ x y. nat_eq x.0 y.0 && nat_eq x.1 y.1) o (Some (index, held)))
@@ -120,17 +113,6 @@ body_good capacity f p (suc i) stepped fits some is exact = (
     parts : (index_of (f (p 0)) ≡ Some (suc i - 1)) × (length (data_of (f (p 0))) ≡ capacity)
     parts = body_parts (f (p 0)) (suc i - 1) capacity is
 
--- the node before is another
-pub body_bad : (capacity : ℕ) (f : Blocks) (p : ℕ → ℕ) (index : ℕ) → index ≢ 0 → body_of (f (p 0)) ≢ Some (index - 1, capacity)
-    → IsTrue false ↔ IsSoundBody capacity f p index
-body_bad capacity f p zero some other = absurd (some refl)
-body_bad capacity f p (suc i) some other = (
-  λ t. absurd (never t),
-  λ h.
-      let less : i ≡ suc i - 1 = omega arith in
-      absurd (other (ap (option_map {U = ℕ × ℕ} (λ (n : ℕ). (n, length (data_of (f (p 0)))))) h.0 ∙ ap (λ (n : ℕ). Some (i, n)) h.1 ∙ ap (λ (n : ℕ). Some (n, capacity)) less)),
-)
-
 -- pointers that are the same at all slots
 pub body_same : (capacity : ℕ) (f : Blocks) (p q : ℕ → ℕ) (index : ℕ) → ((x : ℕ) → x < SLOTS → p x ≡ q x) → IsSoundBody capacity f p index → IsSoundBody capacity f q index
 body_same capacity f p q zero same h = tt
@@ -189,14 +171,6 @@ parts_body capacity f pointers index sound here node parts = (λ t. (whole t).0 
 pub at_long : (capacity : ℕ) (f : Blocks) (p : ℕ → ℕ) (index : ℕ) (short : Bool) → short ≡ nat_lt (index * capacity) MAX_FILE_BYTES → short ≡ false → IsTrue false ↔ IsSoundAt capacity f p index
 at_long capacity f p index short is long = (λ t. absurd (never t), λ h. sym long ∙ is ∙ lt-ltb (index * capacity) MAX_FILE_BYTES h.0)
 
-pub at_short : (capacity : ℕ) (f : Blocks) (p : ℕ → ℕ) (index : ℕ) (short sound : Bool) → short ≡ nat_lt (index * capacity) MAX_FILE_BYTES → short ≡ true → (IsTrue sound ↔ IsSoundBody capacity f p index) → IsTrue sound ↔ IsSoundAt capacity f p index
-at_short capacity f p index short sound is well body = (λ t. (ltb-true (index * capacity) MAX_FILE_BYTES (sym is ∙ well), body.0 t), λ h. body.1 h.1)
-
--- ---- reads for pointers
-
-pub parts_at : (node : Option (List ℕ)) (pointers : List ℕ) (index before now : ℕ) → now ≤ before + 12 → ArePartsOf node pointers (Some index) → now ≤ before + pointer_reads node
-parts_at node pointers index before now few parts = (let most : pointer_reads node ≡ 12 = ap (λ (o : Option ℕ). option_map_or (λ i. 12) o 0) (sym parts.index_is) in omega (arith, most, few))
-
 -- ---- what calls answered
 
 -- the node that a slot before another leads to
@@ -248,19 +222,25 @@ followed_some f node last next good says exact end holds = on (link_of node) ref
                   ∙ ap (λ (n : Name). may_follow n (Some there.0)) (sym name) ∙ h l there.0 is some there.1,
             )
 
-pub next_reads : (node : Option (List ℕ)) (last : Name) (next : ℕ) → edge_at node ≡ Some (last, next) → next_of node ≡ next
-next_reads node last next says = on (link_of node) says
-  where
-    on : (o : Option Link) → option_map edge_of o ≡ Some (last, next) → option_map_or (λ l. l.next) o 0 ≡ next
-    on None says = absurd (true≢false (ap is_some (sym says)))
-    on (Some l) says = ap (λ (e : Name × ℕ). e.1) (found_is (edge_of l) (last, next) says)
+-- ---- reads
 
-pub no_reads : (node : Option (List ℕ)) → edge_at node ≡ None → next_of node ≡ 0
-no_reads node none = on (link_of node) none
+pub one_read : (next : ℕ) → next ≢ 0 → link_reads next ≡ 1
+one_read next some = ap (λ (t : Bool). cond t 0 1) (ne_eqb next 0 some)
+
+edge_next : (node : Option (List ℕ)) (edge : Option Edge) → option_map (λ (e : Edge). (e.last.items, e.next)) edge ≡ edge_at node → edge_reads edge ≡ link_reads (next_of node)
+edge_next node edge says = first edge ∙ ap (λ (o : Option (Name × ℕ)). option_map_or (λ (e : Name × ℕ). link_reads e.1) o 0) says ∙ second (link_of node)
   where
-    on : (o : Option Link) → option_map edge_of o ≡ None → option_map_or (λ l. l.next) o 0 ≡ 0
-    on None none = refl
-    on (Some l) none = absurd (true≢false (ap is_some none))
+    first : (o : Option Edge) → edge_reads o ≡ option_map_or (λ (e : Name × ℕ). link_reads e.1) (option_map (λ (e : Edge). (e.last.items, e.next)) o) 0
+    first None = refl
+    first (Some e) = refl
+
+    second : (o : Option Link) → option_map_or (λ (e : Name × ℕ). link_reads e.1) (option_map edge_of o) 0 ≡ link_reads (option_map_or (λ (l : Link). l.next) o 0)
+    second None = refl
+    second (Some l) = refl
+
+-- the parts of a node tell how many reads a look at it may ask
+pub said_reads : (node : Option (List ℕ)) (parts : Parts) → Says node parts → parts_reads parts ≡ look_reads node
+said_reads node parts says = omega (arith, ap index_reads says.named.index_is, edge_next node parts.edge says.edge)
 
 -- ---- a whole look
 

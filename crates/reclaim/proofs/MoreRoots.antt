@@ -1,14 +1,14 @@
 -- A marking that goes on from one root more.
-use Rattle.std.proofs.Common.{◌≡◌, ◌⊎◌, inl, inr, ℕ, ◌-◌, ◌<◌, ◌≤◌, true, false, None, List, [], ◌∷◌, ◌++◌, ap, subst, sym, ◌∙◌, arith}
+use Rattle.std.proofs.Common.{◌≡◌, ◌⊎◌, inl, inr, ℕ, ◌-◌, true, false, None, List, [], ◌∷◌, ◌++◌, ap, subst, sym, ◌∙◌, arith}
 use Rattle.std.proofs.lemmas.List.Elements.{Contains-append_left, Contains-append_right, Contains-append_cases}
-use Rattle.std.specs.Prelude.{slice_index, Contains}
+use Rattle.std.specs.Prelude.{Contains}
 use Rattle.std.specs.FinSet as set
 use Rattle.std.specs.Ordering.{nat_cmp}
 use Rattle.node_format.specs.Headers.{body_header}
 use Rattle.block_trees.specs.Bodies.{Blocks, index_of}
 use Rattle.block_trees.specs.Reached.{Reached, IsFirst, IsNamed, Names}
 use Rattle.block_trees.specs.Trees.{IsRoot}
-use Rattle.reclaim.specs.Kinds.{HoldsBodyNode, IsKnownMarking, Knows}
+use Rattle.reclaim.specs.Kinds.{IsKnownMarking, Knows}
 use Rattle.reclaim.specs.Passes.{Pass, IsMarked, IsPass}
 use Rattle.reclaim.specs.Verified.{AreRoots}
 use Rattle.reclaim.proofs.Marking.{begins_has, begins_at, begins_length, only_one}

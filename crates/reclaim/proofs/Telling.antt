@@ -251,11 +251,6 @@ pub ok_any : {T E : Type 0} (r : Result T E) (P : T → Type 0) → ((x : T) →
 ok_any (Ok x) P h = h x
 ok_any (Err e) P h = tt
 
--- marking is refused for memory, or a node is damaged
-pub mark_why : (P : Fault → Type 0) (blocks : ℕ) (names : List ℕ) (fault : Fault) → IsMarkFault blocks names fault → P NoMemory → fault ≢ Damaged → P fault
-mark_why P blocks names fault (inl memory) base other = subst P (sym memory) base
-mark_why P blocks names fault (inr (damaged, more)) base other = absurd (other damaged)
-
 -- the block that is read next is reached
 pub next_reached : (f : Blocks) (p : Pass) (block : ℕ) → IsPass f p → p.next < length p.order → block ≡ slice_index p.order p.next → Reached f p.roots block
 next_reached f p block pass left at = subst (Reached f p.roots) (sym at) (pass.reached _ (Contains-get_or p.order p.next 0 left))

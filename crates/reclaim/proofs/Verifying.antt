@@ -22,9 +22,6 @@ use Rattle.reclaim.proofs.Soundness.{trees_hold_nodes}
 pub all_more : (P : ℕ → Type 0) (xs : List ℕ) (i : ℕ) (good : Bool) → i < length xs → All P (take i xs) → (IsTrue good ↔ P (slice_index xs i)) → good ≡ true → All P (take (i + 1) xs)
 all_more P xs i good below so_far exact is = All-more P xs i 0 below so_far (exact.0 is)
 
-pub all_not : (P : ℕ → Type 0) (xs : List ℕ) (i : ℕ) (good : Bool) → i < length xs → (IsTrue good ↔ P (slice_index xs i)) → good ≡ false → IsTrue false ↔ All P xs
-all_not P xs i good below exact is = (λ t. absurd (never t), λ all. sym is ∙ exact.1 (All-get_or P xs i 0 below all))
-
 pub all_end : (P : ℕ → Type 0) (xs : List ℕ) (i : ℕ) → length xs ≤ i → All P (take i xs) → IsTrue true ↔ All P xs
 all_end P xs i past all = (λ t. subst (All P) (take_all i xs past) all, λ h. refl)
 

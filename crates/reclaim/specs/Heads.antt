@@ -1,5 +1,5 @@
 -- The heads of files: what entries tell of the lengths of these, and what the nodes in them have.
-use Rattle.std.specs.Prelude.{◌≡◌, ◌≢◌, ℕ, zero, suc, ◌+◌, ◌*◌, ◌^◌, ◌<◌, ◌==◌, ◌&&◌, nat_le, nat_lt, Bool, true, false, Option, is_some, List, length, slice_index, take, Contains, if◌then◌else◌}
+use Rattle.std.specs.Prelude.{◌≡◌, ◌≢◌, ℕ, zero, suc, ◌+◌, ◌*◌, ◌^◌, ◌<◌, ◌==◌, ◌&&◌, nat_le, nat_lt, Bool, true, false, Option, is_some, List, [], ◌∷◌, ◌++◌, length, slice_index, take, Contains, if◌then◌else◌}
 use Rattle.std.specs.List.{flat_map}
 use Rattle.std.specs.Option.{option_map_or}
 use Rattle.std.specs.FinSet as set
@@ -61,6 +61,17 @@ pub record IsNew (capacity : ℕ) (most : ℕ → ℕ) (parts : Parts) (block : 
   pub allows : most block ≡ longest_by capacity parts.index parts.used
   pub link : is_some parts.edge ≡ true → most block ≡ 0
   pub fresh : set.contains t.links.members block ≡ false
+
+-- a table took in what entries told of the heads of their files: it keeps that, or not all entries can be so
+pub record TakesHeads (capacity : ℕ) (entries : List Place) (old new : Table) (good : Bool) : Type 0 where
+  pub kept : (most : ℕ → ℕ) (seen : List ℕ) (told : List Place) → KeepsHeads capacity most seen told old → good ≡ true → KeepsHeads capacity most seen (told ++ entries) new
+  pub bad : (most : ℕ → ℕ) (seen : List ℕ) (told : List Place) → KeepsHeads capacity most seen told old → good ≡ false → FitHeads capacity most (told ++ entries) → ⊥
+
+-- and what the node in a block allows, which is not known
+pub record TakesNode (capacity block : ℕ) (parts : Parts) (old new : Table) (good : Bool) : Type 0 where
+  pub kept : (most : ℕ → ℕ) (seen : List ℕ) (told : List Place) → KeepsHeads capacity most seen told old → IsNew capacity most parts block old → good ≡ true
+      → KeepsHeads capacity most (seen ++ block ∷ []) (told ++ parts.places.items) new
+  pub bad : (most : ℕ → ℕ) (seen : List ℕ) (told : List Place) → KeepsHeads capacity most seen told old → IsNew capacity most parts block old → good ≡ false → FitHeads capacity most (told ++ parts.places.items) → ⊥
 
 -- a table whose words changed, but those of nodes of directories
 pub record KeepsLinks (old new : Table) : Type 0 where

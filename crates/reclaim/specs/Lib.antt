@@ -9,3 +9,5 @@ pub mod Heads
 pub mod MoreRoots
 pub mod Levels
 pub mod Facts
+pub mod Calls
+pub mod Verifying

@@ -13,6 +13,7 @@ use Rattle.node_format.specs.BodyNodes.{HasSlot}
 use Rattle.block_trees.specs.Chains.{link_of, next_of, link_items, is_later}
 use Rattle.reclaim.specs.Naming.{has_slot}
 use Rattle.reclaim.specs.Sound.{HoldsLink, HoldsSlot, IsHead, IsSoundBody, IsPlainNode}
+use Rattle.reclaim.specs.declared.edge.Edge.{Edge}
 use Rattle.reclaim.specs.declared.looks.Parts.{Parts}
 use Rattle.node_format.specs.declared.place.Place.TheVariants.{Dir, File}
 use Rattle.node_format.specs.declared.headers.TheConstants.{SLOTS}
@@ -64,13 +65,25 @@ IsFollowed f node = (l m : Link) → link_of node ≡ Some l → l.next ≢ 0 �
 abbrev pub is_chained : Option (List ℕ) → Bool
 is_chained node = option_map_or (λ link. link.chained) (link_of node) false
 
--- the most reads for the pointers of a node: a body node has them
+-- the most reads for the pointers of a node of this index: a body node has them
+abbrev pub index_reads : Option ℕ → ℕ
+index_reads index = option_map_or (λ i. 12) index 0
+
+-- of a node
 abbrev pub pointer_reads : Option (List ℕ) → ℕ
-pointer_reads node = option_map_or (λ index. 12) (index_of node) 0
+pointer_reads node = index_reads (index_of node)
 
 -- the reads for the node after one
 abbrev pub link_reads : ℕ → ℕ
 link_reads next = if next == 0 then 0 else 1
+
+-- for the node after one that says this
+abbrev pub edge_reads : Option Edge → ℕ
+edge_reads edge = option_map_or (λ e. link_reads e.next) edge 0
+
+-- of a look at a node with these parts
+abbrev pub parts_reads : Parts → ℕ
+parts_reads parts = index_reads parts.index + edge_reads parts.edge
 
 -- the most reads of a look at a node that was read: for its pointers, and of the node after it
 abbrev pub look_reads : Option (List ℕ) → ℕ

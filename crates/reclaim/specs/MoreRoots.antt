@@ -1,5 +1,5 @@
 -- A marking that goes on from one root more.
-use Rattle.std.specs.Prelude.{◌≡◌, ℕ, List, [], ◌∷◌, ◌++◌}
+use Rattle.std.specs.Prelude.{◌≡◌, ℕ, [], ◌∷◌, ◌++◌}
 use Rattle.reclaim.specs.Passes.{Pass, Begins}
 
 -- a root was added: it comes after the others, nothing was read, and what was marked is marked, in the same order

@@ -1,5 +1,5 @@
 -- A marking of the blocks that roots reach, in steps.
-use Rattle.std.specs.Prelude.{◌≡◌, ◌≢◌, ◌⊎◌, ◌↔◌, ℕ, ◌+◌, ◌<◌, ◌≤◌, ◌++◌, ◌-◌, ◌^◌, Bool, true, false, None, Result, Ok, List, length, slice_index, Contains, refl}
+use Rattle.std.specs.Prelude.{◌≡◌, ◌≢◌, ◌⊎◌, ◌↔◌, ℕ, ◌+◌, ◌<◌, ◌≤◌, ◌++◌, ◌-◌, ◌^◌, Bool, true, false, None, Result, Ok, IsErrOf, List, length, slice_index, Contains, refl}
 use Rattle.std.specs.Coded.{Coded, code_by, coded×, coded_ℕ, coded_list}
 use Rattle.std.specs.FinSet as set
 use Rattle.std.specs.Ordering.{nat_cmp}
@@ -73,9 +73,18 @@ pub record HasRead (f : Blocks) (p : Pass) (before after : ℕ) : Type 0 where
   pub are : AreReached f p.roots seen
   pub most : after + p.next ≤ before + length seen
 
+-- a block that the roots reach holds no node
+abbrev pub LacksNode : Blocks → List ℕ → Type 0
+LacksNode f roots = (b : ℕ) × Reached f roots b × (f b ≡ None)
+
 -- no marked block is left to be read
 abbrev pub IsFinished : Pass → Type 0
 IsFinished p = p.next ≡ length p.order
+
+-- as a pass went on, each read was of another block that the roots reach, and Damaged is answered only where one of these has no node
+pub record HasReached {T : Type 0} (f : Blocks) (p : Pass) (result : Result T Fault) (before after : ℕ) : Type 0 where
+  pub seen : HasRead f p before after
+  pub damaged : IsErrOf result Damaged → LacksNode f p.roots
 
 -- marking was refused: for memory, or for a name that is no data block
 abbrev pub IsMarkFault : ℕ → List ℕ → Fault → Type 0

@@ -1,13 +1,15 @@
 -- What a verification keeps of the nodes that it read: which are of directories, the block of the node after each of these, which
 -- of them name no directory, and which blocks are named as directories.
-use Rattle.std.specs.Prelude.{◌≡◌, ℕ, zero, suc, ◌<◌, ◌==◌, ◌&&◌, nat_lt, not, Bool, true, Option, List, length, slice_index, Contains, if◌then◌else◌}
+use Rattle.std.specs.Prelude.{◌≡◌, ◌≢◌, ℕ, zero, suc, ◌<◌, ◌==◌, ◌&&◌, nat_lt, not, is_some, Bool, true, Option, Some, List, length, slice_index, Contains, if◌then◌else◌}
+use Rattle.std.specs.Option.{option_map}
 use Rattle.std.specs.FinSet as set
 use Rattle.node_format.specs.Items.{Item}
 use Rattle.node_format.specs.declared.place.Place.TheVariants.{Dir}
 use Rattle.block_trees.specs.Bodies.{Blocks}
 use Rattle.block_trees.specs.Chains.{link_items, next_of, most_after}
 use Rattle.reclaim.specs.Sound.{HoldsLink}
-use Rattle.reclaim.specs.Passes.{Pass}
+use Rattle.reclaim.specs.Passes.{Pass, AreNoted}
+use Rattle.reclaim.specs.declared.looks.Parts.{Parts}
 use Rattle.reclaim.specs.declared.table.Table.{Table}
 
 -- the table is of so many blocks
@@ -26,6 +28,15 @@ has_link t b = nat_lt b t.links.blocks && set.contains t.links.members b
 abbrev pub ends_from : ℕ → (ℕ → Bool) → (ℕ → ℕ) → ℕ → Bool
 ends_from zero has next b = b == 0
 ends_from (suc n) has next b = if b == 0 then true else has b && ends_from n has next (next b)
+
+-- the node in a block was taken in, which has these parts and names these directories; other nodes of directories keep their words
+pub record TakesIn (old : Table) (block : ℕ) (parts : Parts) (directories : List ℕ) (new : Table) : Type 0 where
+  pub sized : IsSized old.links.blocks new
+  pub links : new.links.members ≡ (if is_some parts.edge then set.insert old.links.members block else old.links.members)
+  pub named : AreNoted old.named.members directories old.links.blocks new.named.members
+  pub quiet : new.quiet.members ≡ (if is_some parts.edge && (length directories == 0) then set.insert old.quiet.members block else old.quiet.members)
+  pub next : (n : ℕ) → option_map (λ e. e.next) parts.edge ≡ Some n → slice_index new.words.items block ≡ n
+  pub stay : (b : ℕ) → b ≢ block → set.contains old.links.members b ≡ true → slice_index new.words.items b ≡ slice_index old.words.items b
 
 -- by a table, after a node of a directory
 abbrev pub ends_after : Table → ℕ → Bool

@@ -5,7 +5,7 @@ ghost use Rattle.node_format.specs.Links.{Link, link_at};
 ghost use Rattle.block_trees.specs.Chains.{link_of};
 ghost use Rattle.node_store.specs.Fronts.{IsFront};
 ghost use Rattle.node_store.specs.Faults.{IsLookFault};
-ghost use Rattle.node_store.specs.Words.{Looks};
+ghost use Rattle.node_store.specs.Words.{LooksWithin};
 ghost use Rattle.reclaim.specs.Looks as spec;
 ghost use Rattle.fs_types.specs.declared.limits.TheConstants.{MAX_NAME_BYTES};
 
@@ -91,10 +91,7 @@ fn comes_after(front: &[u8], name: &[u8]) -> bool
 pub fn may_go_on<N: Nodes>(nodes: &mut N, edge: &Edge) -> Result<bool, Fault>
     requires { N.is_sound nodes.old }
     ensures exact { IfOk result (λ good. (edge.now.next ≢ 0 → (l : Link) → link_of (N.node nodes.old edge.now.next) ≡ Some l → good ≡ spec.may_follow edge.now.last.items (Some l)) × (edge.now.next ≡ 0 → good ≡ true)) }
-    ensures why { IfErr result (λ fault. N.causes nodes.old nodes.new fault) }
-    ensures faults { IfErr result IsLookFault }
-    ensures looks { Looks N.Nodes nodes.old nodes.new }
-    ensures reads { N.reads nodes.new ≤ N.reads nodes.old + spec.link_reads edge.now.next }
+    ensures calls { LooksWithin N.Nodes IsLookFault (spec.link_reads edge.now.next) nodes.old result nodes.new }
     ensures asks { N.asked nodes.new + N.reads nodes.old ≤ N.asked nodes.old + N.reads nodes.new }
 {
     if edge.next == 0 {

@@ -2,7 +2,7 @@
 ghost use Rattle.std.specs.Prelude.{◌≡◌, ◌≢◌, ℕ, ◌+◌, ◌≤◌, Some, None, OnOk, IfOk, IfErr, IsErrOf};
 ghost use Rattle.node_store.specs.Examining.{most_pages};
 ghost use Rattle.node_store.specs.Faults.{IsReadFault};
-ghost use Rattle.node_store.specs.Words.{Looks};
+ghost use Rattle.node_store.specs.Words.{LooksWithin};
 ghost use Rattle.reclaim.specs.Facts.{AreFacts};
 
 use crate::looks::{Parts, parts_in};
@@ -46,10 +46,7 @@ pub fn read_facts<N: Examines>(alloc: Global, nodes: &mut N, block: u32) -> Resu
 
     // Why not, and what is read.
     ensures damaged { IsErrOf result Fault.Damaged → N.node nodes.old block ≡ None }
-    ensures why { IfErr result (λ fault. fault ≢ Fault.Damaged → N.causes nodes.old nodes.new fault) }
-    ensures faults { IfErr result IsReadFault }
-    ensures looks { Looks N.Nodes nodes.old nodes.new }
-    ensures reads { N.reads nodes.new ≡ N.reads nodes.old + 1 }
+    ensures calls { LooksWithin N.Nodes IsReadFault 1 nodes.old result nodes.new }
     ensures asks { N.asked nodes.new ≤ N.asked nodes.old + most_pages (N.page nodes.old) (N.limit nodes.old) (N.node nodes.old block) }
 {
     let mut header = [0; BODY_HEADER as usize];

@@ -1,7 +1,7 @@
 //! The beginning of the node in a block.
 ghost use Rattle.std.specs.Prelude.{◌≡◌, ℕ, ◌+◌, ◌≤◌, true, false, List, Some, None, IfOk, IfErr};
 ghost use Rattle.node_store.specs.Faults.{IsLookFault};
-ghost use Rattle.node_store.specs.Words.{Looks};
+ghost use Rattle.node_store.specs.Words.{LooksWithin};
 ghost use Rattle.node_store.specs.Fronts.{IsFront};
 
 use fs_types::Fault;
@@ -18,11 +18,8 @@ pub fn brings_front<N: Nodes>(nodes: &mut N, block: u32) -> Result<bool, Fault>
     ensures none { IfOk result (λ brought. brought ≡ false → N.node nodes.old block ≡ None) }
 
     // Why not, and what is read.
-    ensures why { IfErr result (λ fault. N.causes nodes.old nodes.new fault) }
-    ensures faults { IfErr result IsLookFault }
-    ensures looks { Looks N.Nodes nodes.old nodes.new }
-    ensures reads { N.reads nodes.new ≡ N.reads nodes.old + 1 }
-    ensures asks { N.asked nodes.new ≤ N.asked nodes.old + 1 }
+    ensures calls { LooksWithin N.Nodes IsLookFault 1 nodes.old result nodes.new }
+    ensures asks { N.asked nodes.new + N.reads nodes.old ≤ N.asked nodes.old + N.reads nodes.new }
 {
     match nodes.front(block) {
         Ok(()) => Ok(true),

@@ -5,12 +5,12 @@ ghost use Rattle.fs_types.specs.declared.limits.TheConstants.{MAX_FILE_BYTES};
 ghost use Rattle.node_format.specs.Headers.{field};
 ghost use Rattle.node_format.specs.declared.headers.TheConstants.{SLOTS};
 ghost use Rattle.block_trees.specs.Bodies.{index_of, pointer_of};
-ghost use Rattle.block_trees.specs.Chains.{link_items, next_of};
+ghost use Rattle.block_trees.specs.Chains.{link_items};
 ghost use Rattle.reclaim.specs.Sound.{HoldsSlot, IsSoundBody};
 ghost use Rattle.reclaim.specs.Looks as spec;
 ghost use Rattle.reclaim.specs.Naming.{has_slot};
 ghost use Rattle.node_store.specs.Faults.{IsLookFault};
-ghost use Rattle.node_store.specs.Words.{Looks};
+ghost use Rattle.node_store.specs.Words.{LooksWithin};
 
 use crate::edge::{Edge, edge_in, is_chained, may_go_on};
 use crate::fronts::brings_front;
@@ -43,11 +43,8 @@ fn body_at<N: Nodes>(
     ensures names { IfOk result (λ found. N.node nodes.old block ≢ None → IsTrue found.1 ↔ HoldsSlot (N.node nodes.old block) 0 next) }
 
     // Why not, and what is read.
-    ensures why { IfErr result (λ fault. N.causes nodes.old nodes.new fault) }
-    ensures faults { IfErr result IsLookFault }
-    ensures looks { Looks N.Nodes nodes.old nodes.new }
-    ensures reads { N.reads nodes.new ≡ N.reads nodes.old + 1 }
-    ensures asks { N.asked nodes.new ≤ N.asked nodes.old + 1 }
+    ensures calls { LooksWithin N.Nodes IsLookFault 1 nodes.old result nodes.new }
+    ensures asks { N.asked nodes.new + N.reads nodes.old ≤ N.asked nodes.old + N.reads nodes.new }
 {
     let brought = brings_front(nodes, block)?;
     if !brought {
@@ -106,11 +103,8 @@ fn holds_slot<N: Nodes>(nodes: &mut N, block: u32, slot: usize, next: u32) -> Re
     ensures exact { IfOk result (λ holds. N.node nodes.old block ≢ None → IsTrue holds ↔ HoldsSlot (N.node nodes.old block) slot next) }
 
     // Why not, and what is read.
-    ensures why { IfErr result (λ fault. N.causes nodes.old nodes.new fault) }
-    ensures faults { IfErr result IsLookFault }
-    ensures looks { Looks N.Nodes nodes.old nodes.new }
-    ensures reads { N.reads nodes.new ≡ N.reads nodes.old + 1 }
-    ensures asks { N.asked nodes.new ≤ N.asked nodes.old + 1 }
+    ensures calls { LooksWithin N.Nodes IsLookFault 1 nodes.old result nodes.new }
+    ensures asks { N.asked nodes.new + N.reads nodes.old ≤ N.asked nodes.old + N.reads nodes.new }
 {
     let brought = brings_front(nodes, block)?;
     if !brought {
@@ -129,10 +123,7 @@ fn are_stepped<N: Nodes>(nodes: &mut N, pointers: &[u32], index: u32) -> Result<
     ensures exact { IfOk result (λ good. spec.SlotsHold (N.node nodes.old) (slice_index pointers.now) index → spec.AreSteppedTo (N.node nodes.old) (slice_index pointers.now) index 1 → IsTrue good ↔ spec.AreSteppedTo (N.node nodes.old) (slice_index pointers.now) index 12) }
 
     // Why not, and what is read.
-    ensures why { IfErr result (λ fault. N.causes nodes.old nodes.new fault) }
-    ensures faults { IfErr result IsLookFault }
-    ensures looks { Looks N.Nodes nodes.old nodes.new }
-    ensures reads { N.reads nodes.new ≤ N.reads nodes.old + 11 }
+    ensures calls { LooksWithin N.Nodes IsLookFault 11 nodes.old result nodes.new }
     ensures asks { N.asked nodes.new + N.reads nodes.old ≤ N.asked nodes.old + N.reads nodes.new }
 {
     for slot in 1..12 {
@@ -168,10 +159,7 @@ fn is_sound_body<N: Nodes>(
     ensures exact { IfOk result (λ good. spec.SlotsHold (N.node nodes.old) (slice_index pointers.now) index → IsTrue good ↔ IsSoundBody capacity (N.node nodes.old) (slice_index pointers.now) index) }
 
     // Why not, and what is read.
-    ensures why { IfErr result (λ fault. N.causes nodes.old nodes.new fault) }
-    ensures faults { IfErr result IsLookFault }
-    ensures looks { Looks N.Nodes nodes.old nodes.new }
-    ensures reads { N.reads nodes.new ≤ N.reads nodes.old + 12 }
+    ensures calls { LooksWithin N.Nodes IsLookFault 12 nodes.old result nodes.new }
     ensures asks { N.asked nodes.new + N.reads nodes.old ≤ N.asked nodes.old + N.reads nodes.new }
 {
     if index == 0 {
@@ -211,10 +199,7 @@ fn is_sound_at<N: Nodes>(
     ensures exact { IfOk result (λ good. spec.SlotsHold (N.node nodes.old) (slice_index pointers.now) index → IsTrue good ↔ spec.IsSoundAt capacity (N.node nodes.old) (slice_index pointers.now) index) }
 
     // Why not, and what is read.
-    ensures why { IfErr result (λ fault. N.causes nodes.old nodes.new fault) }
-    ensures faults { IfErr result IsLookFault }
-    ensures looks { Looks N.Nodes nodes.old nodes.new }
-    ensures reads { N.reads nodes.new ≤ N.reads nodes.old + 12 }
+    ensures calls { LooksWithin N.Nodes IsLookFault 12 nodes.old result nodes.new }
     ensures asks { N.asked nodes.new + N.reads nodes.old ≤ N.asked nodes.old + N.reads nodes.new }
 {
     if !is_short(capacity, index) {
@@ -271,10 +256,7 @@ fn are_sound_parts<N: Nodes>(
     ensures exact { IfOk result (λ good. (node : Option (List ℕ)) → spec.ArePartsOf node pointers.now index → spec.NamesNodes (N.node nodes.old) node → IsTrue good ↔ spec.AreSoundParts capacity (N.node nodes.old) node) }
 
     // Why not, and what is read.
-    ensures why { IfErr result (λ fault. N.causes nodes.old nodes.new fault) }
-    ensures faults { IfErr result IsLookFault }
-    ensures looks { Looks N.Nodes nodes.old nodes.new }
-    ensures reads { (node : Option (List ℕ)) → spec.ArePartsOf node pointers.now index → N.reads nodes.new ≤ N.reads nodes.old + spec.pointer_reads node }
+    ensures calls { LooksWithin N.Nodes IsLookFault (spec.index_reads index) nodes.old result nodes.new }
     ensures asks { N.asked nodes.new + N.reads nodes.old ≤ N.asked nodes.old + N.reads nodes.new }
 {
     match index {
@@ -291,10 +273,7 @@ fn is_followed<N: Nodes>(nodes: &mut N, edge: &Option<Edge>) -> Result<bool, Fau
     ensures exact { IfOk result (λ good. (node : Option (List ℕ)) → spec.edge_at node ≡ option_map (λ e. (e.last.items, e.next)) edge.now → spec.NextHoldsLink (N.node nodes.old) node → IsTrue good ↔ spec.IsFollowed (N.node nodes.old) node) }
 
     // Why not, and what is read.
-    ensures why { IfErr result (λ fault. N.causes nodes.old nodes.new fault) }
-    ensures faults { IfErr result IsLookFault }
-    ensures looks { Looks N.Nodes nodes.old nodes.new }
-    ensures reads { (node : Option (List ℕ)) → spec.edge_at node ≡ option_map (λ e. (e.last.items, e.next)) edge.now → N.reads nodes.new ≤ N.reads nodes.old + spec.link_reads (next_of node) }
+    ensures calls { LooksWithin N.Nodes IsLookFault (spec.edge_reads edge.now) nodes.old result nodes.new }
     ensures asks { N.asked nodes.new + N.reads nodes.old ≤ N.asked nodes.old + N.reads nodes.new }
 {
     match edge {
@@ -320,10 +299,7 @@ pub fn look<N: Nodes>(
     ensures exact { IfOk result (λ good. (node : Option (List ℕ)) → spec.Says node parts.now → spec.NamesNodes (N.node nodes.old) node → spec.NextHoldsLink (N.node nodes.old) node → IsTrue good ↔ spec.IsLooked capacity (N.node nodes.old) plain node) }
 
     // Why not, and what is read.
-    ensures why { IfErr result (λ fault. N.causes nodes.old nodes.new fault) }
-    ensures faults { IfErr result IsLookFault }
-    ensures looks { Looks N.Nodes nodes.old nodes.new }
-    ensures reads { (node : Option (List ℕ)) → spec.Says node parts.now → N.reads nodes.new ≤ N.reads nodes.old + spec.look_reads node }
+    ensures calls { LooksWithin N.Nodes IsLookFault (spec.parts_reads parts.now) nodes.old result nodes.new }
     ensures asks { N.asked nodes.new + N.reads nodes.old ≤ N.asked nodes.old + N.reads nodes.new }
 {
     if plain && parts.is_chained {

@@ -6,7 +6,8 @@ ghost use Rattle.block_trees.specs.Bodies.{index_of, pointer_of};
 ghost use Rattle.block_trees.specs.Chains.{link_items, next_of};
 ghost use Rattle.block_trees.specs.Reached.{Names};
 ghost use Rattle.node_store.specs.Faults.{IsReadFault};
-ghost use Rattle.node_store.specs.Words.{Looks};
+ghost use Rattle.node_store.specs.Words.{LooksWithin};
+ghost use Rattle.reclaim.specs.Facts.{AreNamed};
 ghost use Rattle.reclaim.specs.Kinds.{HoldsBodyNode, NamesBody, read_pages};
 ghost use Rattle.reclaim.specs.Naming.{place_names, item_names, place_heads, item_heads, place_directories, item_directories, next_names, slots_named, body_named};
 ghost use Rattle.reclaim.specs.Tables.{NamesDirectory};
@@ -182,8 +183,7 @@ pub fn list_directories(alloc: Global, bytes: &[u8]) -> Result<Vec<u32>, Fault>
 
 /// Both, of the node of some bytes.
 fn list_named(alloc: Global, bytes: &[u8]) -> Result<Named, Fault>
-    ensures blocks { IfOk result (λ n. (b : ℕ) → Contains n.blocks.items b ↔ Names (Some bytes.now) b) }
-    ensures bodies { IfOk result (λ n. (b : ℕ) → Contains n.bodies.items b ↔ NamesBody (Some bytes.now) b) }
+    ensures named { IfOk result (AreNamed (Some bytes.now)) }
     ensures memory { IfErr result (λ fault. fault ≡ Fault.NoMemory) }
 {
     let blocks = list_names(alloc, bytes)?;
@@ -196,15 +196,12 @@ fn read_whole<N: Nodes>(alloc: Global, nodes: &mut N, block: u32) -> Result<Name
     requires { N.is_sound nodes.old }
 
     // What is named.
-    ensures blocks { IfOk result (λ n. (b : ℕ) → Contains n.blocks.items b ↔ Names (N.node nodes.old block) b) }
-    ensures bodies { IfOk result (λ n. (b : ℕ) → Contains n.bodies.items b ↔ NamesBody (N.node nodes.old block) b) }
+    ensures named { IfOk result (AreNamed (N.node nodes.old block)) }
     ensures there { IfOk result (λ _. N.node nodes.old block ≢ None) }
 
     // Why not, and what is read.
     ensures damaged { IsErrOf result Fault.Damaged → N.node nodes.old block ≡ None }
-    ensures why { IfErr result (λ fault. fault ≢ Fault.Damaged → N.causes nodes.old nodes.new fault) }
-    ensures faults { IfErr result IsReadFault }
-    ensures looks { Looks N.Nodes nodes.old nodes.new }
+    ensures calls { LooksWithin N.Nodes IsReadFault 1 nodes.old result nodes.new }
     ensures reads { N.reads nodes.new ≡ N.reads nodes.old + 1 }
     ensures asks { OnOk result (N.asked nodes.new ≤ N.asked nodes.old + read_pages false (N.page nodes.old) (N.node nodes.old block)) }
 {
@@ -218,15 +215,12 @@ fn read_front<N: Nodes>(alloc: Global, nodes: &mut N, block: u32) -> Result<Name
     requires body { HoldsBodyNode (N.node nodes.old) block }
 
     // What is named.
-    ensures blocks { IfOk result (λ n. (b : ℕ) → Contains n.blocks.items b ↔ Names (N.node nodes.old block) b) }
-    ensures bodies { IfOk result (λ n. (b : ℕ) → Contains n.bodies.items b ↔ NamesBody (N.node nodes.old block) b) }
+    ensures named { IfOk result (AreNamed (N.node nodes.old block)) }
     ensures there { IfOk result (λ _. N.node nodes.old block ≢ None) }
 
     // Why not, and what is read.
     ensures damaged { IsErrOf result Fault.Damaged → N.node nodes.old block ≡ None }
-    ensures why { IfErr result (λ fault. fault ≢ Fault.Damaged → N.causes nodes.old nodes.new fault) }
-    ensures faults { IfErr result IsReadFault }
-    ensures looks { Looks N.Nodes nodes.old nodes.new }
+    ensures calls { LooksWithin N.Nodes IsReadFault 1 nodes.old result nodes.new }
     ensures reads { N.reads nodes.new ≡ N.reads nodes.old + 1 }
     ensures asks { N.asked nodes.new ≤ N.asked nodes.old + 1 }
 {
@@ -245,15 +239,12 @@ pub fn read_named<N: Nodes>(
     requires body { is_body ≡ true → HoldsBodyNode (N.node nodes.old) block }
 
     // What is named.
-    ensures blocks { IfOk result (λ n. (b : ℕ) → Contains n.blocks.items b ↔ Names (N.node nodes.old block) b) }
-    ensures bodies { IfOk result (λ n. (b : ℕ) → Contains n.bodies.items b ↔ NamesBody (N.node nodes.old block) b) }
+    ensures named { IfOk result (AreNamed (N.node nodes.old block)) }
     ensures there { IfOk result (λ _. N.node nodes.old block ≢ None) }
 
     // Why not, and what is read.
     ensures damaged { IsErrOf result Fault.Damaged → N.node nodes.old block ≡ None }
-    ensures why { IfErr result (λ fault. fault ≢ Fault.Damaged → N.causes nodes.old nodes.new fault) }
-    ensures faults { IfErr result IsReadFault }
-    ensures looks { Looks N.Nodes nodes.old nodes.new }
+    ensures calls { LooksWithin N.Nodes IsReadFault 1 nodes.old result nodes.new }
     ensures reads { N.reads nodes.new ≡ N.reads nodes.old + 1 }
     ensures asks { OnOk result (N.asked nodes.new ≤ N.asked nodes.old + read_pages is_body (N.page nodes.old) (N.node nodes.old block)) }
 {

@@ -7,10 +7,11 @@ ghost use Rattle.block_trees.specs.Reached.{Reached, Names};
 ghost use Rattle.block_trees.specs.Trees.{IsRoot};
 ghost use Rattle.node_format.specs.Headers.{body_header};
 ghost use Rattle.node_store.specs.Faults.{IsReadFault};
-ghost use Rattle.node_store.specs.Words.{Looks};
-ghost use Rattle.reclaim.specs.Kinds.{Knows, mark_pages, HasAsked};
+ghost use Rattle.node_store.specs.Words.{LooksWithin};
+ghost use Rattle.reclaim.specs.Calls.{LooksAtCost, MarksOn};
+ghost use Rattle.reclaim.specs.Kinds.{Knows};
 ghost use Rattle.reclaim.specs.MoreRoots.{AddsRoot};
-ghost use Rattle.reclaim.specs.Passes.{IsMarked, IsPass, IsFinished, HasRead, IsMarkFault, Begins, Advances, HasStepped, AreNoted};
+ghost use Rattle.reclaim.specs.Passes.{IsMarked, IsPass, IsFinished, HasRead, HasReached, LacksNode, IsMarkFault, Begins, Advances, HasStepped, AreNoted};
 
 use crate::named::{Named, read_named};
 use allocator::{BlockSet, Marks};
@@ -112,19 +113,14 @@ impl Pass {
         requires known { Knows (N.limit nodes.old) (N.node nodes.old) self.old }
 
         // The pass goes on: so many blocks are read, each for the first time.
-        ensures pass { IsPass (N.node nodes.old) self.old → OnOk result (IsPass (N.node nodes.new) self.new) }
         ensures on { Advances self.old self.new }
         ensures ends { HasStepped budget self.old self.new result }
-        ensures read { OnOk result ((N.reads nodes.new + self.old.next ≡ N.reads nodes.old + self.new.next) × HasAsked (N.page nodes.old) (N.node nodes.old) self.old self.new (N.asked nodes.old) (N.asked nodes.new) × Knows (N.limit nodes.new) (N.node nodes.new) self.new) }
-        ensures reads { N.reads nodes.new ≤ N.reads nodes.old + budget }
+        ensures read { OnOk result (MarksOn N.Nodes nodes.old nodes.new self.old self.new) }
 
-        // Whatever is answered, each read was of another block that the roots reach.
-        ensures seen { IsPass (N.node nodes.old) self.old → HasRead (N.node nodes.old) self.old (N.reads nodes.old) (N.reads nodes.new) }
-        ensures looks { Looks N.Nodes nodes.old nodes.new }
-
-        // Damaged where a block that the roots reach has no node, and only there.
-        ensures damaged { IsPass (N.node nodes.old) self.old → IsErrOf result Fault.Damaged → (b : ℕ) × Reached (N.node nodes.old) self.old.roots b × (N.node nodes.old b ≡ None) }
-        ensures refused { IfErr result (λ fault. IsReadFault fault × (fault ≢ Fault.Damaged → N.causes nodes.old nodes.new fault)) }
+        // Whatever is answered, each read was of another block that the roots reach; Damaged where one of these has no node, and
+        // only there.
+        ensures reached { IsPass (N.node nodes.old) self.old → HasReached (N.node nodes.old) self.old result (N.reads nodes.old) (N.reads nodes.new) }
+        ensures calls { LooksWithin N.Nodes IsReadFault budget nodes.old result nodes.new }
     {
         for done in 0..budget {
             if self.is_finished() {
@@ -145,16 +141,12 @@ impl Pass {
         requires known { Knows (N.limit nodes.old) (N.node nodes.old) self.old }
 
         // The pass ends, and what it reads.
-        ensures pass { OnOk result (IsPass (N.node nodes.new) self.new × IsFinished self.new) }
         ensures on { Advances self.old self.new }
-        ensures read { OnOk result ((N.reads nodes.new + self.old.next ≡ N.reads nodes.old + self.new.next) × HasAsked (N.page nodes.old) (N.node nodes.old) self.old self.new (N.asked nodes.old) (N.asked nodes.new) × Knows (N.limit nodes.new) (N.node nodes.new) self.new) }
-        ensures seen { HasRead (N.node nodes.old) self.old (N.reads nodes.old) (N.reads nodes.new) }
-        ensures looks { Looks N.Nodes nodes.old nodes.new }
+        ensures read { OnOk result (IsFinished self.new × MarksOn N.Nodes nodes.old nodes.new self.old self.new) }
 
-        // Why not.
-        ensures damaged { IsErrOf result Fault.Damaged → (b : ℕ) × Reached (N.node nodes.old) self.old.roots b × (N.node nodes.old b ≡ None) }
-        ensures why { IfErr result (λ fault. fault ≢ Fault.Damaged → N.causes nodes.old nodes.new fault) }
-        ensures faults { IfErr result IsReadFault }
+        // Why not, and what is read whatever is answered.
+        ensures damaged { IsErrOf result Fault.Damaged → LacksNode (N.node nodes.old) self.old.roots }
+        ensures calls { LooksAtCost N.Nodes IsReadFault (HasRead (N.node nodes.old) self.old) nodes.old result nodes.new }
     {
         // A step of so many reads leaves no block to be read.
         let _is_finished = self.step(nodes, u64::MAX)?;
@@ -213,16 +205,12 @@ impl Pass {
         requires known { Knows (N.limit nodes.old) (N.node nodes.old) self.old }
 
         // The pass goes on, and what it reads.
-        ensures pass { IsPass (N.node nodes.old) self.old → OnOk result (IsPass (N.node nodes.new) self.new) }
-        ensures known { OnOk result (Knows (N.limit nodes.new) (N.node nodes.new) self.new) }
         ensures on { Advances self.old self.new }
-        ensures next { OnOk result ((self.new.next ≡ self.old.next + 1) × (N.asked nodes.new ≤ N.asked nodes.old + mark_pages (N.page nodes.old) (N.node nodes.old (slice_index self.old.order self.old.next)))) }
-        ensures reads { N.reads nodes.new ≡ N.reads nodes.old + 1 }
-        ensures looks { Looks N.Nodes nodes.old nodes.new }
+        ensures read { OnOk result ((self.new.next ≡ self.old.next + 1) × MarksOn N.Nodes nodes.old nodes.new self.old self.new) }
 
         // Why not.
-        ensures damaged { IsPass (N.node nodes.old) self.old → IsErrOf result Fault.Damaged → (b : ℕ) × Reached (N.node nodes.old) self.old.roots b × (N.node nodes.old b ≡ None) }
-        ensures refused { IfErr result (λ fault. IsReadFault fault × (fault ≢ Fault.Damaged → N.causes nodes.old nodes.new fault)) }
+        ensures damaged { IsPass (N.node nodes.old) self.old → IsErrOf result Fault.Damaged → LacksNode (N.node nodes.old) self.old.roots }
+        ensures calls { LooksWithin N.Nodes IsReadFault 1 nodes.old result nodes.new }
     {
         let block = self.order[self.next];
         let is_body = self.has_front(block);

@@ -89,16 +89,10 @@ impl Table {
         requires capacity { 0 < capacity }
 
         // What is noted.
-        ensures sized { spec.IsSized self.old.links.blocks self.new }
-        ensures links { self.new.links.members ≡ (if is_some parts.now.edge then set.insert self.old.links.members block else self.old.links.members) }
-        ensures named { AreNoted self.old.named.members directories.now self.old.links.blocks self.new.named.members }
-        ensures quiet { self.new.quiet.members ≡ (if is_some parts.now.edge && (length directories.now == 0) then set.insert self.old.quiet.members block else self.old.quiet.members) }
-        ensures nexts { (n : ℕ) → option_map (λ e. e.next) parts.now.edge ≡ Some n → slice_index self.new.words.items block ≡ n }
-        ensures stay { (b : ℕ) → b ≢ block → set.contains self.old.links.members b ≡ true → slice_index self.new.words.items b ≡ slice_index self.old.words.items b }
+        ensures noted { spec.TakesIn self.old block parts.now directories.now self.new }
 
         // What is answered.
-        ensures told { (most : ℕ → ℕ) (seen : List ℕ) (told : List Place) → heads.KeepsHeads capacity most seen told self.old → heads.IsNew capacity most parts.now block self.old → result ≡ true → heads.KeepsHeads capacity most (seen ++ block ∷ []) (told ++ parts.now.places.items) self.new }
-        ensures bad { (most : ℕ → ℕ) (seen : List ℕ) (told : List Place) → heads.KeepsHeads capacity most seen told self.old → heads.IsNew capacity most parts.now block self.old → result ≡ false → heads.FitHeads capacity most (told ++ parts.now.places.items) → ⊥ }
+        ensures heads { heads.TakesNode capacity block parts.now self.old self.new result }
     {
         let is_head = self.note_longest(
             capacity,
@@ -158,8 +152,7 @@ impl Table {
         ensures same { heads.KeepsLinks self.old self.new }
 
         // What is answered.
-        ensures told { (most : ℕ → ℕ) (seen : List ℕ) (told : List Place) → heads.KeepsHeads capacity most seen told self.old → result ≡ true → heads.KeepsHeads capacity most seen (told ++ places.now) self.new }
-        ensures bad { (most : ℕ → ℕ) (seen : List ℕ) (told : List Place) → heads.KeepsHeads capacity most seen told self.old → result ≡ false → heads.FitHeads capacity most (told ++ places.now) → ⊥ }
+        ensures heads { heads.TakesHeads capacity places.now self.old self.new result }
     {
         for place in places {
             if !self.note_place(capacity, *place) {
@@ -178,8 +171,7 @@ impl Table {
         ensures same { heads.KeepsLinks self.old self.new }
 
         // What is answered.
-        ensures told { (most : ℕ → ℕ) (seen : List ℕ) (told : List Place) → heads.KeepsHeads capacity most seen told self.old → result ≡ true → heads.KeepsHeads capacity most seen (told ++ place ∷ []) self.new }
-        ensures bad { (most : ℕ → ℕ) (seen : List ℕ) (told : List Place) → heads.KeepsHeads capacity most seen told self.old → result ≡ false → heads.FitHeads capacity most (told ++ place ∷ []) → ⊥ }
+        ensures heads { heads.TakesHeads capacity (place ∷ []) self.old self.new result }
     {
         match place {
             Place::Dir { block: _ } => true,
@@ -198,8 +190,7 @@ impl Table {
         ensures same { heads.KeepsLinks self.old self.new }
 
         // What is answered.
-        ensures told { (most : ℕ → ℕ) (seen : List ℕ) (told : List Place) → heads.KeepsHeads capacity most seen told self.old → result ≡ true → heads.KeepsHeads capacity most seen (told ++ File head length ∷ []) self.new }
-        ensures bad { (most : ℕ → ℕ) (seen : List ℕ) (told : List Place) → heads.KeepsHeads capacity most seen told self.old → result ≡ false → heads.FitHeads capacity most (told ++ File head length ∷ []) → ⊥ }
+        ensures heads { heads.TakesHeads capacity (File head length ∷ []) self.old self.new result }
     {
         if head >= self.links.blocks() || self.links.contains(head) {
             return false;

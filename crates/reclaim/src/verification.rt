@@ -1,22 +1,16 @@
 //! Whether roots have trees: one look at each block that they reach, and at the depth below each root.
-ghost use Rattle.std.specs.Prelude.{◌≡◌, ◌≢◌, ◌↔◌, ℕ, ◌+◌, ◌*◌, ◌-◌, ◌≤◌, ◌<◌, true, false, None, List, length, slice_index, All, Contains, IsTrue, OnOk, IfOk, IfErr, IsErrOf};
-ghost use Rattle.std.specs.List.{sum_by};
+ghost use Rattle.std.specs.Prelude.{◌≡◌, ◌↔◌, ℕ, ◌+◌, ◌≤◌, ◌<◌, true, length, slice_index, All, Contains, IsTrue, IfOk, IsErrOf};
 ghost use Rattle.allocator.specs.Ring.{IsDataBlock};
-ghost use Rattle.node_format.specs.Headers.{body_header};
 ghost use Rattle.node_format.specs.declared.place.Place.TheVariants.{Dir};
 ghost use Rattle.block_trees.specs.Laws.{IsShallow};
-ghost use Rattle.directory.specs.Depths.{HasDirectories, AreQuiet, loud_of};
+ghost use Rattle.directory.specs.Depths.{AreQuiet};
 ghost use Rattle.directory.specs.Lookups.{LeadsToDirectories};
-ghost use Rattle.block_trees.specs.Reached.{Reached};
 ghost use Rattle.node_store.specs.Faults.{IsLookFault, IsReadFault};
-ghost use Rattle.node_store.specs.Words.{Looks};
-ghost use Rattle.reclaim.specs.Heads.{HeadsAreTold};
-ghost use Rattle.reclaim.specs.Levels.{AreLeveled};
-ghost use Rattle.reclaim.specs.Looks.{NamesNodes, NextHoldsLink, IsLooked};
-ghost use Rattle.reclaim.specs.Passes.{IsPass, IsFinished, Advances};
-ghost use Rattle.reclaim.specs.Sound.{IsPlain};
-ghost use Rattle.reclaim.specs.Tables.{IsTold};
-ghost use Rattle.reclaim.specs.Verified.{AreRoots, AreAllowed, AreLooked, AreWhole, HasCost, once_reads, once_pages, all_reads, all_pages};
+ghost use Rattle.node_store.specs.Words.{LooksWithin};
+ghost use Rattle.reclaim.specs.Calls.{LooksAtCost};
+ghost use Rattle.reclaim.specs.Passes.{IsPass, IsFinished, Advances, LacksNode};
+ghost use Rattle.reclaim.specs.Verified.{AreAllowed, HasCost, once_reads, once_pages, all_reads, all_pages};
+ghost use Rattle.reclaim.specs.Verifying.{IsVerifying, HasLookedAt, HasLookedAtAll, IsWholeOrNot, ReadsDepths};
 ghost use Rattle.fs_types.specs.declared.limits.TheConstants.{MAX_NAMES};
 
 use crate::edge::next_in;
@@ -66,10 +60,7 @@ fn are_shallow<N: Nodes>(
     requires quiet { AreQuiet (N.node nodes.old) quiet.now.members nexts.now }
     requires whole { (root : ℕ) → Contains roots.now root → LeadsToDirectories (N.node nodes.old) root }
     ensures exact { IfOk result (λ good. IsTrue good ↔ All (λ root. IsShallow (N.node nodes.old) (Dir root) MAX_NAMES) roots.now) }
-    ensures why { IfErr result (λ fault. N.causes nodes.old nodes.new fault) }
-    ensures faults { IfErr result IsLookFault }
-    ensures looks { Looks N.Nodes nodes.old nodes.new }
-    ensures reads { (all : List ℕ) → HasDirectories (N.node nodes.old) (N.blocks nodes.old) roots.now all → N.reads nodes.new ≤ N.reads nodes.old + (16 * length (loud_of quiet.now.members all) + length all) }
+    ensures calls { LooksAtCost N.Nodes IsLookFault (ReadsDepths (N.node nodes.old) (N.blocks nodes.old) roots.now quiet.now.members) nodes.old result nodes.new }
 {
     if is_known {
         return Ok(true);
@@ -90,28 +81,17 @@ fn look_at_next<N: Examines>(
     levels: &mut Levels,
 ) -> Result<bool, Fault>
     requires sound { N.is_sound nodes.old }
-    requires blocks { pass.old.blocks ≡ N.blocks nodes.old }
     requires left { (pass.old.next < length pass.old.order) × (block ≡ slice_index pass.old.order pass.old.next) }
-    requires pass { IsPass (N.node nodes.old) pass.old }
-    requires told { IsTold (N.node nodes.old) pass.old table.old }
-    requires heads { HeadsAreTold (N.limit nodes.old - body_header) (N.node nodes.old) pass.old table.old }
-    requires leveled { AreLeveled (N.node nodes.old) pass.old levels.old }
+    requires verifying { IsVerifying (N.blocks nodes.old) (N.limit nodes.old) (N.node nodes.old) pass.old table.old levels.old }
 
     // The pass goes on, and what is found.
-    ensures pass { OnOk result (IsPass (N.node nodes.new) pass.new × IsTold (N.node nodes.new) pass.new table.new) }
     ensures on { Advances pass.old pass.new }
-    ensures next { OnOk result (pass.new.next ≡ pass.old.next + 1) }
-    ensures leveled { OnOk result (AreLeveled (N.node nodes.old) pass.new levels.new) }
-    ensures heads { IfOk result (λ good. good ≡ true → HeadsAreTold (N.limit nodes.old - body_header) (N.node nodes.old) pass.new table.new) }
-    ensures looked { IfOk result (λ good. good ≡ true → NamesNodes (N.node nodes.old) (N.node nodes.old block) → NextHoldsLink (N.node nodes.old) (N.node nodes.old block) → IsLooked (N.limit nodes.old - body_header) (N.node nodes.old) plain (N.node nodes.old block)) }
-    ensures bad { IfOk result (λ good. good ≡ false → AreAllowed (N.limit nodes.old) (N.node nodes.old) pass.old.roots plain → ⊥) }
+    ensures looked { IfOk result (HasLookedAt (N.limit nodes.old) (N.node nodes.old) plain block pass.old pass.new table.new levels.new) }
 
     // Why not, and what is read.
-    ensures damaged { IsErrOf result Fault.Damaged → (b : ℕ) × Reached (N.node nodes.old) pass.old.roots b × (N.node nodes.old b ≡ None) }
-    ensures why { IfErr result (λ fault. fault ≢ Fault.Damaged → N.causes nodes.old nodes.new fault) }
-    ensures faults { IfErr result IsReadFault }
-    ensures looks { Looks N.Nodes nodes.old nodes.new }
-    ensures reads { (N.reads nodes.new ≤ N.reads nodes.old + once_reads (N.node nodes.old block)) × (N.asked nodes.new ≤ N.asked nodes.old + once_pages (N.page nodes.old) (N.limit nodes.old) (N.node nodes.old block)) }
+    ensures damaged { IsErrOf result Fault.Damaged → LacksNode (N.node nodes.old) pass.old.roots }
+    ensures calls { LooksWithin N.Nodes IsReadFault (once_reads (N.node nodes.old block)) nodes.old result nodes.new }
+    ensures asks { N.asked nodes.new ≤ N.asked nodes.old + once_pages (N.page nodes.old) (N.limit nodes.old) (N.node nodes.old block) }
 {
     let capacity = nodes.block_bytes() - BODY_HEADER;
     let facts = read_facts(alloc, nodes, block)?;
@@ -139,27 +119,16 @@ fn look_at_all<N: Examines>(
     levels: &mut Levels,
 ) -> Result<bool, Fault>
     requires sound { N.is_sound nodes.old }
-    requires blocks { pass.old.blocks ≡ N.blocks nodes.old }
-    requires pass { IsPass (N.node nodes.old) pass.old }
-    requires told { IsTold (N.node nodes.old) pass.old table.old }
-    requires heads { HeadsAreTold (N.limit nodes.old - body_header) (N.node nodes.old) pass.old table.old }
-    requires leveled { AreLeveled (N.node nodes.old) pass.old levels.old }
+    requires verifying { IsVerifying (N.blocks nodes.old) (N.limit nodes.old) (N.node nodes.old) pass.old table.old levels.old }
     requires begun { pass.old.next ≡ 0 }
 
     // All was read and is sound, or some is not.
-    ensures leveled { OnOk result (AreLeveled (N.node nodes.old) pass.new levels.new) }
-    ensures told { OnOk result (IsPass (N.node nodes.new) pass.new × IsTold (N.node nodes.new) pass.new table.new) }
-    ensures looked { IfOk result (λ good. good ≡ true → IsFinished pass.new × AreLooked (N.limit nodes.old - body_header) (N.node nodes.old) plain pass.new × (N.reads nodes.new ≤ N.reads nodes.old + sum_by (λ b. once_reads (N.node nodes.old b)) pass.new.order) × (N.asked nodes.new ≤ N.asked nodes.old + sum_by (λ b. once_pages (N.page nodes.old) (N.limit nodes.old) (N.node nodes.old b)) pass.new.order)) }
-    ensures heads { IfOk result (λ good. good ≡ true → HeadsAreTold (N.limit nodes.old - body_header) (N.node nodes.old) pass.new table.new) }
-    ensures bad { IfOk result (λ good. good ≡ false → AreAllowed (N.limit nodes.old) (N.node nodes.old) pass.old.roots plain → ⊥) }
     ensures on { Advances pass.old pass.new }
+    ensures looked { IfOk result (HasLookedAtAll N.Nodes plain nodes.old nodes.new pass.old pass.new table.new levels.new) }
 
     // Why not, and what is read.
-    ensures damaged { IsErrOf result Fault.Damaged → (b : ℕ) × Reached (N.node nodes.old) pass.old.roots b × (N.node nodes.old b ≡ None) }
-    ensures why { IfErr result (λ fault. fault ≢ Fault.Damaged → N.causes nodes.old nodes.new fault) }
-    ensures faults { IfErr result IsReadFault }
-    ensures looks { Looks N.Nodes nodes.old nodes.new }
-    ensures reads { HasCost once_reads (N.node nodes.old) pass.old.roots (N.reads nodes.old) (N.reads nodes.new) }
+    ensures damaged { IsErrOf result Fault.Damaged → LacksNode (N.node nodes.old) pass.old.roots }
+    ensures calls { LooksAtCost N.Nodes IsReadFault (HasCost once_reads (N.node nodes.old) pass.old.roots) nodes.old result nodes.new }
     ensures asks { HasCost (once_pages (N.page nodes.old) (N.limit nodes.old)) (N.node nodes.old) pass.old.roots (N.asked nodes.old) (N.asked nodes.new) }
 {
     while let Some(block) = pass.next_block() {
@@ -182,25 +151,16 @@ fn are_whole<N: Examines>(
     levels: &mut Levels,
 ) -> Result<bool, Fault>
     requires sound { N.is_sound nodes.old }
-    requires blocks { pass.old.blocks ≡ N.blocks nodes.old }
-    requires pass { IsPass (N.node nodes.old) pass.old }
-    requires told { IsTold (N.node nodes.old) pass.old table.old }
-    requires heads { HeadsAreTold (N.limit nodes.old - body_header) (N.node nodes.old) pass.old table.old }
-    requires leveled { AreLeveled (N.node nodes.old) pass.old levels.old }
+    requires verifying { IsVerifying (N.blocks nodes.old) (N.limit nodes.old) (N.node nodes.old) pass.old table.old levels.old }
     requires begun { (pass.old.roots ≡ roots.now) × (pass.old.next ≡ 0) }
 
     // What is answered, and the pass.
-    ensures leveled { OnOk result (AreLeveled (N.node nodes.old) pass.new levels.new) }
-    ensures whole { IfOk result (λ good. good ≡ true → IsPass (N.node nodes.old) pass.new × IsFinished pass.new × AreWhole (N.limit nodes.old) (N.node nodes.old) roots.now plain × IsTold (N.node nodes.old) pass.new table.new × (N.reads nodes.new ≤ N.reads nodes.old + sum_by (λ b. once_reads (N.node nodes.old b)) pass.new.order) × (N.asked nodes.new ≤ N.asked nodes.old + sum_by (λ b. once_pages (N.page nodes.old) (N.limit nodes.old) (N.node nodes.old b)) pass.new.order)) }
-    ensures bad { IfOk result (λ good. good ≡ false → AreAllowed (N.limit nodes.old) (N.node nodes.old) roots.now plain → ⊥) }
     ensures on { Advances pass.old pass.new }
+    ensures whole { IfOk result (IsWholeOrNot N.Nodes roots.now plain nodes.old nodes.new pass.new table.new levels.new) }
 
     // Why not, and what is read.
-    ensures damaged { IsErrOf result Fault.Damaged → (b : ℕ) × Reached (N.node nodes.old) roots.now b × (N.node nodes.old b ≡ None) }
-    ensures why { IfErr result (λ fault. fault ≢ Fault.Damaged → N.causes nodes.old nodes.new fault) }
-    ensures faults { IfErr result IsReadFault }
-    ensures looks { Looks N.Nodes nodes.old nodes.new }
-    ensures reads { HasCost once_reads (N.node nodes.old) roots.now (N.reads nodes.old) (N.reads nodes.new) }
+    ensures damaged { IsErrOf result Fault.Damaged → LacksNode (N.node nodes.old) roots.now }
+    ensures calls { LooksAtCost N.Nodes IsReadFault (HasCost once_reads (N.node nodes.old) roots.now) nodes.old result nodes.new }
     ensures asks { HasCost (once_pages (N.page nodes.old) (N.limit nodes.old)) (N.node nodes.old) roots.now (N.asked nodes.old) (N.asked nodes.new) }
 {
     let are_looked = look_at_all(alloc, nodes, plain, pass, table, levels)?;
@@ -232,16 +192,13 @@ pub fn verify<N: Examines>(
     requires blocks { blocks ≡ N.blocks nodes.old }
 
     // The pass, and what its roots have.
-    ensures trees { IfOk result (λ _. AreRoots (N.limit nodes.old) (N.node nodes.old) roots.now × (plain ≡ true → IsPlain (N.node nodes.old) roots.now)) }
+    ensures trees { IfOk result (λ _. AreAllowed (N.limit nodes.old) (N.node nodes.old) roots.now plain) }
     ensures pass { IfOk result (λ p. IsPass (N.node nodes.new) p × IsFinished p) }
     ensures of { IfOk result (λ p. (p.blocks ≡ blocks) × (p.roots ≡ roots.now)) }
 
     // Why not, and what is read.
-    ensures damaged { IsErrOf result Fault.Damaged → AreRoots (N.limit nodes.old) (N.node nodes.old) roots.now × (plain ≡ true → IsPlain (N.node nodes.old) roots.now) → ⊥ }
-    ensures why { IfErr result (λ fault. fault ≢ Fault.Damaged → N.causes nodes.old nodes.new fault) }
-    ensures faults { IfErr result IsReadFault }
-    ensures looks { Looks N.Nodes nodes.old nodes.new }
-    ensures reads { HasCost all_reads (N.node nodes.old) roots.now (N.reads nodes.old) (N.reads nodes.new) }
+    ensures damaged { IsErrOf result Fault.Damaged → AreAllowed (N.limit nodes.old) (N.node nodes.old) roots.now plain → ⊥ }
+    ensures calls { LooksAtCost N.Nodes IsReadFault (HasCost all_reads (N.node nodes.old) roots.now) nodes.old result nodes.new }
     ensures asks { HasCost (all_pages (N.page nodes.old) (N.limit nodes.old)) (N.node nodes.old) roots.now (N.asked nodes.old) (N.asked nodes.new) }
 {
     if !are_data_blocks(blocks, roots) {

@@ -1,3 +1,4 @@
+pub mod CalmLaws
 pub mod PlanLemmas
 pub mod ScriptLaws
 pub mod SpaceLines

@@ -240,7 +240,7 @@ lenient_failure start end input left fault old new h =
 
 -- the lines of a reader on what was mounted on a flash
 pub script_ends : (stop : Bool) (start mid end : Ground) (m : System) (s : Option System) (input left : Option (List ℕ)) (result : Result (Option Stop) ScriptFault) (old new : Option (List ℕ))
-    → OnlyReads start.device mid.device → IsMountOf start.device mid.device m → IsSystem mid.device m → PlanGoesOn start.device.operations start.plan mid.device.operations mid.plan
+    → OnlyReads start.device mid.device → IsMountOf start.device mid.device m → IsSystem mid.device m → PlanGoesOn start.device start.plan mid.device mid.plan
     → LinesEnd stop (seat_at mid.device (Some m) mid.plan) (streams_at input old) result (streams_at left new) (seat_at end.device s end.plan) → ScriptEndsOn stop start end (streams_at input old) result (streams_at left new)
 script_ends stop start mid end m s input left result old new reads begins system plan h =
     stops_map stop (Carried (seat_at mid.device (Some m) mid.plan) (seat_at end.device s end.plan)) (SessionOn start end) (λ fault. ⊥) (IsRefusedOn start end) session (λ fault none. absurd none) input left result old new h

@@ -1,11 +1,9 @@
 -- A script that is run on a flash in memory of its own.
 use Rattle.std.specs.Prelude.{◌≡◌, ◌⊎◌, ℕ, Result, List}
 use Rattle.fs_types.specs.declared.fault.Fault.{Fault}
-use Rattle.flash_model.specs.Simulation.{device_of}
 use Rattle.flash_model.specs.declared.sim_flash.SimFlash.{SimFlash}
 use Rattle.flash_model.specs.declared.geometry.Geometry.{Geometry}
-use Rattle.mounting.specs.Formats.{FormatCause}
-use Rattle.script_runs.specs.Flashes.{IsNewFlash, IsFormatOf}
+use Rattle.script_runs.specs.Flashes.{IsNewFlash, IsFormatOf, IsUnformatted}
 use Rattle.script_runs.specs.Plans.{FollowsPlan}
 use Rattle.script_runs.specs.Scripts.{Streams, EndsBy, IsUnmounted, LineSession}
 use Rattle.script.specs.declared.line_answer.LineAnswer.{LineAnswer}
@@ -27,8 +25,8 @@ NewSession sizes lines answers =
 -- why no system was made: for want of memory for the flash; or since it was not formatted, or not mounted then
 abbrev pub NewCause : Geometry → Fault → Type 0
 NewCause sizes fault = (fault ≡ Fault.NoMemory)
-    ⊎ (((start : SimFlash) × (end : SimFlash) × IsNewFlash sizes start × FormatCause (device_of start) kept_versions fault (device_of end))
-    ⊎ ((start : SimFlash) × (formatted : SimFlash) × (end : SimFlash) × IsNewFlash sizes start × IsFormatOf kept_versions start formatted × IsUnmounted formatted end fault))
+    ⊎ (((start : SimFlash) × (end : SimFlash) × IsNewFlash sizes start × IsUnformatted kept_versions start end fault)
+    ⊎ ((start : SimFlash) × (formatted : SimFlash) × (end : SimFlash) × IsNewFlash sizes start × IsFormatOf kept_versions start formatted × FollowsPlan start formatted × IsUnmounted formatted end fault))
 
 -- how a script ends on a new flash of its own
 abbrev pub EndsInMemory : Geometry → Streams → Result (Unit {0}) ScriptFault → Streams → Type 0

@@ -1,5 +1,5 @@
 -- Scripts: what each line does and is answered, and what was read, carried out and written where a script ends.
-use Rattle.std.specs.Prelude.{◌≡◌, ◌==◌, ℕ, suc, map, Bool, IsTrue, Option, Some, None, Result, Ok, Err, IfSome, List, [], ◌∷◌, ◌++◌, take, length, ◌⊎◌}
+use Rattle.std.specs.Prelude.{◌≡◌, ◌≢◌, ◌==◌, ℕ, suc, map, Bool, IsTrue, Option, Some, None, Result, Ok, Err, IfSome, List, [], ◌∷◌, ◌++◌, take, length, ◌⊎◌}
 use Rattle.std.specs.List.{flat_map, enumerate_from, zip}
 use Rattle.std.specs.Io.KnownBytes.{Consumes, IsAtEnd, Appends}
 use Rattle.history_machine.specs.History.{Past}
@@ -10,7 +10,7 @@ use Rattle.fs_types.specs.declared.call.Version.{Version}
 use Rattle.fs_types.specs.declared.event.Event.{Event}
 use Rattle.fs_types.specs.declared.event.Answer.{Answer}
 use Rattle.fs_types.specs.declared.fault.Fault.{Fault}
-use Rattle.fs_types.specs.declared.fault.Fault.TheVariants.{NoMemory}
+use Rattle.fs_types.specs.declared.fault.Fault.TheVariants.{ReadFailed, PowerCut, NoMemory}
 use Rattle.flash_model.specs.Device.{Device}
 use Rattle.flash_model.specs.Plan.{Schedule, planned, IsPlanFull}
 use Rattle.flash_model.specs.Reading.{OnlyReads}
@@ -35,7 +35,7 @@ use Rattle.undofs.specs.Runs.{World, Mounts}
 use Rattle.undofs.specs.Sessions.{Session}
 use Rattle.undofs.specs.declared.asks.Ask.{Ask}
 use Rattle.undofs.specs.declared.asks.Told.{Told}
-use Rattle.script_runs.specs.Plans.{PlanGoesOn}
+use Rattle.script_runs.specs.Plans.{PlanGoesOn, IsCalm}
 use Rattle.script_runs.specs.declared.scripts.Refusal.{Refusal}
 use Rattle.script_runs.specs.declared.scripts.ScriptFault.{ScriptFault}
 use Rattle.script_runs.specs.declared.scripts.Stop.{Stop}
@@ -93,7 +93,7 @@ IsStillAnswer _ old answer new = (answer ≡ LineAnswer.Syntax) × (new ≡ old)
 -- comes due, and without it the world stays
 abbrev pub RepliesBy : Option Ask → Line → Scene → LineAnswer → Scene → Type 0
 RepliesBy (Some ask) line s answer t =
-    (told : Told) × HappensAsk s.world ask told t.world × Tells t.world.system told answer × PlanGoesOn s.world.device.operations s.plan t.world.device.operations t.plan
+    (told : Told) × HappensAsk s.world ask told t.world × Tells t.world.system told answer × PlanGoesOn s.world.device s.plan t.world.device t.plan
 RepliesBy None line s answer t = (t.world ≡ s.world) × IsStillAnswer line s.plan answer t.plan
 
 -- a line is carried out, and so answered
@@ -182,7 +182,7 @@ pub record SessionOn (start end : Ground) (lines : List (List ℕ)) (answers : L
   pub last : Scene
   pub saved : saved_trees start.device ≡ Some history
   pub mounts : Mounts start.device (history ∷ []) Answer.Mounted first.world
-  pub begins : PlanGoesOn start.device.operations start.plan first.world.device.operations first.plan
+  pub begins : PlanGoesOn start.device start.plan first.world.device first.plan
   pub carried : CarriesOut first lines answers last
   pub ends : last.world.device ≡ end.device
   pub plan : last.plan ≡ end.plan
@@ -194,7 +194,7 @@ pub record IsLeft (d e : Device) (fault : Fault) : Type 0 where
 
 -- and its plan went on by these reads
 abbrev pub IsRefusedOn : Ground → Ground → Fault → Type 0
-IsRefusedOn start end fault = IsLeft start.device end.device fault × PlanGoesOn start.device.operations start.plan end.device.operations end.plan
+IsRefusedOn start end fault = IsLeft start.device end.device fault × PlanGoesOn start.device start.plan end.device end.plan
 
 -- how a script ends that found and leaves these flashes
 abbrev pub EndsOnFlash : Ground → Ground → Streams → Result (Unit {0}) ScriptFault → Streams → Type 0
@@ -205,7 +205,12 @@ abbrev pub LineSession : SimFlash → SimFlash → List (List ℕ) → List Line
 LineSession start end = SessionOn (ground start) (ground end)
 
 abbrev pub IsUnmounted : SimFlash → SimFlash → Fault → Type 0
-IsUnmounted start end fault = IsLeft (device_of start) (device_of end) fault
+IsUnmounted start end = IsRefusedOn (ground start) (ground end)
+
+-- where no fault is planned, no read fails and power is not lost: a mount is refused for neither
+abbrev pub CalmMountLaw : Type 0
+CalmMountLaw = (start end : SimFlash) (fault : Fault) → IsCalm (device_of start) (plan_of start) → IsUnmounted start end fault
+    → (fault ≢ ReadFailed) × (fault ≢ PowerCut)
 
 abbrev pub EndsOnSimFlash : SimFlash → SimFlash → Streams → Result (Unit {0}) ScriptFault → Streams → Type 0
 EndsOnSimFlash start end = EndsOnFlash (ground start) (ground end)

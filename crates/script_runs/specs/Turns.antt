@@ -47,7 +47,7 @@ scene_at s found = record { world = world_at s found; plan = s.plan }
 -- what is asked is done, and the line is answered what is told of it
 abbrev pub Asks : Ask → Seat → LineAnswer → Seat → Type 0
 Asks ask s answer t =
-    (told : Told) × ServesAsk s.device s.system ask told t.device t.system × Tells t.system told answer × PlanGoesOn s.device.operations s.plan t.device.operations t.plan
+    (told : Told) × ServesAsk s.device s.system ask told t.device t.system × Tells t.system told answer × PlanGoesOn s.device s.plan t.device t.plan
 
 abbrev pub DoesBy : Option Ask → Line → Seat → LineAnswer → Seat → Type 0
 DoesBy (Some ask) line s answer t = Asks ask s answer t

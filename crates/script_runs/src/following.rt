@@ -1,6 +1,9 @@
 //! A planned flash of which the plan of faults is known after each call. The contracts of calls on any
 //! flash say nothing of a plan; here they run on a flash whose every operation keeps account of it.
-ghost use Rattle.std.specs.Prelude.{◌≡◌, ℕ, [], IfSome, IfOk, OnOk, IfErr};
+ghost use Rattle.std.specs.Prelude.{◌≡◌, ◌<◌, ◌⊎◌, ◌↔◌, ℕ, false, [], Err, IfSome, IfOk, OnOk, IfErr};
+ghost use Rattle.fs_types.specs.declared.limits.TheConstants.{MIN_VERSIONS, MAX_VERSIONS};
+ghost use Rattle.flash_model.specs.Device.{Device, erased};
+ghost use Rattle.flash_model.specs.Geometry.{IsGeometry};
 ghost use Rattle.flash_model.specs.Plan.{Schedule, plan_of_entries};
 ghost use Rattle.flash_model.specs.Reading.{OnlyReads};
 ghost use Rattle.mounting.specs.Formats.{IsFormatted, ListsFailed, IsNumbered, FormatCause};
@@ -15,37 +18,39 @@ use std::alloc::Global;
 use std::marker::{Brand, PhantomData};
 use undofs::{Ask, System, Told, format, mount, serve_ask};
 
-/// A flash at one moment: the name of the reference to it, its plan, and how many operations it did.
-trait Start {
+/// A flash at one moment: the name of the reference to it, the device, and its plan.
+pub trait Start {
     ghost name: { ℕ };
 
-    ghost plan: { Schedule };
+    ghost device: { Device };
 
-    ghost done: { ℕ };
+    ghost plan: { Schedule };
 }
 
 impl Start for Brand {
     ghost name = { 0 };
 
-    ghost plan = { plan_of_entries [] };
+    ghost device = { record { geometry = record { page = 0; pages = 0; blocks = 0 }; pages = λ page. erased; powered = false; worn = λ block. false; failed_reads = 0; failures = 0; cuts = 0; operations = 0 } };
 
-    ghost done = { 0 };
+    ghost plan = { plan_of_entries [] };
 }
 
-/// A flash whose plan has gone on from what it was at the start.
+/// A flash whose plan has gone on from what it was at the start. What works on any flash works on it, and
+/// what that leaves of the plan is known when the flash is given back.
 #[derive(Drop)]
-struct Following<'f, F: Planned, S: Start> {
+pub struct Following<'f, F: Planned, S: Start> {
     flash: &'f mut F,
     start: PhantomData<S>,
     ghost same_flash: { flash.ghost_name ≡ S.name },
-    ghost goes_on: { GoesOn S.done S.plan (F.device flash.now).operations (F.schedule flash.now) },
+    ghost goes_on: { GoesOn S.device S.plan (F.device flash.now) (F.schedule flash.now) },
 }
 
 impl<'f, F: Planned, S: Start> Following<'f, F, S> {
-    fn on(flash: &'f mut F) -> Following<'f, F, S>
+    /// A flash at its start.
+    pub fn on(flash: &'f mut F) -> Following<'f, F, S>
         requires name { flash.ghost_name ≡ S.name }
         requires plan { F.schedule flash.old ≡ S.plan }
-        requires done { (F.device flash.old).operations ≡ S.done }
+        requires device { F.device flash.old ≡ S.device }
         ensures same { result.flash.now ≡ flash.old }
         ensures same_flash { result.flash.ghost_name ≡ flash.entry.ghost_name }
     {
@@ -53,6 +58,16 @@ impl<'f, F: Planned, S: Start> Following<'f, F, S> {
             flash,
             start: PhantomData,
         }
+    }
+
+    /// Gives the flash back.
+    pub fn into_flash(self) -> &'f mut F
+        ensures same { result ≡ self.entry.flash }
+        ensures same_flash { result.ghost_name ≡ S.name }
+        ensures plan { GoesOn S.device S.plan (F.device result.now) (F.schedule result.now) }
+    {
+        let Following { flash, .. } = self;
+        flash
     }
 }
 
@@ -92,7 +107,7 @@ pub(crate) fn serve_as_planned<F: Planned>(
     requires { IfSome system.old (IsSystem (F.device flash.old)) }
     ensures mounted { IfSome system.new (IsSystem (F.device flash.new)) }
     ensures serves { ServesAsk (F.device flash.old) system.old ask.now result (F.device flash.new) system.new }
-    ensures plan { GoesOn (F.device flash.old).operations (F.schedule flash.old) (F.device flash.new).operations (F.schedule flash.new) }
+    ensures plan { GoesOn (F.device flash.old) (F.schedule flash.old) (F.device flash.new) (F.schedule flash.new) }
 {
     let mut told = Told::Answer(Answer::Unmounted);
     let _flash = serve_from::<F, Brand>(alloc, flash, system, ask, &mut told);
@@ -110,7 +125,7 @@ fn serve_from<'f, F: Planned, S: Start>(
     requires mounted { IfSome system.old (IsSystem (F.device flash.old)) }
     requires name { flash.ghost_name ≡ S.name }
     requires plan { F.schedule flash.old ≡ S.plan }
-    requires done { (F.device flash.old).operations ≡ S.done }
+    requires device { F.device flash.old ≡ S.device }
 
     // It is done.
     ensures same_flash { result.ghost_name ≡ flash.entry.ghost_name }
@@ -118,7 +133,7 @@ fn serve_from<'f, F: Planned, S: Start>(
     ensures serves { ServesAsk (F.device flash.entry.now) system.old ask.now told.new (F.device result.now) system.new }
 
     // The plan went on.
-    ensures plan { GoesOn S.done S.plan (F.device result.now).operations (F.schedule result.now) }
+    ensures plan { GoesOn S.device S.plan (F.device result.now) (F.schedule result.now) }
 {
     let mut following: Following<'f, F, S> = Following::on(flash);
     *told = serve_ask(alloc, &mut following, system, ask);
@@ -126,13 +141,14 @@ fn serve_from<'f, F: Planned, S: Start>(
     flash
 }
 
-/// Mounts what the newest record of a flash holds, as [`mount`] does.
-pub(crate) fn mount_as_planned<F: Planned>(alloc: Global, flash: &mut F) -> Result<System, Fault>
+/// Mounts what the newest record of a flash holds, as [`mount`] does. The plan goes on by what that asks
+/// of the flash, so that where no fault is planned none comes.
+pub fn mount_as_planned<F: Planned>(alloc: Global, flash: &mut F) -> Result<System, Fault>
     ensures ok { IfOk result (IsMountOf (F.device flash.old) (F.device flash.new)) }
     ensures system { IfOk result (IsSystem (F.device flash.new)) }
     ensures only_reads { OnlyReads (F.device flash.old) (F.device flash.new) }
     ensures why { IfErr result (MountCause (F.device flash.old) (F.device flash.new)) }
-    ensures plan { GoesOn (F.device flash.old).operations (F.schedule flash.old) (F.device flash.new).operations (F.schedule flash.new) }
+    ensures plan { GoesOn (F.device flash.old) (F.schedule flash.old) (F.device flash.new) (F.schedule flash.new) }
 {
     let mut mounted = Err(Fault::NoRecord);
     let _flash = mount_from::<F, Brand>(alloc, flash, &mut mounted);
@@ -147,7 +163,7 @@ fn mount_from<'f, F: Planned, S: Start>(
 ) -> &'f mut F
     requires name { flash.ghost_name ≡ S.name }
     requires plan { F.schedule flash.old ≡ S.plan }
-    requires done { (F.device flash.old).operations ≡ S.done }
+    requires device { F.device flash.old ≡ S.device }
 
     // What is mounted, by reads alone, or why not.
     ensures same_flash { result.ghost_name ≡ flash.entry.ghost_name }
@@ -157,7 +173,7 @@ fn mount_from<'f, F: Planned, S: Start>(
     ensures why { IfErr mounted.new (MountCause (F.device flash.entry.now) (F.device result.now)) }
 
     // The plan went on.
-    ensures plan { GoesOn S.done S.plan (F.device result.now).operations (F.schedule result.now) }
+    ensures plan { GoesOn S.device S.plan (F.device result.now) (F.schedule result.now) }
 {
     let mut following: Following<'f, F, S> = Following::on(flash);
     *mounted = mount(alloc, &mut following);
@@ -165,8 +181,9 @@ fn mount_from<'f, F: Planned, S: Start>(
     flash
 }
 
-/// Makes an empty file system on a flash, as [`format`] does.
-pub(crate) fn format_as_planned<F: Planned>(
+/// Makes an empty file system on a flash, as [`format`] does. The plan goes on by what that asks of the
+/// flash, so that where no fault is planned none comes.
+pub fn format_as_planned<F: Planned>(
     alloc: Global,
     flash: &mut F,
     limit: u32,
@@ -176,7 +193,8 @@ pub(crate) fn format_as_planned<F: Planned>(
     ensures listed { OnOk result (ListsFailed (F.device flash.old) (F.device flash.new)) }
     ensures numbered { OnOk result (IsNumbered (F.device flash.old) (F.device flash.new)) }
     ensures why { IfErr result (λ fault. FormatCause (F.device flash.old) limit fault (F.device flash.new)) }
-    ensures plan { GoesOn (F.device flash.old).operations (F.schedule flash.old) (F.device flash.new).operations (F.schedule flash.new) }
+    ensures limits { (result ≡ Err Fault.Invalid) ↔ (IsGeometry (F.device flash.old).geometry × ((limit < MIN_VERSIONS) ⊎ (MAX_VERSIONS < limit))) }
+    ensures plan { GoesOn (F.device flash.old) (F.schedule flash.old) (F.device flash.new) (F.schedule flash.new) }
 {
     let mut formatted = Ok(());
     let _flash = format_from::<F, Brand>(alloc, flash, limit, &mut formatted);
@@ -192,7 +210,7 @@ fn format_from<'f, F: Planned, S: Start>(
 ) -> &'f mut F
     requires name { flash.ghost_name ≡ S.name }
     requires plan { F.schedule flash.old ≡ S.plan }
-    requires done { (F.device flash.old).operations ≡ S.done }
+    requires device { F.device flash.old ≡ S.device }
 
     // What is formatted, or why not.
     ensures same_flash { result.ghost_name ≡ flash.entry.ghost_name }
@@ -201,9 +219,10 @@ fn format_from<'f, F: Planned, S: Start>(
     ensures listed { OnOk formatted.new (ListsFailed (F.device flash.entry.now) (F.device result.now)) }
     ensures numbered { OnOk formatted.new (IsNumbered (F.device flash.entry.now) (F.device result.now)) }
     ensures why { IfErr formatted.new (λ fault. FormatCause (F.device flash.entry.now) limit fault (F.device result.now)) }
+    ensures limits { (formatted.new ≡ Err Fault.Invalid) ↔ (IsGeometry (F.device flash.entry.now).geometry × ((limit < MIN_VERSIONS) ⊎ (MAX_VERSIONS < limit))) }
 
     // The plan went on.
-    ensures plan { GoesOn S.done S.plan (F.device result.now).operations (F.schedule result.now) }
+    ensures plan { GoesOn S.device S.plan (F.device result.now) (F.schedule result.now) }
 {
     let mut following: Following<'f, F, S> = Following::on(flash);
     *formatted = format(alloc, &mut following, limit);

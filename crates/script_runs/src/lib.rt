@@ -8,6 +8,7 @@ mod planning;
 mod scripts;
 mod space_lines;
 
+pub use following::{Following, Start, format_as_planned, mount_as_planned};
 pub use laws::script_laws;
 pub use memory::run_in_memory;
 pub use scripts::{

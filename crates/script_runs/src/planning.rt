@@ -27,14 +27,14 @@ pub(crate) trait Planning<F: Flash> {
         ensures system { IfOk result (IsSystem (F.device flash.new)) }
         ensures only_reads { OnlyReads (F.device flash.old) (F.device flash.new) }
         ensures why { IfErr result (MountCause (F.device flash.old) (F.device flash.new)) }
-        ensures plan { PlanGoesOn (F.device flash.old).operations (plan flash.old) (F.device flash.new).operations (plan flash.new) };
+        ensures plan { PlanGoesOn (F.device flash.old) (plan flash.old) (F.device flash.new) (plan flash.new) };
 
     /// Does what is asked, as [`serve_ask`] does.
     fn serve(alloc: Global, flash: &mut F, system: &mut Option<System>, ask: &Ask) -> Told
         requires { IfSome system.old (IsSystem (F.device flash.old)) }
         ensures mounted { IfSome system.new (IsSystem (F.device flash.new)) }
         ensures serves { ServesAsk (F.device flash.old) system.old ask.now result (F.device flash.new) system.new }
-        ensures plan { PlanGoesOn (F.device flash.old).operations (plan flash.old) (F.device flash.new).operations (plan flash.new) };
+        ensures plan { PlanGoesOn (F.device flash.old) (plan flash.old) (F.device flash.new) (plan flash.new) };
 
     /// Plans a fault, with the power off and without a system too.
     fn plan_fault(flash: &mut F, k: u64, kind: FaultKind) -> LineAnswer

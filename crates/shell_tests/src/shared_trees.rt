@@ -15,7 +15,7 @@ fn trees_that_share_directories_are_counted(rt: HostRuntime) -> Result<(), Fail>
     let versions = "@1 entries 2505397588 bytes 2147483648 frees 1 alone 1\n\
         @3 entries 1879048191 bytes 1610612736 alone 1 present\n";
     let refused = (4, "", "uffs: TOOMANYLINES\n");
-    let calls: [Wanted<'_>; 11] = [
+    let calls: [Wanted<'_>; 12] = [
         (&["check", "x"], "", (0, "ok\n", "")),
         (&["versions", "x"], "", (0, versions, "")),
         (&["tree", "x"], "", refused),
@@ -24,6 +24,7 @@ fn trees_that_share_directories_are_counted(rt: HostRuntime) -> Result<(), Fail>
         (&["get", "x", "/", "folder", "@1"], "", refused),
         (&["update", "x", "x"], "", refused),
         (&["copy", "x", "y"], "", refused),
+        (&["copy", "x", "y", "--salvage"], "", refused),
         (&["diff", "x", "@1"], "", refused),
         (&["diff", "x", "@1", "@1"], "", (0, "", "")),
         (&["diff", "x", "@3", "--exit-code"], "", (0, "", "")),

@@ -79,7 +79,7 @@ way_on capacity f head head_index index at block x next way useful is =
 abbrev pub FewReads : ℕ → ℕ → ℕ → ℕ → ℕ → Type 0
 FewReads head_index index at before now = (digits : ℕ) → HasDigits head_index digits → (n : ℕ) × Hops at index n × (now + n ≤ before + 2 * digits)
 
-pub few_on : (head_index index at before now now' x : ℕ) → index < at → IsLargest x at index → now' ≡ now + 1 → FewReads head_index index at before now → FewReads head_index index (at - 2 ^ x) before now'
+pub few_on : (head_index index at before now now' x : ℕ) → index < at → IsLargest x at index → now' ≤ now + 1 → FewReads head_index index at before now → FewReads head_index index (at - 2 ^ x) before now'
 few_on head_index index at before now now' x lt largest is few = λ digits small.
     let so_far = few digits small in
     let rest = next_hop x at index so_far.0 lt largest so_far.1 in

@@ -11,6 +11,7 @@ use Rattle.std.proofs.Math.Seq.{take-add, take-length}
 use Rattle.plain_trees.specs.Contents.{same_bytes}
 use Rattle.node_store.specs.NodePages.{pages_for}
 use Rattle.node_store.specs.Parts.{pages_of_range}
+use Rattle.node_store.proofs.PartFaults.{fewer_pages}
 
 -- what was the same up to a place is so up to the end of a part that is the same
 pub so_far : (from to : ℕ) (xs ys part : List ℕ) → from ≤ to → take from xs ≡ take from ys → part ≡ take (to - from) (drop from xs) → same_bytes part (take (to - from) (drop from ys)) ≡ true → take to xs ≡ take to ys
@@ -94,3 +95,9 @@ ends_all capacity index size some le =
     let parts : ((size - 1) / capacity + 1) * capacity ≡ (size - 1) / capacity * capacity + capacity = grind arith in
     let below = lt-div-mul-add {a = size - 1} {b = capacity} some in
     omega arith
+
+-- the same, where the pages of a part of a node are counted in a later state
+pub pages_more : (index last way page page' count limit r0 r1 r2 r3 : ℕ) → 0 < page → page' ≡ page → count ≤ limit → index ≤ last → r1 ≤ r0 + index * (pages_for page limit + way) → r2 ≤ r1 + way → r3 ≤ r2 + pages_for page' count
+    → (r3 ≤ r0 + (index + 1) * (pages_for page limit + way)) × (r3 ≤ r0 + (last + 1) * (pages_for page limit + way))
+pages_more index last way page page' count limit r0 r1 r2 r3 some same fits le so_far by_way by_pages =
+    node_more index last way (pages_for page' count) (pages_for page limit) r0 r1 r2 r3 le so_far by_way by_pages (omega (arith, fewer_pages page count limit some fits, ap (λ (p : ℕ). pages_for p count) same))

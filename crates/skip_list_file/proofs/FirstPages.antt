@@ -3,11 +3,10 @@ use Rattle.std.proofs.Common.{◌≡◌, ℕ, suc, ◌+◌, ◌*◌, ◌<◌, �
 use Rattle.fs_types.specs.declared.fault.Fault.{Fault}
 use Rattle.fs_types.specs.declared.fault.Fault.TheVariants.{FlashFull, ReadOnly, ReadFailed, PowerCut, NoMemory}
 use Rattle.node_format.specs.Headers.{field, IsNode}
-use Rattle.node_store.specs.Faults.{IsWriteFault}
+use Rattle.node_store.specs.Faults.{IsLookFault, IsWriteFault}
 use Rattle.node_store.specs.Fronts.{IsFront}
 use Rattle.node_store.specs.FrontLaws.{front_at}
 use Rattle.block_trees.specs.Bodies.{index_of, pointer_of}
-use Rattle.skip_list_file.specs.Reading.{IsBodyFault}
 use Rattle.skip_list_file.specs.Writing.{IsWritingFault}
 use Rattle.skip_list_file.proofs.Chains.{body_at}
 
@@ -29,7 +28,7 @@ front_pointer page limit index slot (Some bytes) front least begins whole indexe
     front_number page front bytes (begins bytes refl) (16 + 4 * slot) (omega arith) (omega (arith, at.is_node.size))
 
 -- what reads of a body are refused with, changes are
-pub read_refused : (fault : Fault) → IsBodyFault fault → IsWritingFault fault
+pub read_refused : (fault : Fault) → IsLookFault fault → IsWritingFault fault
 read_refused ReadFailed is = tt
 read_refused PowerCut is = tt
 read_refused NoMemory is = tt

@@ -13,3 +13,5 @@ pub mod Marks
 pub mod Kept
 pub mod Counted
 pub mod Compared
+pub mod NodeCalls
+pub mod ComparedNodes

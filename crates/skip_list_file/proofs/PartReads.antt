@@ -1,15 +1,12 @@
 -- Reading a part of a body node's data, and of a range that one node holds.
-use Rattle.std.proofs.Common.{◌≡◌, ◌≢◌, ℕ, ◌+◌, ◌-◌, ◌*◌, ◌/◌, ◌%◌, ◌<◌, ◌≤◌, Option, Some, None, Result, Ok, Err, List, length, take, drop, refl, sym, ap, ◌∙◌, arith}
-use Rattle.std.specs.Prelude.{max, OnOk, IfErr, IsErrOf}
+use Rattle.std.proofs.Common.{◌≡◌, ℕ, ◌+◌, ◌-◌, ◌*◌, ◌/◌, ◌%◌, ◌<◌, ◌≤◌, Option, Some, None, Result, Ok, Err, List, length, take, drop, refl, sym, ap, ◌∙◌, arith}
+use Rattle.std.specs.Prelude.{max, OnOk}
 use Rattle.std.proofs.lemmas.List.{length-drop, drop-drop}
 use Rattle.fs_types.specs.declared.fault.Fault.{Fault}
-use Rattle.fs_types.specs.declared.fault.Fault.TheVariants.{Damaged}
 use Rattle.node_format.specs.Headers.{body_header, IsNode}
-use Rattle.node_store.specs.Faults.{IsReadFault}
 use Rattle.node_store.specs.NodeLaws.{size_within}
 use Rattle.node_store.specs.Parts.{HasPart, LacksPart}
 use Rattle.block_trees.specs.Bodies.{index_of, data_of}
-use Rattle.skip_list_file.specs.Reading.{IsBodyFault}
 use Rattle.skip_list_file.proofs.Chains.{body_at}
 
 -- a node has so many data bytes from a place on
@@ -43,17 +40,6 @@ module _ (limit : ℕ) (held : Option (List ℕ)) (from count : ℕ) (has : Hold
   -- so it does not lack them
   pub data_lacks : LacksPart held (body_header + from) count → ⊥
   data_lacks lacks = let short = lacks has.bytes has.is in let fits = has.fits in omega arith
-
--- what is not damaged is refused as a body is
-module _ (causes : Fault → Type 0) where
-  undamaged : (fault : Fault) → fault ≢ Damaged → (fault ≢ Damaged → causes fault) → IsReadFault fault → IsBodyFault fault × causes fault
-  undamaged Damaged apart why is = absurd (apart refl)
-  undamaged _ apart why is = (is, why apart)
-
-  pub part_refused : (result : Result (Unit {0}) Fault) → (IsErrOf result Damaged → ⊥) → IfErr result (λ fault. fault ≢ Damaged → causes fault)
-      → IfErr result IsReadFault → IfErr result (λ fault. IsBodyFault fault × causes fault)
-  part_refused (Ok u) whole why is = tt
-  part_refused (Err fault) whole why is = undamaged fault (λ same. whole (ap Err same)) why is
 
 -- where one node holds the bytes from a start to an end
 pub record IsWithinOne (capacity start end from : ℕ) : Type 0 where

@@ -1,9 +1,6 @@
 -- Reading a range of a file's bytes: which pointers lead to its last node, and how many nodes hold it.
-use Rattle.std.specs.Prelude.{◌≡◌, ◌<◌, List, length, slice_index, ℕ, ◌+◌, ◌-◌, ◌/◌, ◌%◌, ◌^◌, ◌≤◌, Bool, false, IsTrue, min, nat_lt, if◌then◌else◌}
-use Rattle.fs_types.specs.declared.fault.Fault.{Fault}
-use Rattle.fs_types.specs.declared.fault.Fault.TheVariants.{Damaged}
-use Rattle.node_store.specs.Faults.{is_read_fault}
-use Rattle.block_trees.specs.Bodies.{Blocks, back, head_index, IsBody}
+use Rattle.std.specs.Prelude.{◌≡◌, ◌<◌, List, length, slice_index, ℕ, ◌+◌, ◌-◌, ◌/◌, ◌%◌, ◌^◌, ◌≤◌, min, nat_lt, if◌then◌else◌}
+use Rattle.block_trees.specs.Bodies.{Blocks, back, data_to, head_index, IsBody, IsChain}
 use Rattle.node_format.specs.Headers.{body_header}
 use Rattle.node_format.specs.BodyNodes.{HasSlot}
 use Rattle.node_format.specs.declared.headers.TheConstants.{SLOTS}
@@ -41,17 +38,15 @@ pub record IsPartOfNode (capacity size offset count : ℕ) : Type 0 where
 abbrev pub block_of_byte : Blocks → ℕ → Body → ℕ → ℕ
 block_of_byte f capacity body offset = back f body.head (head_index capacity body.length - offset / capacity)
 
+-- the chain from a block has the bytes from a start to an end, and the last of them is in the block's node
+pub record HoldsRange (capacity : ℕ) (f : Blocks) (start end block : ℕ) : Type 0 where
+  pub order : start < end
+  pub chain : IsChain capacity f ((end - 1) / capacity) block
+  pub within : end ≤ length (data_to f ((end - 1) / capacity) block)
+
 -- blocks of the last nodes of a body, from its head back
 abbrev pub AreBlocks : Blocks → ℕ → List ℕ → Type 0
 AreBlocks f head blocks = (k : ℕ) → k < length blocks → slice_index blocks k ≡ back f head k
-
--- the refusals of reading a body: those of reads, but that nothing is damaged
-abbrev pub is_body_fault : Fault → Bool
-is_body_fault Damaged = false
-is_body_fault fault = is_read_fault fault
-
-abbrev pub IsBodyFault : Fault → Type 0
-IsBodyFault fault = IsTrue (is_body_fault fault)
 
 -- a body is whole in blocks of this limit, whose nodes have so many data bytes
 pub record HoldsBody (limit : ℕ) (f : Blocks) (capacity : ℕ) (body : Body) : Type 0 where

@@ -1,7 +1,8 @@
 -- Bodies written anew from a node on, where the nodes before it are shared.
-use Rattle.std.specs.Prelude.{◌≡◌, ◌⊎◌, ℕ, zero, suc, ◌+◌, ◌-◌, ◌*◌, ◌/◌, ◌%◌, ◌^◌, ◌<◌, ◌≤◌, min, Bool, false, ◌&&◌, nat_le, nat_lt, if◌then◌else◌, slice_index, Option, Some, Result, OnOk, List, [], ◌∷◌, ◌++◌, length, take}
+use Rattle.std.specs.Prelude.{◌≡◌, ◌⊎◌, ℕ, zero, suc, ◌+◌, ◌-◌, ◌*◌, ◌/◌, ◌%◌, ◌^◌, ◌<◌, ◌≤◌, min, Bool, false, ◌&&◌, nat_le, nat_lt, if◌then◌else◌, slice_index, Option, Some, List, [], ◌∷◌, ◌++◌, length, take}
 use Rattle.fs_types.specs.declared.fault.Fault.{Fault}
 use Rattle.fs_types.specs.declared.fault.Fault.TheVariants.{FlashFull, ReadOnly, ReadFailed, PowerCut, NoMemory}
+use Rattle.fs_types.specs.declared.limits.TheConstants.{MAX_FILE_BYTES}
 use Rattle.plain_trees.specs.Contents.{resized, overwritten, read_from}
 use Rattle.node_format.specs.declared.place.Place.TheVariants.{File}
 use Rattle.block_trees.specs.Bodies as bodies
@@ -10,13 +11,18 @@ use Rattle.block_trees.specs.Reached.{Reached, IsHeld, PlaceNames}
 use Rattle.skip_list_file.specs.declared.body.Body.{Body}
 use Rattle.skip_list_file.specs.declared.change.Change.{Change}
 use Rattle.skip_list_file.specs.declared.start.Start.{Start}
-use Rattle.skip_list_file.specs.Reading.{AreBlocks, HasDigits, nodes_between}
+use Rattle.skip_list_file.specs.Reading.{AreBlocks, HoldsBody, nodes_between}
 use Rattle.node_format.specs.BodyNodes.{HasSlot, IsBodySpelling}
 
 -- a body of so many bytes is whole, and all that it reaches is kept
 pub record IsStored (capacity : ℕ) (f : Blocks) (kept : ℕ → Bool) (head size : ℕ) : Type 0 where
   pub whole : IsBody capacity f head size
   pub held : IsHeld f kept (File head size)
+
+-- so many bytes from an offset on, at least one, end within the longest file
+pub record IsFileRange (offset count : ℕ) : Type 0 where
+  pub some : 0 < count
+  pub fits : offset + count ≤ MAX_FILE_BYTES
 
 -- a body has these bytes, and all that it reaches is kept
 pub record IsWritten (capacity : ℕ) (f : Blocks) (kept : ℕ → Bool) (body : Body) (bytes : List ℕ) : Type 0 where
@@ -73,17 +79,21 @@ part_after f change bytes index = read_from (bytes_after f change bytes) (index 
 abbrev pub KeepsNone : ℕ → ℕ → ℕ → ℕ → ℕ → Type 0
 KeepsNone size offset end from to = (size ≤ from) ⊎ ((offset ≤ from) × (min to size ≤ end))
 
--- the reads of the old node of an index, of which a change whose bytes end at `end` keeps some of the first bytes: none where it
--- keeps none, one where the block is listed, and else those of the way to it too
-pub record ReadsKept (change : Change) (end index count listed before now : ℕ) : Type 0 where
-  pub unread : KeepsNone change.body.length change.offset end (index * change.capacity) (index * change.capacity + count) → now ≡ before
-  pub one : head_index change.capacity change.body.length - index < listed → now ≤ before + 1
-  pub few : (digits : ℕ) → HasDigits (head_index change.capacity change.body.length) digits → now ≤ before + (1 + 2 * digits)
+-- the old body of a change, with the blocks of its last nodes
+pub record HoldsOld (limit : ℕ) (f : Blocks) (change : Change) (blocks : List ℕ) : Type 0 where
+  pub holds : HoldsBody limit f change.capacity change.body
+  pub listed : AreBlocks f change.body.head blocks
 
--- at most so many nodes are written, and just so many after Ok
-pub record WritesNodes {T : Type 0} (result : Result T Fault) (before now count : ℕ) : Type 0 where
-  pub most : now ≤ before + count
-  pub done : OnOk result (now ≡ before + count)
+-- a change of it, whose bytes end within the longest file
+pub record IsChangeOf (limit : ℕ) (f : Blocks) (change : Change) (blocks : List ℕ) (end : ℕ) : Type 0 where
+  pub old : HoldsOld limit f change blocks
+  pub fits : end ≤ MAX_FILE_BYTES
+
+-- the reads of the old node of an index, of which a change whose bytes end at `end` keeps some of the first bytes: none where it
+-- keeps none, and one where the block is listed
+pub record ReadsKept (change : Change) (end index count listed before now : ℕ) : Type 0 where
+  pub unread : KeepsNone change.body.length change.offset end (index * change.capacity) (index * change.capacity + count) → now ≤ before
+  pub one : head_index change.capacity change.body.length - index < listed → now ≤ before + 1
 
 -- the byte at a place after an edit, where the old bytes are given from `start` on
 abbrev pub byte_after : List ℕ → ℕ → ℕ → List ℕ → ℕ → ℕ

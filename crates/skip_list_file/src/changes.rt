@@ -1,14 +1,14 @@
 //! Bodies with other bytes, or of another length: the nodes from the first that differs on are written
 //! anew, and those before it are shared.
-ghost use Rattle.std.specs.Prelude.{◌≡◌, ℕ, ◌+◌, ◌-◌, ◌*◌, ◌^◌, ◌<◌, ◌≤◌, min, length, IfOk, IfErr};
+ghost use Rattle.std.specs.Prelude.{ℕ, ◌+◌, ◌-◌, ◌*◌, ◌^◌, ◌<◌, ◌≤◌, min, max, length, IfOk};
 ghost use Rattle.node_format.specs.Headers.{body_header};
 ghost use Rattle.plain_trees.specs.Contents.{nodes_from, pwrite_need, ftruncate_need, resized, overwritten};
 ghost use Rattle.block_trees.specs.Bodies as bodies;
 ghost use Rattle.block_trees.specs.Bodies.{head_index};
-ghost use Rattle.skip_list_file.specs.Reading.{nodes_between, AsksPageEach, HasDigits, HoldsBody};
+ghost use Rattle.skip_list_file.specs.Calls.{WorksAlong};
+ghost use Rattle.skip_list_file.specs.Reading.{nodes_between, HoldsBody};
 ghost use Rattle.skip_list_file.specs.Writing as spec;
-ghost use Rattle.skip_list_file.specs.Writing.{IsWritingFault, WritesNodes};
-ghost use Rattle.node_store.specs.Words.{Keeps, Works};
+ghost use Rattle.node_store.specs.Words.{Keeps};
 ghost use Rattle.fs_types.specs.declared.limits.TheConstants.{MAX_FILE_BYTES};
 
 use crate::body::Body;
@@ -39,10 +39,7 @@ fn write_nodes<N: Nodes>(
     ensures reaches { IfOk result (λ new. spec.BodyOnlyReaches change.capacity (N.node nodes.old) (N.node nodes.new) (N.kept nodes.old) change.body new) }
 
     // One read for each old node of which bytes after the written ones stay, and the way to the first.
-    ensures reads { (digits : ℕ) → HasDigits (head_index change.capacity change.body.length) digits → N.reads nodes.new ≤ N.reads nodes.old + (nodes_between change.capacity (change.offset + length bytes.now) change.body.length + (1 + 2 * digits)) }
-    ensures writes { WritesNodes result (N.writes nodes.old) (N.writes nodes.new) (nodes_from change.capacity (min change.offset change.body.length) change.size) }
-    ensures refused { IfErr result (λ fault. IsWritingFault fault × N.causes nodes.old nodes.new fault) }
-    ensures works { Works N.Nodes nodes.old nodes.new }
+    ensures calls { WorksAlong N.Nodes (head_index change.capacity change.body.length) (λ digits. nodes_between change.capacity (change.offset + length bytes.now) change.body.length + (1 + 2 * digits)) (nodes_from change.capacity (min change.offset change.body.length) change.size) nodes.old result nodes.new }
 {
     let Start {
         first,
@@ -85,8 +82,7 @@ fn change_body<N: Nodes>(
     requires stored { spec.IsStored (N.limit nodes.old - body_header) (N.node nodes.old) (N.kept nodes.old) body.head body.length }
 
     // It grows, or a byte of it changes.
-    requires most { size ≤ MAX_FILE_BYTES }
-    requires fits { offset + length bytes.now ≤ MAX_FILE_BYTES }
+    requires most { max size (offset + length bytes.now) ≤ MAX_FILE_BYTES }
     requires longer { body.length ≤ size }
     requires changed { min offset body.length < size }
 
@@ -94,10 +90,7 @@ fn change_body<N: Nodes>(
     ensures reaches { IfOk result (λ new. spec.BodyOnlyReaches (N.limit nodes.old - body_header) (N.node nodes.old) (N.node nodes.new) (N.kept nodes.old) body new) }
 
     // Two reads for each old node of which bytes after the written ones stay, and a few for the first.
-    ensures reads { (digits : ℕ) → HasDigits (head_index (N.limit nodes.old - body_header) body.length) digits → N.reads nodes.new ≤ N.reads nodes.old + (2 * nodes_between (N.limit nodes.old - body_header) (offset + length bytes.now) body.length + (1 + 5 * digits)) }
-    ensures writes { WritesNodes result (N.writes nodes.old) (N.writes nodes.new) (nodes_from (N.limit nodes.old - body_header) (min offset body.length) size) }
-    ensures refused { IfErr result (λ fault. IsWritingFault fault × N.causes nodes.old nodes.new fault) }
-    ensures works { Works N.Nodes nodes.old nodes.new }
+    ensures calls { WorksAlong N.Nodes (head_index (N.limit nodes.old - body_header) body.length) (λ digits. 2 * nodes_between (N.limit nodes.old - body_header) (offset + length bytes.now) body.length + (1 + 5 * digits)) (nodes_from (N.limit nodes.old - body_header) (min offset body.length) size) nodes.old result nodes.new }
 {
     let capacity = nodes.block_bytes() - BODY_HEADER;
     let change = Change {
@@ -129,8 +122,7 @@ pub fn write_range<N: Nodes>(
     // The old body, and the bytes.
     requires sound { N.is_sound nodes.old }
     requires stored { spec.IsStored (N.limit nodes.old - body_header) (N.node nodes.old) (N.kept nodes.old) body.head body.length }
-    requires some { 0 < length bytes.now }
-    requires fits { offset + length bytes.now ≤ MAX_FILE_BYTES }
+    requires range { spec.IsFileRange offset (length bytes.now) }
     requires length { body.length ≤ MAX_FILE_BYTES }
 
     // The new body, beside the old one.
@@ -139,10 +131,7 @@ pub fn write_range<N: Nodes>(
     ensures keeps { Keeps N.Nodes nodes.old nodes.new }
 
     // What it costs, and why it is refused.
-    ensures reads { (digits : ℕ) → HasDigits (head_index (N.limit nodes.old - body_header) body.length) digits → N.reads nodes.new ≤ N.reads nodes.old + (2 * nodes_between (N.limit nodes.old - body_header) (offset + length bytes.now) body.length + (1 + 5 * digits)) }
-    ensures writes { WritesNodes result (N.writes nodes.old) (N.writes nodes.new) (pwrite_need (N.limit nodes.old - body_header) body.length offset (length bytes.now)) }
-    ensures refused { IfErr result (λ fault. IsWritingFault fault × N.causes nodes.old nodes.new fault) }
-    ensures works { Works N.Nodes nodes.old nodes.new }
+    ensures calls { WorksAlong N.Nodes (head_index (N.limit nodes.old - body_header) body.length) (λ digits. 2 * nodes_between (N.limit nodes.old - body_header) (offset + length bytes.now) body.length + (1 + 5 * digits)) (pwrite_need (N.limit nodes.old - body_header) body.length offset (length bytes.now)) nodes.old result nodes.new }
 {
     let end = offset + bytes.len() as u32;
     change_body(alloc, nodes, body, offset, bytes, body.length.max(end))
@@ -171,10 +160,7 @@ pub fn set_length<N: Nodes>(
     ensures keeps { Keeps N.Nodes nodes.old nodes.new }
 
     // What it costs, and why it is refused.
-    ensures reads { (digits : ℕ) → HasDigits (head_index (N.limit nodes.old - body_header) body.length) digits → N.reads nodes.new ≤ N.reads nodes.old + (1 + 5 * digits) }
-    ensures writes { WritesNodes result (N.writes nodes.old) (N.writes nodes.new) (ftruncate_need (N.limit nodes.old - body_header) body.length length) }
-    ensures refused { IfErr result (λ fault. IsWritingFault fault × N.causes nodes.old nodes.new fault) }
-    ensures works { Works N.Nodes nodes.old nodes.new }
+    ensures calls { WorksAlong N.Nodes (head_index (N.limit nodes.old - body_header) body.length) (λ digits. 1 + 5 * digits) (ftruncate_need (N.limit nodes.old - body_header) body.length length) nodes.old result nodes.new }
 {
     if length > body.length {
         return change_body(alloc, nodes, body, body.length, &[], length);

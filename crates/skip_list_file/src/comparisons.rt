@@ -1,13 +1,15 @@
 //! Whether a file has certain bytes: its pages are read one after the other, and none of them is kept.
-ghost use Rattle.std.specs.Prelude.{◌≡◌, ℕ, ◌+◌, ◌-◌, ◌*◌, ◌≤◌, ◌<◌, length, take, drop, Some, OnOk, IfOk, IfErr};
+ghost use Rattle.std.specs.Prelude.{◌≡◌, ℕ, ◌+◌, ◌-◌, ◌*◌, ◌≤◌, ◌<◌, length, take, drop, Some, OnOk, IfOk};
 ghost use Rattle.node_format.specs.Headers.{body_header};
 ghost use Rattle.plain_trees.specs.Contents.{same_bytes};
 ghost use Rattle.block_trees.specs.Bodies as trees;
 ghost use Rattle.block_trees.specs.Bodies.{index_of, data_of, head_index, IsBody};
-ghost use Rattle.node_store.specs.Words.{Looks};
+ghost use Rattle.node_store.specs.Faults.{IsLookFault};
+ghost use Rattle.node_store.specs.Words.{LooksWithin};
 ghost use Rattle.node_store.specs.NodePages.{pages_for};
 ghost use Rattle.node_store.specs.Parts.{pages_of_range};
-ghost use Rattle.skip_list_file.specs.Reading.{AsksPageEach, HasDigits, IsBodyFault};
+ghost use Rattle.skip_list_file.specs.Calls.{LooksAlong};
+ghost use Rattle.skip_list_file.specs.Reading.{AsksPageEach, HoldsBody};
 
 use crate::body::Body;
 use crate::range_reads::{capacity_in, find};
@@ -34,8 +36,7 @@ fn peek_data<N: Peeks>(nodes: &mut N, block: u32, from: u32, out: &mut [u8]) -> 
     ensures copied { OnOk result (out.new ≡ take (length out.old) (drop from (data_of (N.node nodes.old block)))) }
 
     // One read, of the pages that hold the data, and nothing is written.
-    ensures refused { IfErr result (λ fault. IsBodyFault fault × N.causes nodes.old nodes.new fault) }
-    ensures looks { Looks N.Nodes nodes.old nodes.new }
+    ensures calls { LooksWithin N.Nodes IsLookFault 1 nodes.old result nodes.new }
     ensures reads { N.reads nodes.new ≡ N.reads nodes.old + 1 }
     ensures asks { N.asked nodes.new ≤ N.asked nodes.old + pages_of_range (N.page nodes.old) (body_header + from) (length out.old) }
 {
@@ -61,10 +62,8 @@ fn has_data<N: Peeks>(
     ensures same { IfOk result (λ same. same ≡ same_bytes (take (length bytes.now) (data_of (N.node nodes.old block))) bytes.now) }
 
     // One read for each page that holds the bytes at most, and of it alone; nothing is written.
-    ensures reads { N.reads nodes.new ≤ N.reads nodes.old + pages_for (N.page nodes.old) (body_header + length bytes.now) }
+    ensures calls { LooksWithin N.Nodes IsLookFault (pages_for (N.page nodes.old) (body_header + length bytes.now)) nodes.old result nodes.new }
     ensures asks { AsksPageEach N.asked N.reads nodes.old nodes.new }
-    ensures refused { IfErr result (λ fault. IsBodyFault fault × N.causes nodes.old nodes.new fault) }
-    ensures looks { Looks N.Nodes nodes.old nodes.new }
 {
     let header = BODY_HEADER as usize;
     // No block has more bytes than its contract tells, so no node has.
@@ -101,10 +100,8 @@ pub fn has_bytes<N: Peeks>(
     ensures same { IfOk result (λ same. same ≡ same_bytes (trees.body (N.limit nodes.old - body_header) (N.node nodes.old) body.head body.length) bytes.now) }
 
     // What it costs, and why it is refused; nothing is written.
-    ensures reads { (digits : ℕ) → HasDigits (head_index (N.limit nodes.old - body_header) body.length) digits → N.reads nodes.new ≤ N.reads nodes.old + (head_index (N.limit nodes.old - body_header) body.length + 1) * (pages_for (N.page nodes.old) (N.limit nodes.old) + 2 * digits) }
+    ensures calls { LooksAlong N.Nodes (head_index (N.limit nodes.old - body_header) body.length) (λ digits. (head_index (N.limit nodes.old - body_header) body.length + 1) * (pages_for (N.page nodes.old) (N.limit nodes.old) + 2 * digits)) nodes.old result nodes.new }
     ensures asks { AsksPageEach N.asked N.reads nodes.old nodes.new }
-    ensures refused { IfErr result (λ fault. IsBodyFault fault × N.causes nodes.old nodes.new fault) }
-    ensures looks { Looks N.Nodes nodes.old nodes.new }
 {
     if body.length == 0 {
         return Ok(true);
@@ -123,20 +120,16 @@ fn has_all<N: Peeks>(
     room: &mut [u8],
 ) -> Result<bool, Fault>
     requires sound { N.is_sound nodes.old }
-    requires capacity { capacity ≡ N.limit nodes.old - body_header }
-    requires least { 0 < capacity }
+    requires holds { HoldsBody (N.limit nodes.old) (N.node nodes.old) capacity body }
     requires some { 0 < body.length }
-    requires body { IsBody capacity (N.node nodes.old) body.head body.length }
     requires counted { length bytes.now ≡ body.length }
     requires room { length room.old ≡ N.page nodes.old }
 
     ensures same { IfOk result (λ same. same ≡ same_bytes (trees.body capacity (N.node nodes.old) body.head body.length) bytes.now) }
 
     // For each node the way to it, and its pages; nothing is written.
-    ensures reads { (digits : ℕ) → HasDigits (head_index capacity body.length) digits → N.reads nodes.new ≤ N.reads nodes.old + (head_index capacity body.length + 1) * (pages_for (N.page nodes.old) (N.limit nodes.old) + 2 * digits) }
+    ensures calls { LooksAlong N.Nodes (head_index capacity body.length) (λ digits. (head_index capacity body.length + 1) * (pages_for (N.page nodes.old) (N.limit nodes.old) + 2 * digits)) nodes.old result nodes.new }
     ensures asks { AsksPageEach N.asked N.reads nodes.old nodes.new }
-    ensures refused { IfErr result (λ fault. IsBodyFault fault × N.causes nodes.old nodes.new fault) }
-    ensures looks { Looks N.Nodes nodes.old nodes.new }
 {
     let last = (body.length - 1) / capacity;
     for index in 0..last + 1 {

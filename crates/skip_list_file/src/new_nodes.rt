@@ -1,16 +1,15 @@
 //! The nodes of a changed body, each written after those before it.
-ghost use Rattle.std.specs.Prelude.{◌≡◌, ℕ, ◌+◌, ◌-◌, ◌*◌, ◌^◌, ◌<◌, ◌≤◌, true, false, length, drop, replicate, slice_index, Some, OnOk, IfOk, IfErr};
-ghost use Rattle.fs_types.specs.declared.limits.TheConstants.{MAX_FILE_BYTES};
+ghost use Rattle.std.specs.Prelude.{◌≡◌, ℕ, ◌+◌, ◌-◌, ◌*◌, ◌^◌, ◌<◌, ◌≤◌, true, false, length, drop, replicate, slice_index, Some, OnOk, IfOk};
 ghost use Rattle.node_format.specs.Headers.{body_header, IsNode};
 ghost use Rattle.node_format.specs.BodyNodes.{HasSlot, IsBodySpelling};
 ghost use Rattle.node_format.specs.declared.headers.TheConstants.{SLOTS};
 ghost use Rattle.plain_trees.specs.Contents.{read_from};
 ghost use Rattle.block_trees.specs.Bodies.{head_index};
 ghost use Rattle.node_store.specs.Faults.{IsWriteFault};
-ghost use Rattle.node_store.specs.Words.{Looks, Works};
-ghost use Rattle.skip_list_file.specs.Reading.{AreBlocks, HoldsBody, IsBodyFault};
+ghost use Rattle.node_store.specs.Words.{WorksWithin};
+ghost use Rattle.skip_list_file.specs.Calls.{LooksAlong, WorksAlong};
 ghost use Rattle.skip_list_file.specs.Writing as spec;
-ghost use Rattle.skip_list_file.specs.Writing.{IsWritingFault, ReadsKept, WritesNodes};
+ghost use Rattle.skip_list_file.specs.Writing.{IsWritingFault, ReadsKept};
 
 use crate::change::Change;
 use crate::old_nodes::read_kept;
@@ -47,9 +46,7 @@ fn edit_into<N: Nodes>(
 ) -> Result<(), Fault>
     // The old body, and the change.
     requires sound { N.is_sound nodes.old }
-    requires holds { HoldsBody (N.limit nodes.old) (N.node nodes.old) change.capacity change.body }
-    requires listed { AreBlocks (N.node nodes.old) change.body.head old.now }
-    requires written { change.offset + length bytes.now ≤ MAX_FILE_BYTES }
+    requires changes { spec.IsChangeOf (N.limit nodes.old) (N.node nodes.old) change old.now (change.offset + length bytes.now) }
 
     // Room for no more than the node has.
     requires zeros { out.old ≡ replicate (length out.old) 0 }
@@ -60,8 +57,7 @@ fn edit_into<N: Nodes>(
 
     // The old node is read once at most, and nothing is written.
     ensures reads { ReadsKept change (change.offset + length bytes.now) index (length out.old) (length old.now) (N.reads nodes.old) (N.reads nodes.new) }
-    ensures refused { IfErr result (λ fault. IsBodyFault fault × N.causes nodes.old nodes.new fault) }
-    ensures looks { Looks N.Nodes nodes.old nodes.new }
+    ensures calls { LooksAlong N.Nodes (head_index change.capacity change.body.length) (λ digits. 1 + 2 * digits) nodes.old result nodes.new }
 {
     let end = change.offset + bytes.len() as u32;
     read_kept(nodes, change, end, old, index, out)?;
@@ -81,9 +77,7 @@ fn edited_node<N: Nodes>(
 ) -> Result<Vec<u8>, Fault>
     // The old body, and the change.
     requires sound { N.is_sound nodes.old }
-    requires holds { HoldsBody (N.limit nodes.old) (N.node nodes.old) change.capacity change.body }
-    requires listed { AreBlocks (N.node nodes.old) change.body.head old.now }
-    requires written { change.offset + length bytes.now ≤ MAX_FILE_BYTES }
+    requires changes { spec.IsChangeOf (N.limit nodes.old) (N.node nodes.old) change old.now (change.offset + length bytes.now) }
 
     // The new body has that node.
     requires within { index * change.capacity < change.size }
@@ -93,8 +87,7 @@ fn edited_node<N: Nodes>(
 
     // The old node is read once at most, and nothing is written.
     ensures reads { ReadsKept change (change.offset + length bytes.now) index (spec.part_length change index) (length old.now) (N.reads nodes.old) (N.reads nodes.new) }
-    ensures refused { IfErr result (λ fault. IsBodyFault fault × N.causes nodes.old nodes.new fault) }
-    ensures looks { Looks N.Nodes nodes.old nodes.new }
+    ensures calls { LooksAlong N.Nodes (head_index change.capacity change.body.length) (λ digits. 1 + 2 * digits) nodes.old result nodes.new }
 {
     let count = change.capacity.min(change.size - index * change.capacity);
     let mut node = body_room(alloc, index, slots, count)?;
@@ -112,12 +105,9 @@ fn write_new<N: Nodes>(nodes: &mut N, node: Vec<u8>, is_last: bool) -> Result<u3
     ensures fresh { IfOk result (λ block. N.kept nodes.old block ≡ false) }
     ensures kept { IfOk result (λ block. N.kept nodes.new block ≡ true) }
     ensures written { IfOk result (λ block. N.node nodes.new block ≡ Some node.items) }
-    ensures refused { IfErr result (λ fault. IsWriteFault fault × N.causes nodes.old nodes.new fault) }
+    ensures calls { WorksWithin N.Nodes IsWriteFault 0 1 nodes.old result nodes.new }
 
-    // One write, and no read.
-    ensures reads { N.reads nodes.new ≡ N.reads nodes.old }
-    ensures writes { N.writes nodes.new ≡ N.writes nodes.old + 1 }
-    ensures works { Works N.Nodes nodes.old nodes.new }
+// One write, and no read.
 {
     let block = nodes.write_owned(node)?;
     if !is_last {
@@ -149,10 +139,7 @@ fn append<N: Nodes>(
     ensures table { IfOk result (λ next. (last : ℕ) → spec.IsTable (N.node nodes.old) head index last table.old.blocks → spec.IsTable (N.node nodes.new) next (index + 1) last table.new.blocks) }
 
     // One write, and no read.
-    ensures reads { N.reads nodes.new ≡ N.reads nodes.old }
-    ensures writes { WritesNodes result (N.writes nodes.old) (N.writes nodes.new) 1 }
-    ensures refused { IfErr result (λ fault. IsWritingFault fault × N.causes nodes.old nodes.new fault) }
-    ensures works { Works N.Nodes nodes.old nodes.new }
+    ensures calls { WorksWithin N.Nodes IsWritingFault 0 1 nodes.old result nodes.new }
 {
     let block = write_new(nodes, node, is_last)?;
     table.move_on(index, block);
@@ -173,9 +160,7 @@ pub(crate) fn write_node<N: Nodes>(
 ) -> Result<u32, Fault>
     // The old body, and the change.
     requires sound { N.is_sound nodes.old }
-    requires holds { HoldsBody (N.limit nodes.old) (N.node nodes.old) change.capacity change.body }
-    requires listed { AreBlocks (N.node nodes.old) change.body.head old.now }
-    requires written { change.offset + length bytes.now ≤ MAX_FILE_BYTES }
+    requires changes { spec.IsChangeOf (N.limit nodes.old) (N.node nodes.old) change old.now (change.offset + length bytes.now) }
 
     // The new body has that node, and those before it are written.
     requires within { index * change.capacity < change.size }
@@ -186,9 +171,7 @@ pub(crate) fn write_node<N: Nodes>(
 
     // The old node is read once at most, and one is written.
     ensures reads { ReadsKept change (change.offset + length bytes.now) index (spec.part_length change index) (length old.now) (N.reads nodes.old) (N.reads nodes.new) }
-    ensures writes { WritesNodes result (N.writes nodes.old) (N.writes nodes.new) 1 }
-    ensures refused { IfErr result (λ fault. IsWritingFault fault × N.causes nodes.old nodes.new fault) }
-    ensures works { Works N.Nodes nodes.old nodes.new }
+    ensures calls { WorksAlong N.Nodes (head_index change.capacity change.body.length) (λ digits. 1 + 2 * digits) 1 nodes.old result nodes.new }
 {
     let node = edited_node(alloc, nodes, change, bytes, old, &table.blocks, index)?;
     let is_last = change.size - index * change.capacity <= change.capacity;

@@ -1,12 +1,14 @@
 //! The nodes of an old body of which an edit keeps bytes: listed by one walk, and read once each.
-ghost use Rattle.std.specs.Prelude.{◌≡◌, ℕ, ◌+◌, ◌-◌, ◌*◌, ◌/◌, ◌^◌, ◌<◌, ◌≤◌, ◌⊎◌, length, replicate, slice_index, OnOk, IfOk, IfErr};
+ghost use Rattle.std.specs.Prelude.{◌≡◌, ℕ, ◌+◌, ◌-◌, ◌*◌, ◌/◌, ◌^◌, ◌<◌, ◌≤◌, ◌⊎◌, length, replicate, slice_index, OnOk, IfOk};
 ghost use Rattle.node_format.specs.Headers.{body_header};
 ghost use Rattle.block_trees.specs.Bodies as trees;
 ghost use Rattle.block_trees.specs.Bodies.{back, head_index, IsChain, IsLinked, IsBody};
+ghost use Rattle.skip_list_file.specs.Calls.{LooksAlong};
 ghost use Rattle.skip_list_file.specs.Reading as spec;
-ghost use Rattle.skip_list_file.specs.Reading.{nodes_between, HoldsBody, IsBodyFault};
-ghost use Rattle.skip_list_file.specs.Writing.{ReadsKept};
-ghost use Rattle.node_store.specs.Words.{Looks};
+ghost use Rattle.skip_list_file.specs.Reading.{nodes_between, HoldsBody};
+ghost use Rattle.skip_list_file.specs.Writing.{HoldsOld, ReadsKept};
+ghost use Rattle.node_store.specs.Faults.{IsLookFault};
+ghost use Rattle.node_store.specs.Words.{LooksWithin};
 
 use crate::body::Body;
 use crate::change::Change;
@@ -30,10 +32,8 @@ pub(crate) fn list_blocks<N: Nodes>(
     ensures count { IfOk result (λ blocks. length blocks.items ≡ nodes_between capacity from body.length) }
 
     // One read for each, of a page, and nothing is written.
-    ensures reads { N.reads nodes.new ≤ N.reads nodes.old + nodes_between capacity from body.length }
+    ensures calls { LooksWithin N.Nodes IsLookFault (nodes_between capacity from body.length) nodes.old result nodes.new }
     ensures asks { spec.AsksPageEach N.asked N.reads nodes.old nodes.new }
-    ensures refused { IfErr result (λ fault. IsBodyFault fault × N.causes nodes.old nodes.new fault) }
-    ensures looks { Looks N.Nodes nodes.old nodes.new }
 {
     if from >= body.length {
         return Ok(Vec::new(alloc));
@@ -59,8 +59,7 @@ fn find_listed<N: Nodes>(
 ) -> Result<u32, Fault>
     // The chain from its head, with the blocks of its last nodes.
     requires sound { N.is_sound nodes.old }
-    requires chain { IsChain (N.limit nodes.old - body_header) (N.node nodes.old) head_index head }
-    requires linked { IsLinked (N.node nodes.old) head_index head }
+    requires chain { IsChain (N.limit nodes.old - body_header) (N.node nodes.old) head_index head × IsLinked (N.node nodes.old) head_index head }
     requires before { index ≤ head_index }
     requires blocks { spec.AreBlocks (N.node nodes.old) head blocks.now }
 
@@ -68,10 +67,8 @@ fn find_listed<N: Nodes>(
 
     // No read of a listed one, and no write.
     ensures listed { head_index - index < length blocks.now → N.reads nodes.new ≡ N.reads nodes.old }
-    ensures reads { (digits : ℕ) → spec.HasDigits head_index digits → N.reads nodes.new ≤ N.reads nodes.old + 2 * digits }
+    ensures calls { LooksAlong N.Nodes head_index (λ digits. 2 * digits) nodes.old result nodes.new }
     ensures asks { spec.AsksPageEach N.asked N.reads nodes.old nodes.new }
-    ensures refused { IfErr result (λ fault. IsBodyFault fault × N.causes nodes.old nodes.new fault) }
-    ensures looks { Looks N.Nodes nodes.old nodes.new }
 {
     match blocks.get((head_index - index) as usize) {
         Some(block) => Ok(*block),
@@ -93,8 +90,7 @@ pub(crate) fn read_kept<N: Nodes>(
 ) -> Result<(), Fault>
     // The body, with the blocks of its last nodes.
     requires sound { N.is_sound nodes.old }
-    requires holds { HoldsBody (N.limit nodes.old) (N.node nodes.old) change.capacity change.body }
-    requires listed { spec.AreBlocks (N.node nodes.old) change.body.head old.now }
+    requires old { HoldsOld (N.limit nodes.old) (N.node nodes.old) change old.now }
 
     // Room for no more than the node has.
     requires zeros { out.old ≡ replicate (length out.old) 0 }
@@ -105,8 +101,7 @@ pub(crate) fn read_kept<N: Nodes>(
 
     // One read at most beside the way to the node, and no write.
     ensures reads { ReadsKept change end index (length out.old) (length old.now) (N.reads nodes.old) (N.reads nodes.new) }
-    ensures refused { IfErr result (λ fault. IsBodyFault fault × N.causes nodes.old nodes.new fault) }
-    ensures looks { Looks N.Nodes nodes.old nodes.new }
+    ensures calls { LooksAlong N.Nodes (head_index change.capacity change.body.length) (λ digits. 1 + 2 * digits) nodes.old result nodes.new }
 {
     let start = index * change.capacity;
     let kept = change

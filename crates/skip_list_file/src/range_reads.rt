@@ -1,12 +1,14 @@
 //! Reading the bytes of a file.
-ghost use Rattle.std.specs.Prelude.{◌≡◌, ◌≢◌, ℕ, ◌+◌, ◌-◌, ◌*◌, ◌/◌, ◌%◌, ◌^◌, ◌<◌, ◌≤◌, length, min, take, drop, true, false, Some, OnOk, IfOk, IfErr};
+ghost use Rattle.std.specs.Prelude.{◌≡◌, ◌≢◌, ℕ, ◌+◌, ◌-◌, ◌*◌, ◌/◌, ◌%◌, ◌^◌, ◌<◌, ◌≤◌, length, min, take, drop, true, false, Some, OnOk, IfOk};
 ghost use Rattle.plain_trees.specs.Contents.{read_from};
 ghost use Rattle.node_format.specs.Headers.{body_header};
 ghost use Rattle.node_format.specs.BodyNodes.{HasSlot};
 ghost use Rattle.block_trees.specs.Bodies.{index_of, pointer_of, data_of, back, data_to, head_index, IsChain, IsLinked, IsBody};
 ghost use Rattle.block_trees.specs.Bodies as trees;
+ghost use Rattle.skip_list_file.specs.Calls.{LooksAlong};
 ghost use Rattle.skip_list_file.specs.Reading as spec;
-ghost use Rattle.node_store.specs.Words.{Looks};
+ghost use Rattle.node_store.specs.Faults.{IsLookFault};
+ghost use Rattle.node_store.specs.Words.{LooksWithin};
 ghost use Rattle.node_store.specs.NodePages.{pages_for};
 ghost use Rattle.node_store.specs.Parts.{pages_of_range};
 
@@ -34,14 +36,10 @@ pub(crate) fn pointer_at<N: Nodes>(nodes: &mut N, block: u32, slot: u32) -> Resu
     requires sound { N.is_sound nodes.old }
     requires slot { (index : ℕ) × (index_of (N.node nodes.old block) ≡ Some index) × HasSlot index slot }
 
-    // The pointer, or why not.
+    // The pointer, by one read, of a page.
     ensures found { IfOk result (λ next. next ≡ pointer_of (N.node nodes.old block) slot) }
-    ensures refused { IfErr result (λ fault. spec.IsBodyFault fault × N.causes nodes.old nodes.new fault) }
-
-    // What is read.
-    ensures looks { Looks N.Nodes nodes.old nodes.new }
-    ensures reads { N.reads nodes.new ≡ N.reads nodes.old + 1 }
-    ensures asks { N.asked nodes.new ≤ N.asked nodes.old + 1 }
+    ensures calls { LooksWithin N.Nodes IsLookFault 1 nodes.old result nodes.new }
+    ensures asks { spec.AsksPageEach N.asked N.reads nodes.old nodes.new }
     ensures partly { N.partly nodes.new ≡ N.partly nodes.old }
 {
     nodes.front(block)?;
@@ -67,11 +65,9 @@ pub(crate) fn find<N: Nodes>(
     ensures found { IfOk result (λ block. block ≡ back (N.node nodes.old) head (head_index - index)) }
 
     // Two reads for each digit of the head's index, of a page each, and nothing is written.
-    ensures reads { (digits : ℕ) → spec.HasDigits head_index digits → N.reads nodes.new ≤ N.reads nodes.old + 2 * digits }
+    ensures calls { LooksAlong N.Nodes head_index (λ digits. 2 * digits) nodes.old result nodes.new }
     ensures asks { spec.AsksPageEach N.asked N.reads nodes.old nodes.new }
     ensures partly { N.partly nodes.new ≡ N.partly nodes.old }
-    ensures refused { IfErr result (λ fault. spec.IsBodyFault fault × N.causes nodes.old nodes.new fault) }
-    ensures looks { Looks N.Nodes nodes.old nodes.new }
 {
     let mut block = head;
     let mut at = head_index;
@@ -102,9 +98,7 @@ pub(crate) fn copy_data<N: Nodes>(
     ensures first { IfOk result (λ before. index_of (N.node nodes.old block) ≡ Some 0 → before ≡ 0) }
 
     // One read, of a block's pages at most, and nothing is written.
-    ensures refused { IfErr result (λ fault. spec.IsBodyFault fault × N.causes nodes.old nodes.new fault) }
-    ensures looks { Looks N.Nodes nodes.old nodes.new }
-    ensures reads { N.reads nodes.new ≡ N.reads nodes.old + 1 }
+    ensures calls { LooksWithin N.Nodes IsLookFault 1 nodes.old result nodes.new }
     ensures asks { N.asked nodes.new ≤ N.asked nodes.old + pages_for (N.page nodes.old) (N.limit nodes.old) }
 {
     nodes.read(block)?;
@@ -131,9 +125,7 @@ pub(crate) fn copy_part<N: Nodes>(
     ensures copied { OnOk result (out.new ≡ take (length out.old) (drop from (data_of (N.node nodes.old block)))) }
 
     // One read, of the pages that hold the data unless a part of the node was read last, and nothing is written.
-    ensures refused { IfErr result (λ fault. spec.IsBodyFault fault × N.causes nodes.old nodes.new fault) }
-    ensures looks { Looks N.Nodes nodes.old nodes.new }
-    ensures reads { N.reads nodes.new ≡ N.reads nodes.old + 1 }
+    ensures calls { LooksWithin N.Nodes IsLookFault 1 nodes.old result nodes.new }
     ensures asks { N.partly nodes.old ≢ block → N.asked nodes.new ≤ N.asked nodes.old + pages_of_range (N.page nodes.old) (body_header + from) (length out.old) }
     ensures asks_most { N.asked nodes.new ≤ N.asked nodes.old + pages_for (N.page nodes.old) (N.limit nodes.old) }
 {
@@ -161,9 +153,7 @@ fn copy_piece<N: Nodes>(
     ensures before { IfOk result (λ before. whole ≡ true → (index : ℕ) → index_of (N.node nodes.old block) ≡ Some index → 0 < index → before ≡ pointer_of (N.node nodes.old block) 0) }
 
     // One read, of the pages that hold the data or of a block's, and nothing is written.
-    ensures refused { IfErr result (λ fault. spec.IsBodyFault fault × N.causes nodes.old nodes.new fault) }
-    ensures looks { Looks N.Nodes nodes.old nodes.new }
-    ensures reads { N.reads nodes.new ≡ N.reads nodes.old + 1 }
+    ensures calls { LooksWithin N.Nodes IsLookFault 1 nodes.old result nodes.new }
     ensures asks { N.asked nodes.new ≤ N.asked nodes.old + pages_for (N.page nodes.old) (N.limit nodes.old) }
     ensures asks_part { whole ≡ false → N.partly nodes.old ≢ block → N.asked nodes.new ≤ N.asked nodes.old + pages_of_range (N.page nodes.old) (body_header + from) (length out.old) }
 {
@@ -189,19 +179,15 @@ fn fill<N: Nodes>(
     // The chain from the block has the bytes.
     requires sound { N.is_sound nodes.old }
     requires capacity { 0 < capacity }
-    requires order { start < end }
-    requires chain { IsChain capacity (N.node nodes.old) ((end - 1) / capacity) block }
-    requires within { end ≤ length (data_to (N.node nodes.old) ((end - 1) / capacity) block) }
+    requires range { spec.HoldsRange capacity (N.node nodes.old) start end block }
     requires size { length out.old ≡ end - start }
 
     ensures filled { OnOk result (out.new ≡ take (end - start) (drop start (data_to (N.node nodes.old) ((end - 1) / capacity) block))) }
 
     // One read for each node that holds them, of a block's pages at most, and nothing is written.
-    ensures reads { N.reads nodes.new ≤ N.reads nodes.old + spec.nodes_between capacity start end }
+    ensures calls { LooksWithin N.Nodes IsLookFault (spec.nodes_between capacity start end) nodes.old result nodes.new }
     ensures asks { N.asked nodes.new ≤ N.asked nodes.old + spec.nodes_between capacity start end * pages_for (N.page nodes.old) (N.limit nodes.old) }
     ensures asks_part { whole ≡ false → start / capacity ≡ (end - 1) / capacity → N.partly nodes.old ≢ block → N.asked nodes.new ≤ N.asked nodes.old + pages_of_range (N.page nodes.old) (body_header + start % capacity) (end - start) }
-    ensures refused { IfErr result (λ fault. spec.IsBodyFault fault × N.causes nodes.old nodes.new fault) }
-    ensures looks { Looks N.Nodes nodes.old nodes.new }
 {
     let mut block = block;
     let mut end = end;
@@ -246,13 +232,10 @@ pub fn read_range<N: Nodes>(
     ensures read { IfOk result (λ bytes. bytes ≡ read_from (trees.body (N.limit nodes.old - body_header) (N.node nodes.old) body.head body.length) offset count) }
 
     // What it costs, and why it is refused; nothing is written.
-    ensures reads { (digits : ℕ) → spec.HasDigits (head_index (N.limit nodes.old - body_header) body.length) digits → N.reads nodes.new ≤ N.reads nodes.old + (spec.nodes_of_range (N.limit nodes.old - body_header) body.length offset count + 2 * digits) }
+    ensures calls { LooksAlong N.Nodes (head_index (N.limit nodes.old - body_header) body.length) (λ digits. spec.nodes_of_range (N.limit nodes.old - body_header) body.length offset count + 2 * digits) nodes.old result nodes.new }
     ensures asks { (digits : ℕ) → spec.HasDigits (head_index (N.limit nodes.old - body_header) body.length) digits → N.asked nodes.new ≤ N.asked nodes.old + (spec.nodes_of_range (N.limit nodes.old - body_header) body.length offset count * pages_for (N.page nodes.old) (N.limit nodes.old) + 2 * digits) }
     ensures asks_part { (digits : ℕ) → spec.HasDigits (head_index (N.limit nodes.old - body_header) body.length) digits → spec.IsPartOfNode (N.limit nodes.old - body_header) body.length offset count → N.partly nodes.old ≢ spec.block_of_byte (N.node nodes.old) (N.limit nodes.old - body_header) body offset → N.asked nodes.new ≤ N.asked nodes.old + (pages_of_range (N.page nodes.old) (body_header + offset % (N.limit nodes.old - body_header)) (min body.length (offset + count) - offset) + 2 * digits) }
     ensures unread { spec.nodes_of_range (N.limit nodes.old - body_header) body.length offset count ≡ 0 → N.reads nodes.new ≡ N.reads nodes.old }
-    ensures why { IfErr result (λ fault. N.causes nodes.old nodes.new fault) }
-    ensures faults { IfErr result spec.IsBodyFault }
-    ensures looks { Looks N.Nodes nodes.old nodes.new }
 {
     let end = offset.saturating_add(count).min(u64::from(body.length));
     if offset >= end {

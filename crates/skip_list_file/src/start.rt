@@ -1,8 +1,8 @@
 //! What the nodes of a changed body are written after: found by reads alone.
-ghost use Rattle.std.specs.Prelude.{◌≡◌, ℕ, ◌+◌, ◌*◌, ◌≤◌, ◌^◌, IfOk, IfErr};
+ghost use Rattle.std.specs.Prelude.{◌≡◌, ℕ, ◌+◌, ◌*◌, ◌≤◌, ◌^◌, IfOk};
 ghost use Rattle.block_trees.specs.Bodies.{head_index};
-ghost use Rattle.node_store.specs.Words.{Looks};
-ghost use Rattle.skip_list_file.specs.Reading.{nodes_between, AsksPageEach, HasDigits, HoldsBody, IsBodyFault};
+ghost use Rattle.skip_list_file.specs.Calls.{LooksAlong};
+ghost use Rattle.skip_list_file.specs.Reading.{nodes_between, AsksPageEach, HoldsBody};
 ghost use Rattle.skip_list_file.specs.Writing as spec;
 
 use crate::body::Body;
@@ -39,10 +39,8 @@ pub(crate) fn find_front<N: Nodes>(
     ensures front { IfOk result (λ front. spec.IsBodyFront capacity (N.node nodes.old) body.head body.length front part) }
 
     // Two reads for each digit of the head's index, of a page each, and nothing is written.
-    ensures reads { (digits : ℕ) → HasDigits (head_index capacity body.length) digits → N.reads nodes.new ≤ N.reads nodes.old + 2 * digits }
+    ensures calls { LooksAlong N.Nodes (head_index capacity body.length) (λ digits. 2 * digits) nodes.old result nodes.new }
     ensures asks { AsksPageEach N.asked N.reads nodes.old nodes.new }
-    ensures refused { IfErr result (λ fault. IsBodyFault fault × N.causes nodes.old nodes.new fault) }
-    ensures looks { Looks N.Nodes nodes.old nodes.new }
 {
     if part == 0 {
         return Ok(0);
@@ -64,10 +62,8 @@ pub(crate) fn start_at<N: Nodes>(
 
     // What is found, what it costs, and why it is refused; nothing is written.
     ensures start { IfOk result (spec.BeginsChange (N.node nodes.old) change end) }
-    ensures reads { (digits : ℕ) → HasDigits (head_index change.capacity change.body.length) digits → N.reads nodes.new ≤ N.reads nodes.old + (nodes_between change.capacity end change.body.length + 3 * digits) }
+    ensures calls { LooksAlong N.Nodes (head_index change.capacity change.body.length) (λ digits. nodes_between change.capacity end change.body.length + 3 * digits) nodes.old result nodes.new }
     ensures asks { AsksPageEach N.asked N.reads nodes.old nodes.new }
-    ensures refused { IfErr result (λ fault. IsBodyFault fault × N.causes nodes.old nodes.new fault) }
-    ensures looks { Looks N.Nodes nodes.old nodes.new }
 {
     let capacity = change.capacity;
     let first = change.offset.min(change.body.length) / capacity;

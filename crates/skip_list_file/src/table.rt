@@ -1,10 +1,11 @@
 //! The slots of the next node of a chain, kept while nodes are written.
-ghost use Rattle.std.specs.Prelude.{◌≡◌, ℕ, ◌+◌, ◌-◌, ◌*◌, ◌/◌, ◌%◌, ◌^◌, ◌<◌, ◌≤◌, ◌==◌, if◌then◌else◌, length, slice_index, IfOk, IfErr};
+ghost use Rattle.std.specs.Prelude.{◌≡◌, ℕ, ◌+◌, ◌-◌, ◌*◌, ◌/◌, ◌%◌, ◌^◌, ◌<◌, ◌≤◌, ◌==◌, if◌then◌else◌, length, slice_index, IfOk};
 ghost use Rattle.block_trees.specs.Bodies.{back, IsChain, IsLinked};
 ghost use Rattle.node_format.specs.declared.headers.TheConstants.{SLOTS};
-ghost use Rattle.skip_list_file.specs.Reading.{AsksPageEach, IsBodyFault};
+ghost use Rattle.skip_list_file.specs.Reading.{AsksPageEach};
 ghost use Rattle.skip_list_file.specs.Writing as spec;
-ghost use Rattle.node_store.specs.Words.{Looks};
+ghost use Rattle.node_store.specs.Faults.{IsLookFault};
+ghost use Rattle.node_store.specs.Words.{LooksWithin};
 
 use crate::range_reads::pointer_at;
 use fs_types::Fault;
@@ -30,11 +31,9 @@ fn step_back<N: Nodes>(nodes: &mut N, block: u32, most: u32, slot: u32) -> Resul
     ensures next { IfOk result (λ next. next ≡ back (N.node nodes.old) block (most / 2 ^ slot % 2 * 2 ^ slot)) }
 
     // One read at most, of a page, and nothing is written.
-    ensures reads { N.reads nodes.new ≤ N.reads nodes.old + 1 }
+    ensures calls { LooksWithin N.Nodes IsLookFault 1 nodes.old result nodes.new }
     ensures unread { most < 2 ^ slot → N.reads nodes.new ≡ N.reads nodes.old }
     ensures asks { AsksPageEach N.asked N.reads nodes.old nodes.new }
-    ensures refused { IfErr result (λ fault. IsBodyFault fault × N.causes nodes.old nodes.new fault) }
-    ensures looks { Looks N.Nodes nodes.old nodes.new }
 {
     let power = 2u32.pow(slot);
     if most / power % 2 == 0 {
@@ -61,8 +60,7 @@ pub(crate) fn start_table<N: Nodes>(
     // A page is asked for each read, and nothing is written.
     ensures reads { (digits : ℕ) → index ≤ 2 ^ digits → N.reads nodes.new ≤ N.reads nodes.old + digits }
     ensures asks { AsksPageEach N.asked N.reads nodes.old nodes.new }
-    ensures refused { IfErr result (λ fault. IsBodyFault fault × N.causes nodes.old nodes.new fault) }
-    ensures looks { Looks N.Nodes nodes.old nodes.new }
+    ensures calls { LooksWithin N.Nodes IsLookFault SLOTS nodes.old result nodes.new }
 {
     let mut blocks = [head; SLOTS];
     if index == 0 {

@@ -4,3 +4,4 @@ pub mod NewBytes
 pub mod Needs
 pub mod NeedLaws
 pub mod ManyFiles
+pub mod AppliedEdits

@@ -1,9 +1,11 @@
 -- New roots.
-use Rattle.std.specs.Prelude.{◌≡◌, ◌⊎◌, ℕ, ◌-◌, Bool, true, false, Option, Some, List, [], ◌∷◌, Result, IfOk, IfErr}
+use Rattle.std.specs.Prelude.{◌≡◌, ◌⊎◌, ℕ, ◌+◌, ◌-◌, ◌≤◌, Bool, true, false, Option, Some, List, [], ◌∷◌, Result, IfOk, IfErr}
 use Rattle.fs_types.specs.declared.fault.Fault.{Fault}
 use Rattle.fs_types.specs.declared.named_file.NamedFile.{NamedFile}
-use Rattle.fs_types.specs.Names.{Path}
+use Rattle.fs_types.specs.Names.{Path, is_path}
 use Rattle.plain_trees.specs.Trees.{Tree}
+use Rattle.node_store.specs.Words as words
+use Rattle.node_store.specs.declared.nodes.Nodes.{Ghosts}
 use Rattle.node_format.specs.Headers.{body_header}
 use Rattle.node_format.specs.Items.{is_place}
 use Rattle.node_format.specs.declared.place.Place.{Place}
@@ -13,7 +15,7 @@ use Rattle.block_trees.specs.Chains.{is_chained}
 use Rattle.block_trees.specs.Reached.{Reached, IsHeld, PlaceNames}
 use Rattle.block_trees.specs.Rewritten.{IsRewritten}
 use Rattle.block_trees.specs.Trees.{IsRoot, root_tree}
-use Rattle.directory.specs.Trails.{IsChangeFault}
+use Rattle.directory.specs.Trails.{IsTrail, IsChangeFault}
 use Rattle.directory.specs.declared.directory_puts.NamedPlace.{NamedPlace}
 use Rattle.skip_list_file.specs.Writing.{HoldsIndex, IsWritten}
 use Rattle.skip_list_file.specs.declared.body.Body.{Body}
@@ -37,13 +39,26 @@ IsFreshBody kept new x =
     (root block : ℕ) → PlaceNames (File x.head x.length) root → Reached new (root ∷ []) block
     → (kept block ≡ false) × IsWrittenNode (new block)
 
--- an edit of the tree of a root was applied, in the words of the trait `Nodes`: there is a new root with the edited tree; or it was
+-- the tree of a root
+abbrev pub tree_of : {S : Type 0} → Ghosts S → S → ℕ → Tree
+tree_of N s root = root_tree (N.limit s - body_header) (N.node s) root
+
+-- what a look-up told of a path below a root: all that the root reaches is kept, it is the root of a tree, and the trail is that of the path
+pub record IsLookedUp {S : Type 0} (N : Ghosts S) (s : S) (root : ℕ) (path : Path) (trail : List ℕ) : Type 0 where
+  pub held : words.IsHeld N s (Dir root)
+  pub rooted : words.IsRoot N s root
+  pub lawful : is_path path ≡ true
+  pub way : IsTrail (N.node s) root path trail
+
+-- an edit of the tree of a root was applied, with so many writes at most: there is a new root with the edited tree, and the old one stays; or it was
 -- refused with its cause
-pub record IsApplied {S : Type 0} (limit : S → ℕ) (node : S → Blocks) (kept : S → ℕ → Bool) (follows : S → S → Type 0) (causes : S → S → Fault → Type 0) (old new : S) (root : ℕ) (edited : Tree → Tree) (result : Result ℕ Fault) : Type 0 where
-  pub new_root : IfOk result (λ to. IsNewRoot (limit old - body_header) (node old) (kept old) (node new) (kept new) root to (edited (root_tree (limit old - body_header) (node old) root)))
-  pub why : IfErr result (causes old new)
+pub record IsApplied {S : Type 0} (N : Ghosts S) (from : ℕ) (edited : Tree) (most_writes : ℕ) (old : S) (result : Result ℕ Fault) (new : S) : Type 0 where
+  pub new_root : IfOk result (λ to. IsNewRoot (N.limit old - body_header) (N.node old) (N.kept old) (N.node new) (N.kept new) from to edited)
+  pub keeps : words.Keeps N old new
+  pub works : words.Works N old new
+  pub writes : N.writes new ≤ N.writes old + most_writes
+  pub why : IfErr result (λ fault. N.causes old new fault)
   pub faults : IfErr result IsChangeFault
-  pub came : follows old new
 
 -- a place is a file of these bytes: its body is written and kept, and each block that it reaches was not kept before
 abbrev pub IsNewFile : ℕ → (ℕ → Bool) → Blocks → (ℕ → Bool) → List ℕ → Place → Type 0

@@ -1,17 +1,15 @@
 //! Edits carried out.
-ghost use Rattle.std.specs.Prelude.{◌≡◌, ℕ, ◌+◌, ◌-◌, ◌≤◌, Ok, IfOk, IfErr};
+ghost use Rattle.std.specs.Prelude.{◌≡◌, ◌-◌, Ok};
 ghost use Rattle.node_format.specs.Headers.{body_header};
 ghost use Rattle.node_format.specs.declared.place.Place.TheVariants.{Dir};
-ghost use Rattle.node_store.specs.Words.{IsHeld, IsRoot, Keeps};
-ghost use Rattle.block_trees.specs.Trees.{root_tree};
-ghost use Rattle.directory.specs.Trails.{IsChangeFault};
+ghost use Rattle.node_store.specs.Words.{IsHeld, IsRoot};
 ghost use Rattle.tree_edits.specs.Edits.{IsEditable, ReadsFew, effect, source, edit_need};
-ghost use Rattle.tree_edits.specs.Roots.{IsNewRoot};
+ghost use Rattle.tree_edits.specs.Roots.{IsApplied, tree_of};
 
 use crate::edit::Edit;
-use crate::entries::{make, remove, rename};
 use crate::files::{overwrite, put_empty, resize, write_file};
 use crate::many_files::write_files;
+use directory::{move_entry, put_directory, remove_entry};
 use fs_types::Fault;
 use node_store::Nodes;
 use std::alloc::Global;
@@ -33,20 +31,13 @@ pub fn apply<N: Nodes>(
     requires rooted { IsRoot N.Nodes nodes.old root }
     requires editable { IsEditable (N.limit nodes.old - body_header) (N.node nodes.old) (N.kept nodes.old) root edit }
 
-    // The new tree, and that the old one stays.
-    ensures root { IfOk result (λ to. IsNewRoot (N.limit nodes.old - body_header) (N.node nodes.old) (N.kept nodes.old) (N.node nodes.new) (N.kept nodes.new) (source root edit.entry) to (effect (root_tree (N.limit nodes.old - body_header) (N.node nodes.old)) edit.entry (root_tree (N.limit nodes.old - body_header) (N.node nodes.old) root))) }
-    ensures keeps { Keeps N.Nodes nodes.old nodes.new }
-
-    // What it is refused with, and what it asks for.
-    ensures why { IfErr result (λ fault. N.causes nodes.old nodes.new fault) }
-    ensures faults { IfErr result IsChangeFault }
+    // The new tree, and that the old one stays; what it is refused with, and how much it writes and reads.
+    ensures applied { IsApplied N.Nodes (source root edit.entry) (effect (tree_of N.Nodes nodes.old) edit.entry (tree_of N.Nodes nodes.old root)) (edit_need (N.limit nodes.old - body_header) (N.node nodes.old) edit.entry) nodes.old result nodes.new }
     ensures still { edit_need (N.limit nodes.old - body_header) (N.node nodes.old) edit.entry ≡ 0 → (nodes.new ≡ nodes.old) × (result ≡ Ok (source root edit.entry)) }
-    ensures writes { N.writes nodes.new ≤ N.writes nodes.old + edit_need (N.limit nodes.old - body_header) (N.node nodes.old) edit.entry }
     ensures reads { ReadsFew (N.limit nodes.old - body_header) (N.node nodes.old) edit.entry (N.reads nodes.old) (N.reads nodes.new) }
-    ensures follows { N.follows nodes.old nodes.new }
 {
     match edit {
-        Edit::MakeDirectory { path, trail } => make(alloc, nodes, root, trail, path),
+        Edit::MakeDirectory { path, trail } => put_directory(alloc, nodes, root, trail, path),
         Edit::PutEmptyFile { path, trail } => put_empty(alloc, nodes, root, trail, path),
         Edit::WriteFile { path, trail, bytes } => {
             write_file(alloc, nodes, root, trail, path, bytes)
@@ -71,14 +62,14 @@ pub fn apply<N: Nodes>(
             body,
             length,
         } => resize(alloc, nodes, root, trail, path, body, length),
-        Edit::Remove { path, trail } => remove(alloc, nodes, root, trail, path),
+        Edit::Remove { path, trail } => remove_entry(alloc, nodes, root, trail, path),
         Edit::Move {
             old,
             old_trail,
             new,
             new_trail,
             place,
-        } => rename(alloc, nodes, root, old_trail, old, new_trail, new, place),
+        } => move_entry(alloc, nodes, root, old_trail, old, new_trail, new, place),
         Edit::Restore { root } => Ok(root),
     }
 }

@@ -1,11 +1,10 @@
 //! Files with other bytes.
-ghost use Rattle.std.specs.Prelude.{◌≡◌, ℕ, ◌+◌, ◌-◌, ◌^◌, ◌≤◌, ◌<◌, true, false, length, Some, Ok, [], IfOk, IfErr};
+ghost use Rattle.std.specs.Prelude.{◌≡◌, ℕ, ◌+◌, ◌-◌, ◌≤◌, ◌<◌, true, false, length, Some, Ok, [], IfOk};
 ghost use Rattle.plain_trees.specs.Contents.{Entry, overwritten, resized, pwrite_need, ftruncate_need, body_need};
-ghost use Rattle.plain_trees.specs.Trees.{bytes_of_file, put};
+ghost use Rattle.plain_trees.specs.Trees.{put};
 ghost use Rattle.fs_types.specs.declared.limits.TheConstants.{MAX_FILE_BYTES};
-ghost use Rattle.fs_types.specs.Names.{is_path};
 ghost use Rattle.node_format.specs.Headers.{body_header};
-ghost use Rattle.node_format.specs.declared.place.Place.TheVariants.{Dir, File};
+ghost use Rattle.node_format.specs.declared.place.Place.TheVariants.{File};
 ghost use Rattle.block_trees.specs.Bodies.{head_index};
 ghost use Rattle.block_trees.specs.Rewritten.{IsRewritten};
 ghost use Rattle.directory.specs.declared.lookups.Found.{Found};
@@ -13,10 +12,10 @@ ghost use Rattle.directory.specs.declared.lookups.Found.TheVariants as found;
 ghost use Rattle.directory.specs.Counts.{path_nodes};
 ghost use Rattle.directory.specs.Edits.{OnlyReaches};
 ghost use Rattle.directory.specs.Lookups.{look_up};
-ghost use Rattle.directory.specs.Trails.{IsSought, IsTrail, IsChangeFault};
-ghost use Rattle.tree_edits.specs.Edits.{TakesFile, overwrite_reads, resize_reads};
-ghost use Rattle.tree_edits.specs.Roots.{IsApplied, IsFreshBody};
-ghost use Rattle.node_store.specs.Words.{IsHeld, IsRoot, Keeps, Works};
+ghost use Rattle.directory.specs.Trails.{IsSought, IsChangeFault};
+ghost use Rattle.tree_edits.specs.Edits.{TakesFile, overwrite_reads, resize_reads, with_file};
+ghost use Rattle.tree_edits.specs.Roots.{IsApplied, IsFreshBody, IsLookedUp, tree_of};
+ghost use Rattle.node_store.specs.Words.{Keeps, WorksWithin};
 ghost use Rattle.skip_list_file.specs.Writing.{IsWritten, IsWritingFault};
 ghost use Rattle.skip_list_file.specs.Reading.{HasDigits};
 
@@ -46,12 +45,8 @@ fn put_body<N: Nodes>(
     ensures reaches { IfOk result (λ to. OnlyReaches (N.node nodes.old) (N.node nodes.new) (N.kept nodes.old) root to (Some (File body.head body.length))) }
     ensures keeps { Keeps N.Nodes nodes.old nodes.new }
 
-    // What it is refused with, and what it asks for.
-    ensures why { IfErr result (λ fault. N.causes nodes.old nodes.new fault) }
-    ensures faults { IfErr result IsChangeFault }
-    ensures writes { N.writes nodes.new ≤ N.writes nodes.old + path_nodes (N.node nodes.old) trail.now path.now true 0 }
-    ensures reads { N.reads nodes.new ≤ N.reads nodes.old + path_nodes (N.node nodes.old) trail.now path.now false 0 }
-    ensures follows { N.follows nodes.old nodes.new }
+    // What it asks of the nodes.
+    ensures calls { WorksWithin N.Nodes IsChangeFault (path_nodes (N.node nodes.old) trail.now path.now false 0) (path_nodes (N.node nodes.old) trail.now path.now true 0) nodes.old result nodes.new }
 {
     let place = Place::File {
         head: body.head,
@@ -69,15 +64,11 @@ pub(crate) fn put_empty<N: Nodes>(
     path: &Path,
 ) -> Result<u32, Fault>
     requires sound { N.is_sound nodes.old }
-    requires held { IsHeld N.Nodes nodes.old (Dir root) }
-    requires rooted { IsRoot N.Nodes nodes.old root }
-    requires lawful { is_path path.now ≡ true }
-    requires way { IsTrail (N.node nodes.old) root path.now trail.now }
+    requires looked { IsLookedUp N.Nodes nodes.old root path.now trail.now }
     requires fits { (x : Found) × (look_up (N.node nodes.old) root path.now ≡ Ok x) × TakesFile x }
 
-    // The edited tree, and how many nodes were written and read for it.
-    ensures applied { IsApplied N.limit N.node N.kept N.follows N.causes nodes.old nodes.new root (λ tree. put tree path.now (Entry.File [])) result }
-    ensures writes { N.writes nodes.new ≤ N.writes nodes.old + path_nodes (N.node nodes.old) trail.now path.now true 0 }
+    // The edited tree, and how many nodes were read for it.
+    ensures applied { IsApplied N.Nodes root (put (tree_of N.Nodes nodes.old root) path.now (Entry.File [])) (path_nodes (N.node nodes.old) trail.now path.now true 0) nodes.old result nodes.new }
     ensures reads { N.reads nodes.new ≤ N.reads nodes.old + path_nodes (N.node nodes.old) trail.now path.now false 0 }
 {
     let body = Body { head: 0, length: 0 };
@@ -98,11 +89,8 @@ pub(crate) fn write_body<N: Nodes>(
     ensures fresh { IfOk result (IsFreshBody (N.kept nodes.old) (N.node nodes.new)) }
     ensures keeps { Keeps N.Nodes nodes.old nodes.new }
 
-    // What it costs, and why it is refused.
-    ensures reads { N.reads nodes.new ≤ N.reads nodes.old + 1 }
-    ensures writes { N.writes nodes.new ≤ N.writes nodes.old + body_need (N.limit nodes.old - body_header) (length bytes.now) }
-    ensures refused { IfErr result (λ fault. IsWritingFault fault × N.causes nodes.old nodes.new fault) }
-    ensures works { Works N.Nodes nodes.old nodes.new }
+    // What it asks of the nodes.
+    ensures calls { WorksWithin N.Nodes IsWritingFault 1 (body_need (N.limit nodes.old - body_header) (length bytes.now)) nodes.old result nodes.new }
 {
     let none = Body { head: 0, length: 0 };
     if bytes.is_empty() {
@@ -121,16 +109,12 @@ pub(crate) fn write_file<N: Nodes>(
     bytes: &[u8],
 ) -> Result<u32, Fault>
     requires sound { N.is_sound nodes.old }
-    requires held { IsHeld N.Nodes nodes.old (Dir root) }
-    requires rooted { IsRoot N.Nodes nodes.old root }
-    requires lawful { is_path path.now ≡ true }
-    requires way { IsTrail (N.node nodes.old) root path.now trail.now }
+    requires looked { IsLookedUp N.Nodes nodes.old root path.now trail.now }
     requires fits { (x : Found) × (look_up (N.node nodes.old) root path.now ≡ Ok x) × TakesFile x }
     requires short { length bytes.now ≤ MAX_FILE_BYTES }
 
-    // The edited tree, and how many nodes were written and read for it.
-    ensures applied { IsApplied N.limit N.node N.kept N.follows N.causes nodes.old nodes.new root (λ tree. put tree path.now (Entry.File bytes.now)) result }
-    ensures writes { N.writes nodes.new ≤ N.writes nodes.old + (body_need (N.limit nodes.old - body_header) (length bytes.now) + path_nodes (N.node nodes.old) trail.now path.now true 0) }
+    // The edited tree, and how many nodes were read for it.
+    ensures applied { IsApplied N.Nodes root (put (tree_of N.Nodes nodes.old root) path.now (Entry.File bytes.now)) (body_need (N.limit nodes.old - body_header) (length bytes.now) + path_nodes (N.node nodes.old) trail.now path.now true 0) nodes.old result nodes.new }
     ensures reads { N.reads nodes.new ≤ N.reads nodes.old + (1 + path_nodes (N.node nodes.old) trail.now path.now false 0) }
 {
     let new = write_body(alloc, nodes, bytes)?;
@@ -150,18 +134,14 @@ pub(crate) fn overwrite<N: Nodes>(
     bytes: &[u8],
 ) -> Result<u32, Fault>
     requires sound { N.is_sound nodes.old }
-    requires held { IsHeld N.Nodes nodes.old (Dir root) }
-    requires rooted { IsRoot N.Nodes nodes.old root }
-    requires lawful { is_path path.now ≡ true }
-    requires way { IsTrail (N.node nodes.old) root path.now trail.now }
+    requires looked { IsLookedUp N.Nodes nodes.old root path.now trail.now }
     requires found { look_up (N.node nodes.old) root path.now ≡ Ok (found.File body.head body.length) }
     requires short { body.length ≤ MAX_FILE_BYTES }
     requires some { 0 < length bytes.now }
     requires fits { offset + length bytes.now ≤ MAX_FILE_BYTES }
 
-    // The edited tree, and how many nodes were written and read for it.
-    ensures applied { IsApplied N.limit N.node N.kept N.follows N.causes nodes.old nodes.new root (λ tree. put tree path.now (Entry.File (overwritten (bytes_of_file tree path.now) offset bytes.now))) result }
-    ensures writes { N.writes nodes.new ≤ N.writes nodes.old + (pwrite_need (N.limit nodes.old - body_header) body.length offset (length bytes.now) + path_nodes (N.node nodes.old) trail.now path.now true 0) }
+    // The edited tree, and how many nodes were read for it.
+    ensures applied { IsApplied N.Nodes root (with_file (tree_of N.Nodes nodes.old root) path.now (λ old. overwritten old offset bytes.now)) (pwrite_need (N.limit nodes.old - body_header) body.length offset (length bytes.now) + path_nodes (N.node nodes.old) trail.now path.now true 0) nodes.old result nodes.new }
     ensures reads { (digits : ℕ) → HasDigits (head_index (N.limit nodes.old - body_header) body.length) digits → N.reads nodes.new ≤ N.reads nodes.old + (overwrite_reads (N.limit nodes.old - body_header) body.length (offset + length bytes.now) digits + path_nodes (N.node nodes.old) trail.now path.now false 0) }
 {
     let new = write_range(alloc, nodes, body, offset, bytes)?;
@@ -179,16 +159,12 @@ pub(crate) fn resize<N: Nodes>(
     size: u32,
 ) -> Result<u32, Fault>
     requires sound { N.is_sound nodes.old }
-    requires held { IsHeld N.Nodes nodes.old (Dir root) }
-    requires rooted { IsRoot N.Nodes nodes.old root }
-    requires lawful { is_path path.now ≡ true }
-    requires way { IsTrail (N.node nodes.old) root path.now trail.now }
+    requires looked { IsLookedUp N.Nodes nodes.old root path.now trail.now }
     requires found { look_up (N.node nodes.old) root path.now ≡ Ok (found.File body.head body.length) }
     requires fits { size ≤ MAX_FILE_BYTES }
 
-    // The edited tree, and how many nodes were written and read for it.
-    ensures applied { IsApplied N.limit N.node N.kept N.follows N.causes nodes.old nodes.new root (λ tree. put tree path.now (Entry.File (resized (bytes_of_file tree path.now) size))) result }
-    ensures writes { N.writes nodes.new ≤ N.writes nodes.old + (ftruncate_need (N.limit nodes.old - body_header) body.length size + path_nodes (N.node nodes.old) trail.now path.now true 0) }
+    // The edited tree, and how many nodes were read for it.
+    ensures applied { IsApplied N.Nodes root (with_file (tree_of N.Nodes nodes.old root) path.now (λ old. resized old size)) (ftruncate_need (N.limit nodes.old - body_header) body.length size + path_nodes (N.node nodes.old) trail.now path.now true 0) nodes.old result nodes.new }
     ensures reads { (digits : ℕ) → HasDigits (head_index (N.limit nodes.old - body_header) body.length) digits → N.reads nodes.new ≤ N.reads nodes.old + (resize_reads digits + path_nodes (N.node nodes.old) trail.now path.now false 0) }
 {
     let new = set_length(alloc, nodes, body, size)?;

@@ -3,7 +3,6 @@
 
 mod applied;
 mod edit;
-mod entries;
 mod files;
 mod many_files;
 

@@ -1,6 +1,6 @@
 //! Many files of one directory put at once: their bodies first, in order, then the directory, and then
 //! the directories above it.
-ghost use Rattle.std.specs.Prelude.{◌≡◌, ℕ, ◌+◌, ◌-◌, ◌≤◌, false, length, Some, Ok, IfOk, IfErr, All};
+ghost use Rattle.std.specs.Prelude.{◌≡◌, ℕ, ◌+◌, ◌-◌, ◌≤◌, false, length, Some, Ok, IfOk, All};
 ghost use Rattle.fs_types.specs.declared.limits.TheConstants.{MAX_FILE_BYTES};
 ghost use Rattle.plain_trees.specs.Contents.{body_need};
 ghost use Rattle.plain_trees.specs.Files.{files_put, bodies_need};
@@ -12,8 +12,8 @@ ghost use Rattle.directory.specs.declared.lookups.Found.TheVariants as found;
 ghost use Rattle.directory.specs.Lookups.{look_up};
 ghost use Rattle.directory.specs.Trails.{IsTrail, IsChangeFault};
 ghost use Rattle.tree_edits.specs.Edits.{AreWritable, chosen, files_nodes};
-ghost use Rattle.tree_edits.specs.Roots.{IsApplied, IsNewFile, AreNewFiles, IsLinked};
-ghost use Rattle.node_store.specs.Words.{IsHeld, IsRoot, Keeps, Works};
+ghost use Rattle.tree_edits.specs.Roots.{IsApplied, tree_of, IsNewFile, AreNewFiles, IsLinked};
+ghost use Rattle.node_store.specs.Words.{IsHeld, IsRoot, Keeps, WorksWithin};
 ghost use Rattle.skip_list_file.specs.Writing.{IsWritingFault};
 
 use crate::files::write_body;
@@ -32,11 +32,8 @@ fn write_place<N: Nodes>(alloc: Global, nodes: &mut N, bytes: &[u8]) -> Result<P
     ensures written { IfOk result (IsNewFile (N.limit nodes.old - body_header) (N.kept nodes.old) (N.node nodes.new) (N.kept nodes.new) bytes.now) }
     ensures keeps { Keeps N.Nodes nodes.old nodes.new }
 
-    // What it costs, and why it is refused.
-    ensures reads { N.reads nodes.new ≤ N.reads nodes.old + 1 }
-    ensures writes { N.writes nodes.new ≤ N.writes nodes.old + body_need (N.limit nodes.old - body_header) (length bytes.now) }
-    ensures refused { IfErr result (λ fault. IsWritingFault fault × N.causes nodes.old nodes.new fault) }
-    ensures works { Works N.Nodes nodes.old nodes.new }
+    // What it asks of the nodes.
+    ensures calls { WorksWithin N.Nodes IsWritingFault 1 (body_need (N.limit nodes.old - body_header) (length bytes.now)) nodes.old result nodes.new }
 {
     let body = write_body(alloc, nodes, bytes)?;
     Ok(Place::File {
@@ -61,11 +58,8 @@ fn write_bodies<'n, N: Nodes>(
     ensures written { IfOk result (λ puts. AreNewFiles (N.limit nodes.old - body_header) (N.kept nodes.old) (N.node nodes.new) (N.kept nodes.new) (chosen files.now changes.now) puts.items) }
     ensures keeps { Keeps N.Nodes nodes.old nodes.new }
 
-    // What it costs, and why it is refused.
-    ensures reads { N.reads nodes.new ≤ N.reads nodes.old + length (chosen files.now changes.now) }
-    ensures writes { N.writes nodes.new ≤ N.writes nodes.old + bodies_need (N.limit nodes.old - body_header) (chosen files.now changes.now) }
-    ensures refused { IfErr result (λ fault. IsWritingFault fault × N.causes nodes.old nodes.new fault) }
-    ensures works { Works N.Nodes nodes.old nodes.new }
+    // What it asks of the nodes.
+    ensures calls { WorksWithin N.Nodes IsWritingFault (length (chosen files.now changes.now)) (bodies_need (N.limit nodes.old - body_header) (chosen files.now changes.now)) nodes.old result nodes.new }
 {
     let mut puts = Vec::new(alloc);
     for i in 0..files.len() {
@@ -99,12 +93,8 @@ fn link_directory<N: Nodes>(
     ensures linked { IfOk result (λ to. IsLinked (N.node nodes.old) (N.node nodes.new) (N.kept nodes.old) (N.kept nodes.new) root to directory.now block) }
     ensures keeps { Keeps N.Nodes nodes.old nodes.new }
 
-    // What it is refused with, and what it asks for.
-    ensures why { IfErr result (λ fault. N.causes nodes.old nodes.new fault) }
-    ensures faults { IfErr result IsChangeFault }
-    ensures writes { N.writes nodes.new ≤ N.writes nodes.old + path_nodes (N.node nodes.old) trail.now directory.now false 0 }
-    ensures reads { N.reads nodes.new ≤ N.reads nodes.old + path_nodes (N.node nodes.old) trail.now directory.now false 0 }
-    ensures follows { N.follows nodes.old nodes.new }
+    // What it asks of the nodes.
+    ensures calls { WorksWithin N.Nodes IsChangeFault (path_nodes (N.node nodes.old) trail.now directory.now false 0) (path_nodes (N.node nodes.old) trail.now directory.now false 0) nodes.old result nodes.new }
 {
     if directory.is_root() {
         return Ok(block);
@@ -128,9 +118,8 @@ pub(crate) fn write_files<N: Nodes>(
     requires rooted { IsRoot N.Nodes nodes.old root }
     requires writable { AreWritable (N.node nodes.old) root directory.now trail.now block files.now changes.now }
 
-    // The edited tree, and how many nodes were written and read for it.
-    ensures applied { IsApplied N.limit N.node N.kept N.follows N.causes nodes.old nodes.new root (λ tree. files_put tree directory.now (chosen files.now changes.now)) result }
-    ensures writes { N.writes nodes.new ≤ N.writes nodes.old + files_nodes (N.limit nodes.old - body_header) (N.node nodes.old) trail.now directory.now block (chosen files.now changes.now) }
+    // The edited tree, and how many nodes were read for it.
+    ensures applied { IsApplied N.Nodes root (files_put (tree_of N.Nodes nodes.old root) directory.now (chosen files.now changes.now)) (files_nodes (N.limit nodes.old - body_header) (N.node nodes.old) trail.now directory.now block (chosen files.now changes.now)) nodes.old result nodes.new }
     ensures reads { N.reads nodes.new ≤ N.reads nodes.old + (length (chosen files.now changes.now) + (nodes_in (N.node nodes.old) block + path_nodes (N.node nodes.old) trail.now directory.now false 0)) }
 {
     let puts = write_bodies(alloc, nodes, files, changes)?;

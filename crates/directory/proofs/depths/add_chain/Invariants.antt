@@ -1,6 +1,7 @@
-use Rattle.std.proofs.Common.{◌≡◌, ◌+◌, ◌-◌}
+use Rattle.std.proofs.Common.{◌≡◌, ◌-◌, Ok}
 use Rattle.std.specs.FinSet as set
-use Rattle.node_store.specs.Words.{Looks}
+use Rattle.node_store.specs.Faults.{IsLookFault}
+use Rattle.node_store.specs.Words.{LooksWithin}
 use Rattle.directory.specs.Depths.{count_below, is_loud}
 use Rattle.directory.proofs.LevelNodes.{IsOnWay}
 use Rattle.directory.proofs.depths.add_chain.Given as goal
@@ -11,8 +12,7 @@ invariant-chain g l = record {
   way : IsOnWay (g.N.Nodes.node l.fn.nodes) (g.N.Nodes.blocks l.fn.nodes) l.fn.block l.at l.fn.seen.members l.fn.found.members l.seen.members l.found.members;
   seen_size : l.seen.blocks ≡ l.fn.seen.blocks;
   found_size : l.found.blocks ≡ l.fn.found.blocks;
-  reads : g.N.Nodes.reads l.nodes + count_below (is_loud l.quiet.members l.fn.seen.members) l.fn.seen.blocks ≡ g.N.Nodes.reads l.fn.nodes + count_below (is_loud l.quiet.members l.seen.members) l.fn.seen.blocks;
-  looks : Looks g.N.Nodes l.fn.nodes l.nodes;
+  calls : LooksWithin g.N.Nodes IsLookFault (count_below (is_loud l.quiet.members l.seen.members) l.fn.seen.blocks - count_below (is_loud l.quiet.members l.fn.seen.members) l.fn.seen.blocks) l.fn.nodes (Ok l.at) l.nodes;
 }
 
 abbrev pub decreases-chain : goal.decreases-chain

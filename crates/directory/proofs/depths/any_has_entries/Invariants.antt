@@ -1,6 +1,7 @@
-use Rattle.std.proofs.Common.{◌≡◌, ◌≤◌, ◌<◌, ◌+◌, ℕ, true, length}
+use Rattle.std.proofs.Common.{◌≡◌, ◌<◌, ℕ, true, length, Ok}
 use Rattle.std.specs.FinSet as set
-use Rattle.node_store.specs.Words.{Looks}
+use Rattle.node_store.specs.Faults.{IsLookFault}
+use Rattle.node_store.specs.Words.{LooksWithin}
 use Rattle.block_trees.specs.Chains.{link_items}
 use Rattle.directory.specs.Depths.{count_below}
 use Rattle.directory.proofs.depths.any_has_entries.Given as goal
@@ -9,6 +10,5 @@ use Rattle.directory.proofs.depths.any_has_entries.Given as goal
 abbrev pub invariant-loop-block : goal.invariant-loop-block
 invariant-loop-block g l = record {
   none : (b : ℕ) → b < l.block → set.contains l.level.members b ≡ true → length (link_items (g.N.Nodes.node l.initial.nodes b)) ≡ 0;
-  reads : g.N.Nodes.reads l.nodes ≤ g.N.Nodes.reads l.initial.nodes + count_below (set.contains l.level.members) l.block;
-  looks : Looks g.N.Nodes l.initial.nodes l.nodes;
+  calls : LooksWithin g.N.Nodes IsLookFault (count_below (set.contains l.level.members) l.block) l.initial.nodes (Ok l.block) l.nodes;
 }

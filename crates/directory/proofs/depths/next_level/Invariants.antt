@@ -1,5 +1,6 @@
-use Rattle.std.proofs.Common.{◌≡◌, ◌+◌}
-use Rattle.node_store.specs.Words.{Looks}
+use Rattle.std.proofs.Common.{◌≡◌, Ok}
+use Rattle.node_store.specs.Faults.{IsLookFault}
+use Rattle.node_store.specs.Words.{LooksWithin}
 use Rattle.directory.specs.Depths.{count_below, is_loud}
 use Rattle.directory.proofs.LevelNodes.{IsLevelRead}
 use Rattle.directory.proofs.depths.next_level.Given as goal
@@ -10,6 +11,5 @@ invariant-loop-block g l = record {
   level : IsLevelRead (g.N.Nodes.node l.fn.nodes) (g.N.Nodes.blocks l.fn.nodes) l.block l.level.members l.seen.members l.next.members;
   seen_size : l.seen.blocks ≡ l.level.blocks;
   next_size : l.next.blocks ≡ l.level.blocks;
-  reads : g.N.Nodes.reads l.nodes ≡ g.N.Nodes.reads l.fn.nodes + count_below (is_loud l.quiet.members l.seen.members) l.level.blocks;
-  looks : Looks g.N.Nodes l.fn.nodes l.nodes;
+  calls : LooksWithin g.N.Nodes IsLookFault (count_below (is_loud l.quiet.members l.seen.members) l.level.blocks) l.fn.nodes (Ok l.block) l.nodes;
 }

@@ -1,12 +1,14 @@
-use Rattle.std.proofs.Common.{◌≡◌, ◌∙◌, ℕ, ◌+◌, ◌≤◌, List, length, get_or, sym, ap, subst, arith}
-use Rattle.std.proofs.lemmas.Result.{IfOk-weaker, IfErr-weaker}
-use Rattle.fs_types.specs.declared.fault.Fault.{Fault}
+use Rattle.std.proofs.Common.{◌≡◌, ◌∙◌, ◌+◌, ◌≤◌, List, length, get_or, sym, ap, subst, arith, refl}
+use Rattle.std.proofs.lemmas.Result.{err_from_is_err_and}
 use Rattle.plain_trees.specs.Trees.{nodes_for}
 use Rattle.plain_trees.proofs.Needs.{nodes_for-le}
 use Rattle.node_format.specs.Items.{Item}
 use Rattle.block_trees.specs.Trees.{items_in}
-use Rattle.block_trees.specs.Rewritten.{IsFreshChain}
-use Rattle.directory.specs.Puts.{count_missing, HasRoomFor, IsPutEach, IsDirectoryPut}
+use Rattle.directory.specs.Puts.{count_missing, HasRoomFor, IsPutEach}
+use Rattle.node_store.specs.WordLaws.{works_after, works_looking, works_refused, works_wider}
+use Rattle.directory.specs.Trails.{IsChangeFault}
+use Rattle.directory.proofs.TrailEdits.{write_refused}
+use Rattle.directory.proofs.NodeCalls.{look_refused}
 use Rattle.directory.proofs.ReadLists.{all_read}
 use Rattle.directory.proofs.ListEdits.{last_read}
 use Rattle.directory.proofs.DirectoryPuts.{items_are, each_done}
@@ -26,37 +28,26 @@ returns-clause-put g c =
     let mid = c.read_list.new.nodes in
     let new = c.write_list.new.nodes in
     let r = c.in_ok-read.ensures.read in
-    let looks = c.read_list.ensures.looks in
+    let looks = c.read_list.ensures.calls.looks in
     let last = last_read c.in_ok-read.read c.in_ok-read.tail (get_or c.args.puts.now 0 c.index-puts-0.result).name.now c.in_ok-read.ensures.enough in
     let edited : IsPutEach c.in_ok-read.read c.args.puts.now c.in_ok-edited.edited = subst (λ (items : List Item). IsPutEach items c.args.puts.now c.in_ok-edited.edited) c.list.ensures c.in_ok-edited.ensures in
-    let done = each_done (g.N.Nodes.node old) (g.N.Nodes.node mid) (g.N.Nodes.node new) (g.N.Nodes.kept old) (g.N.Nodes.kept mid) (g.N.Nodes.kept new) c.args.block r.0 c.in_ok-read.read c.in_ok-edited.edited c.list-2.result c.in_ok-read.tail c.args.puts.now c.write_list.result
-    looks.same_nodes looks.same_kept c.list-2.ensures r.1 last edited c.write_list.ensures.put in
-    IfOk-weaker c.write_list.result
-    (λ (to : ℕ). IsDirectoryPut (g.N.Nodes.node old) (g.N.Nodes.node new) c.args.block to c.args.puts.now × IsFreshChain (g.N.Nodes.node old) (g.N.Nodes.node new) (g.N.Nodes.kept old) (g.N.Nodes.kept new) c.args.block to)
-    (λ (to : ℕ). IsDirectoryPut (g.N.Nodes.node old) (g.N.Nodes.node new) c.args.block to c.args.puts.now) (λ to w. w.0) done
+    each_done (g.N.Nodes.node old) (g.N.Nodes.node mid) (g.N.Nodes.node new) (g.N.Nodes.kept old) (g.N.Nodes.kept mid) (g.N.Nodes.kept new) c.args.block r.0 c.in_ok-read.read c.in_ok-edited.edited c.list-2.result c.in_ok-read.tail c.args.puts.now c.write_list.result
+    looks.same_nodes looks.same_kept c.list-2.ensures r.1 last edited c.write_list.ensures.put
 
-pub returns-clause-chain : goal.returns-clause-chain
-returns-clause-chain g c =
-    let old = c.args.nodes.now in
-    let mid = c.read_list.new.nodes in
-    let new = c.write_list.new.nodes in
-    let r = c.in_ok-read.ensures.read in
-    let looks = c.read_list.ensures.looks in
-    let last = last_read c.in_ok-read.read c.in_ok-read.tail (get_or c.args.puts.now 0 c.index-puts-0.result).name.now c.in_ok-read.ensures.enough in
-    let edited : IsPutEach c.in_ok-read.read c.args.puts.now c.in_ok-edited.edited = subst (λ (items : List Item). IsPutEach items c.args.puts.now c.in_ok-edited.edited) c.list.ensures c.in_ok-edited.ensures in
-    let done = each_done (g.N.Nodes.node old) (g.N.Nodes.node mid) (g.N.Nodes.node new) (g.N.Nodes.kept old) (g.N.Nodes.kept mid) (g.N.Nodes.kept new) c.args.block r.0 c.in_ok-read.read c.in_ok-edited.edited c.list-2.result c.in_ok-read.tail c.args.puts.now c.write_list.result
-    looks.same_nodes looks.same_kept c.list-2.ensures r.1 last edited c.write_list.ensures.put in
-    IfOk-weaker c.write_list.result
-    (λ (to : ℕ). IsDirectoryPut (g.N.Nodes.node old) (g.N.Nodes.node new) c.args.block to c.args.puts.now × IsFreshChain (g.N.Nodes.node old) (g.N.Nodes.node new) (g.N.Nodes.kept old) (g.N.Nodes.kept new) c.args.block to)
-    (λ (to : ℕ). IsFreshChain (g.N.Nodes.node old) (g.N.Nodes.node new) (g.N.Nodes.kept old) (g.N.Nodes.kept new) c.args.block to) (λ to w. w.1) done
+pub returns-in_err-read-clause-calls : goal.returns-in_err-read-clause-calls
+returns-in_err-read-clause-calls g c =
+    let read = works_looking {IsOther = IsChangeFault} g.met.N.Nodes.looks_works c.args.nodes.now c.read_list.new.nodes (λ fault is. is) look_refused c.in_err-read.ensures.calls in
+    let p = err_from_is_err_and c.from_residual.result c.from_residual.ensures.1 in
+    rw (p.1, p.2) (works_wider (works_refused read) (omega arith) (omega arith))
 
-pub returns-clause-why : goal.returns-clause-why
-returns-clause-why g c =
-    IfErr-weaker c.write_list.result (λ (fault : Fault). g.N.Nodes.causes c.read_list.new.nodes c.write_list.new.nodes fault) (λ (fault : Fault). g.N.Nodes.causes c.args.nodes.now c.write_list.new.nodes fault)
-    (λ fault why. g.met.N.Nodes.causes_on c.args.nodes.now c.read_list.new.nodes c.write_list.new.nodes fault c.read_list.ensures.looks.came why) c.write_list.ensures.why
+pub returns-in_err-edited-clause-calls : goal.returns-in_err-edited-clause-calls
+returns-in_err-edited-clause-calls g c =
+    let read = works_looking {IsOther = IsChangeFault} g.met.N.Nodes.looks_works c.args.nodes.now c.read_list.new.nodes (λ fault is. is) look_refused c.in_ok-read.ensures.calls in
+    let p = err_from_is_err_and c.from_residual-in_err-edited.result c.from_residual-in_err-edited.ensures.1 in
+    rw (p.1, p.2) (record { works = read.works; reads = omega (arith, read.reads); writes = omega (arith, read.writes); why = g.met.N.Nodes.memory_may_want c.args.nodes.now c.read_list.new.nodes; faults = refl })
 
-pub returns-clause-writes : goal.returns-clause-writes
-returns-clause-writes g c =
+pub returns-clause-calls : goal.returns-clause-calls
+returns-clause-calls g c =
     let old = c.args.nodes.now in
     let f = g.N.Nodes.node old in
     let r = c.in_ok-read.ensures.read in
@@ -67,6 +58,5 @@ returns-clause-writes g c =
     let listed : nodes_for (length c.list-2.result) ≡ nodes_for (length c.in_ok-edited.edited) = ap (λ (items : List Item). nodes_for (length items)) c.list-2.ensures in
     let parts : nodes_for (length (items_in f c.args.block) + count_missing (items_in f c.args.block) c.args.puts.now) ≡ nodes_for (length c.in_ok-read.read + count_missing c.in_ok-read.read c.args.puts.now) =
     ap (λ (items : List Item). nodes_for (length items + count_missing items c.args.puts.now)) same in
-    let kept = c.read_list.ensures.looks.same_writes in
-    let wrote = c.write_list.ensures.writes in
-    omega (arith, wrote, kept, most, listed, parts)
+    let read = works_looking {IsOther = IsChangeFault} g.met.N.Nodes.looks_works c.args.nodes.now c.read_list.new.nodes (λ fault is. is) look_refused c.in_ok-read.ensures.calls in
+    works_after g.met.N.Nodes.works_on g.met.N.Nodes.causes_on old c.read_list.new.nodes c.write_list.new.nodes write_refused read c.write_list.ensures.calls (omega arith) (omega (arith, most, listed, parts))

@@ -30,5 +30,5 @@ returns-clause-reaches g c =
     let h = g.N.Nodes.node new in
     let k = g.N.Nodes.kept old in
     let l = g.N.Nodes.kept new in
-    let keeps : Keeps g.N.Nodes old new = keeps_nodes g.N.Nodes g.met.N.Nodes.same_node g.met.N.Nodes.stays_kept old new c.requires.sound c.rewrite_from.ensures.works.came in
+    let keeps : Keeps g.N.Nodes old new = keeps_nodes g.N.Nodes g.met.N.Nodes.same_node g.met.N.Nodes.stays_kept old new c.requires.sound c.rewrite_from.ensures.calls.works.came in
     only_reaches f h k l c.args.root c.args.path.now (Some c.args.place) c.rewrite_from.result keeps c.requires.sought.held (search rules)

@@ -1,11 +1,12 @@
-use Rattle.std.proofs.Common.{◌≡◌, true, false, ◌≤◌, ◌+◌, drop}
+use Rattle.std.proofs.Common.{◌≡◌, Ok, true, false, ◌≤◌, drop}
 use Rattle.std.specs.Prelude.{slice_index}
 use Rattle.std.specs.Option.{is_some}
-use Rattle.node_store.specs.Words.{Works}
+use Rattle.node_store.specs.Words.{WorksWithin}
 use Rattle.node_format.specs.Items.{is_place}
 use Rattle.node_format.specs.declared.place.Place.TheVariants.{Dir}
 use Rattle.block_trees.specs.Rewritten.{IsRewritten}
 use Rattle.directory.specs.Counts.{path_nodes}
+use Rattle.directory.specs.Trails.{IsChangeFault}
 use Rattle.directory.proofs.edits.rewrite_from.Given as goal
 
 -- the directories from level i on are written
@@ -14,7 +15,5 @@ invariant-loop-i g l = record {
   from : l.level ≤ l.i;
   lawful : is_place (Dir l.to) ≡ true;
   rewritten : IsRewritten (g.N.Nodes.node l.fn.nodes) (g.N.Nodes.node l.nodes) (g.N.Nodes.kept l.fn.nodes) (g.N.Nodes.kept l.nodes) (slice_index l.trail l.i) l.to (drop l.i l.names) l.fn.place;
-  writes : g.N.Nodes.writes l.nodes ≤ g.N.Nodes.writes l.fn.nodes + path_nodes (g.N.Nodes.node l.fn.nodes) l.trail l.names (is_some l.fn.place) l.i;
-  reads : g.N.Nodes.reads l.nodes ≤ g.N.Nodes.reads l.fn.nodes + path_nodes (g.N.Nodes.node l.fn.nodes) l.trail l.names false l.i;
-  works : Works g.N.Nodes l.fn.nodes l.nodes;
+  calls : WorksWithin g.N.Nodes IsChangeFault (path_nodes (g.N.Nodes.node l.fn.nodes) l.trail l.names false l.i) (path_nodes (g.N.Nodes.node l.fn.nodes) l.trail l.names (is_some l.fn.place) l.i) l.fn.nodes (Ok l.to) l.nodes;
 }

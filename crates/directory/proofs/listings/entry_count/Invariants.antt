@@ -1,6 +1,7 @@
-use Rattle.std.proofs.Common.{◌≡◌, ◌≤◌, ◌-◌, ◌+◌, ◌*◌, ℕ, List, length}
+use Rattle.std.proofs.Common.{◌≡◌, ◌≤◌, ◌-◌, ◌+◌, ◌*◌, ℕ, List, length, Ok}
 use Rattle.fs_types.specs.declared.limits.TheConstants.{NODE_ENTRIES}
-use Rattle.node_store.specs.Words.{Looks}
+use Rattle.node_store.specs.Faults.{IsReadFault}
+use Rattle.node_store.specs.Words.{LooksWithin}
 use Rattle.block_trees.specs.Chains.{most_after}
 use Rattle.directory.specs.Seeking.{entries_along}
 use Rattle.directory.proofs.Walks.{IsWalk}
@@ -11,6 +12,5 @@ abbrev pub invariant-loop : goal.invariant-loop
 invariant-loop g l = record {
   walk : (front : List ℕ) × IsWalk (g.N.Nodes.node l.fn.nodes) l.block (most_after - l.counter) l.next (l.counter + 1) front × (length (entries_along (g.N.Nodes.node l.fn.nodes) front) ≡ l.count);
   few : l.count ≤ NODE_ENTRIES * (l.counter + 1);
-  reads : g.N.Nodes.reads l.nodes ≡ g.N.Nodes.reads l.fn.nodes + (l.counter + 1);
-  looks : Looks g.N.Nodes l.fn.nodes l.nodes;
+  calls : LooksWithin g.N.Nodes IsReadFault (l.counter + 1) l.fn.nodes (Ok l.next) l.nodes;
 }

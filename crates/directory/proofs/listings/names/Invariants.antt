@@ -1,5 +1,6 @@
-use Rattle.std.proofs.Common.{◌≡◌, ◌-◌, ◌+◌, ℕ, List}
-use Rattle.node_store.specs.Words.{Looks}
+use Rattle.std.proofs.Common.{◌≡◌, ◌-◌, ◌+◌, ℕ, List, Ok}
+use Rattle.node_store.specs.Faults.{IsReadFault}
+use Rattle.node_store.specs.Words.{LooksWithin}
 use Rattle.block_trees.specs.Chains.{most_after}
 use Rattle.block_trees.specs.Trees.{names_of}
 use Rattle.directory.specs.Seeking.{entries_along}
@@ -10,6 +11,5 @@ use Rattle.directory.proofs.listings.names.Given as goal
 abbrev pub invariant-loop : goal.invariant-loop
 invariant-loop g l = record {
   walk : (front : List ℕ) × IsWalk (g.N.Nodes.node l.fn.nodes) l.block (most_after - l.counter) l.next (l.counter + 1) front × (l.names ≡ names_of (entries_along (g.N.Nodes.node l.fn.nodes) front));
-  reads : g.N.Nodes.reads l.nodes ≡ g.N.Nodes.reads l.fn.nodes + (l.counter + 1);
-  looks : Looks g.N.Nodes l.fn.nodes l.nodes;
+  calls : LooksWithin g.N.Nodes IsReadFault (l.counter + 1) l.fn.nodes (Ok l.next) l.nodes;
 }

@@ -1,4 +1,5 @@
 use Rattle.std.proofs.lemmas.Result.{err_from_is_err_and}
+use Rattle.node_store.specs.WordLaws.{looks_answered, looks_refused}
 use Rattle.directory.proofs.lookups.lookup.Goals as goal
 
 pub returns-in_err-found-clause-refused : goal.returns-in_err-found-clause-refused
@@ -6,27 +7,13 @@ returns-in_err-found-clause-refused g c =
     let p = err_from_is_err_and c.from_residual.result c.from_residual.ensures.1 in
     rw (p.1, p.2) c.in_err-found.ensures.refused
 
-pub returns-in_err-found-clause-why : goal.returns-in_err-found-clause-why
-returns-in_err-found-clause-why g c =
-    let p = err_from_is_err_and c.from_residual.result c.from_residual.ensures.1 in
-    rw (p.1, p.2) c.in_err-found.ensures.why
-
-pub returns-in_err-found-clause-faults : goal.returns-in_err-found-clause-faults
-returns-in_err-found-clause-faults g c =
-    let p = err_from_is_err_and c.from_residual.result c.from_residual.ensures.1 in
-    rw (p.1, p.2) c.in_err-found.ensures.faults
-
-pub returns-in_err-found-clause-looks : goal.returns-in_err-found-clause-looks
-returns-in_err-found-clause-looks g c = c.find.ensures.looks
-
-pub returns-in_err-found-clause-reads : goal.returns-in_err-found-clause-reads
-returns-in_err-found-clause-reads g c = c.find.ensures.reads
-
 pub returns-clause-found : goal.returns-clause-found
 returns-clause-found g c = c.in_ok-found.ensures.found
 
-pub returns-clause-looks : goal.returns-clause-looks
-returns-clause-looks g c = c.find.ensures.looks
+pub returns-in_err-found-clause-calls : goal.returns-in_err-found-clause-calls
+returns-in_err-found-clause-calls g c =
+    let p = err_from_is_err_and c.from_residual.result c.from_residual.ensures.1 in
+    rw (p.1, p.2) (looks_refused c.in_err-found.ensures.calls)
 
-pub returns-clause-reads : goal.returns-clause-reads
-returns-clause-reads g c = c.find.ensures.reads
+pub returns-clause-calls : goal.returns-clause-calls
+returns-clause-calls g c = looks_answered c.in_ok-found.ensures.calls

@@ -1,6 +1,7 @@
-use Rattle.std.proofs.Common.{◌≡◌, ◌-◌, ◌+◌, ◌*◌, ◌≤◌}
+use Rattle.std.proofs.Common.{◌-◌, ◌+◌, ◌*◌, ◌≤◌, Ok}
 use Rattle.fs_types.specs.declared.limits.TheConstants.{NODE_ENTRIES}
-use Rattle.node_store.specs.Words.{Looks}
+use Rattle.node_store.specs.Faults.{IsReadFault}
+use Rattle.node_store.specs.Words.{LooksWithin}
 use Rattle.block_trees.specs.Chains.{most_after}
 use Rattle.directory.proofs.Sights.{IsSought}
 use Rattle.directory.proofs.lookups.seek.Given as goal
@@ -10,6 +11,5 @@ abbrev pub invariant-loop : goal.invariant-loop
 invariant-loop g l = record {
   sought : IsSought (g.N.Nodes.node l.fn.nodes) l.name l.block (most_after - l.counter) l.sight.next (l.counter + 1) l.count l.sight.place;
   few : l.count ≤ NODE_ENTRIES * (l.counter + 1);
-  reads : g.N.Nodes.reads l.nodes ≡ g.N.Nodes.reads l.fn.nodes + (l.counter + 1);
-  looks : Looks g.N.Nodes l.fn.nodes l.nodes;
+  calls : LooksWithin g.N.Nodes IsReadFault (l.counter + 1) l.fn.nodes (Ok l.sight) l.nodes;
 }

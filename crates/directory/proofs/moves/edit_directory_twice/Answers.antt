@@ -1,7 +1,7 @@
-use Rattle.std.proofs.Common.{◌≡◌, ℕ, ◌+◌, ◌≤◌, Bool, true, cond, ◌&&◌, Option, Some, None, unwrap_or, Result, Ok, Err, List, [], length, ap, sym, subst, ◌∙◌, arith}
+use Rattle.std.proofs.Common.{◌≡◌, ℕ, ◌+◌, ◌≤◌, Bool, true, cond, ◌&&◌, Option, Some, None, unwrap_or, Result, Ok, Err, List, [], length, ap, sym, subst, ◌∙◌, arith, refl}
 use Rattle.std.specs.Prelude.{IsSome, IfOk}
 use Rattle.std.specs.Option.{is_some, is_none}
-use Rattle.std.proofs.lemmas.Result.{IfOk-weaker, IfErr-weaker}
+use Rattle.std.proofs.lemmas.Result.{err_from_is_err_and}
 use Rattle.fs_types.specs.declared.fault.Fault.{Fault}
 use Rattle.fs_types.specs.Names.{Name}
 use Rattle.plain_trees.specs.Trees.{nodes_for}
@@ -15,8 +15,11 @@ use Rattle.block_trees.proofs.ChainCounts.{most_of}
 use Rattle.directory.specs.Counts.{edit_nodes}
 use Rattle.directory.specs.Moves.{IsEditedTwice, edited_twice_count}
 use Rattle.directory.specs.Reads.{IsReadTo}
-use Rattle.directory.specs.Trails.{takes}
+use Rattle.directory.specs.Trails.{takes, IsChangeFault}
 use Rattle.directory.specs.Written.{PutsDirectory}
+use Rattle.node_store.specs.WordLaws.{works_after, works_looking, works_refused, works_wider}
+use Rattle.directory.proofs.TrailEdits.{write_refused}
+use Rattle.directory.proofs.NodeCalls.{look_refused}
 use Rattle.directory.proofs.ReadLists.{all_read}
 use Rattle.directory.proofs.ListEdits.{second_written, last_read}
 use Rattle.directory.proofs.moves.edit_directory_twice.Goals as goal
@@ -77,41 +80,27 @@ returns-clause-edited g c =
     let k0 = g.N.Nodes.kept old in
     let k2 = g.N.Nodes.kept new in
     let r = c.in_ok-read.ensures.read in
-    let looks = c.read_list.ensures.looks in
+    let looks = c.read_list.ensures.calls.looks in
     let last = last_read c.in_ok-read.read c.in_ok-read.tail c.args.name.now c.in_ok-read.ensures.enough in
     let edited : IsEditedTwice c.in_ok-read.read c.args.name.now c.args.gone c.args.other.now c.args.here c.in_ok-edited.edited =
     subst (λ (items : List Item). IsEditedTwice items c.args.name.now c.args.gone c.args.other.now c.args.here c.in_ok-edited.edited) c.list.ensures c.in_ok-edited.ensures in
-    let done = second_done f0 (g.N.Nodes.node mid) f2 k0 (g.N.Nodes.kept mid) k2 c.args.block r.0 c.in_ok-read.read c.in_ok-edited.edited c.list-2.result c.in_ok-read.tail c.args.name.now c.args.gone c.args.other.now c.args.here c.write_list.result
-    looks.same_nodes looks.same_kept c.list-2.ensures r.1 last edited c.write_list.ensures.put in
-    IfOk-weaker c.write_list.result (λ (to : ℕ). IsSecondEdit f0 f2 c.args.block to c.args.name.now c.args.gone c.args.other.now c.args.here × IsFreshChain f0 f2 k0 k2 c.args.block to)
-    (λ (to : ℕ). IsSecondEdit f0 f2 c.args.block to c.args.name.now c.args.gone c.args.other.now c.args.here) (λ to w. w.0) done
+    second_done f0 (g.N.Nodes.node mid) f2 k0 (g.N.Nodes.kept mid) k2 c.args.block r.0 c.in_ok-read.read c.in_ok-edited.edited c.list-2.result c.in_ok-read.tail c.args.name.now c.args.gone c.args.other.now c.args.here c.write_list.result
+    looks.same_nodes looks.same_kept c.list-2.ensures r.1 last edited c.write_list.ensures.put
 
-pub returns-clause-chain : goal.returns-clause-chain
-returns-clause-chain g c =
-    let old = c.args.nodes.now in
-    let mid = c.read_list.new.nodes in
-    let new = c.write_list.new.nodes in
-    let f0 = g.N.Nodes.node old in
-    let f2 = g.N.Nodes.node new in
-    let k0 = g.N.Nodes.kept old in
-    let k2 = g.N.Nodes.kept new in
-    let r = c.in_ok-read.ensures.read in
-    let looks = c.read_list.ensures.looks in
-    let last = last_read c.in_ok-read.read c.in_ok-read.tail c.args.name.now c.in_ok-read.ensures.enough in
-    let edited : IsEditedTwice c.in_ok-read.read c.args.name.now c.args.gone c.args.other.now c.args.here c.in_ok-edited.edited =
-    subst (λ (items : List Item). IsEditedTwice items c.args.name.now c.args.gone c.args.other.now c.args.here c.in_ok-edited.edited) c.list.ensures c.in_ok-edited.ensures in
-    let done = second_done f0 (g.N.Nodes.node mid) f2 k0 (g.N.Nodes.kept mid) k2 c.args.block r.0 c.in_ok-read.read c.in_ok-edited.edited c.list-2.result c.in_ok-read.tail c.args.name.now c.args.gone c.args.other.now c.args.here c.write_list.result
-    looks.same_nodes looks.same_kept c.list-2.ensures r.1 last edited c.write_list.ensures.put in
-    IfOk-weaker c.write_list.result (λ (to : ℕ). IsSecondEdit f0 f2 c.args.block to c.args.name.now c.args.gone c.args.other.now c.args.here × IsFreshChain f0 f2 k0 k2 c.args.block to)
-    (λ (to : ℕ). IsFreshChain f0 f2 k0 k2 c.args.block to) (λ to w. w.1) done
+pub returns-in_err-read-clause-calls : goal.returns-in_err-read-clause-calls
+returns-in_err-read-clause-calls g c =
+    let read = works_looking {IsOther = IsChangeFault} g.met.N.Nodes.looks_works c.args.nodes.now c.read_list.new.nodes (λ fault is. is) look_refused c.in_err-read.ensures.calls in
+    let p = err_from_is_err_and c.from_residual.result c.from_residual.ensures.1 in
+    rw (p.1, p.2) (works_wider (works_refused read) (omega arith) (omega arith))
 
-pub returns-clause-why : goal.returns-clause-why
-returns-clause-why g c =
-    IfErr-weaker c.write_list.result (λ (fault : Fault). g.N.Nodes.causes c.read_list.new.nodes c.write_list.new.nodes fault) (λ (fault : Fault). g.N.Nodes.causes c.args.nodes.now c.write_list.new.nodes fault)
-    (λ fault why. g.met.N.Nodes.causes_on c.args.nodes.now c.read_list.new.nodes c.write_list.new.nodes fault c.read_list.ensures.looks.came why) c.write_list.ensures.why
+pub returns-in_err-edited-clause-calls : goal.returns-in_err-edited-clause-calls
+returns-in_err-edited-clause-calls g c =
+    let read = works_looking {IsOther = IsChangeFault} g.met.N.Nodes.looks_works c.args.nodes.now c.read_list.new.nodes (λ fault is. is) look_refused c.in_ok-read.ensures.calls in
+    let p = err_from_is_err_and c.from_residual-in_err-edited.result c.from_residual-in_err-edited.ensures.1 in
+    rw (p.1, p.2) (record { works = read.works; reads = omega (arith, read.reads); writes = omega (arith, read.writes); why = g.met.N.Nodes.memory_may_want c.args.nodes.now c.read_list.new.nodes; faults = refl })
 
-pub returns-clause-writes : goal.returns-clause-writes
-returns-clause-writes g c =
+pub returns-clause-calls : goal.returns-clause-calls
+returns-clause-calls g c =
     let old = c.args.nodes.now in
     let f = g.N.Nodes.node old in
     let r = c.in_ok-read.ensures.read in
@@ -124,23 +113,5 @@ returns-clause-writes g c =
     let most = twice_most (named_place c.in_ok-read.read c.args.name.now) c.args.gone (named_place c.in_ok-read.read c.args.other.now) c.args.here (length c.in_ok-read.read) there in
     let same : edit_nodes (items_in f c.args.block) c.args.other.now (is_some c.args.gone) ≡ edit_nodes c.in_ok-read.read c.args.other.now (is_some c.args.gone) =
     ap (λ (entries : Option (List Item)). edit_nodes (unwrap_or entries []) c.args.other.now (is_some c.args.gone)) all in
-    let kept = c.read_list.ensures.looks.same_writes in
-    let wrote = c.write_list.ensures.writes in
-    omega (arith, wrote, kept, count, most, same)
-
-pub returns-clause-written : goal.returns-clause-written
-returns-clause-written g c =
-    let old = c.args.nodes.now in
-    let new = c.write_list.new.nodes in
-    let f = g.N.Nodes.node old in
-    let r = c.in_ok-read.ensures.read in
-    let last = last_read c.in_ok-read.read c.in_ok-read.tail c.args.name.now c.in_ok-read.ensures.enough in
-    let all : entries_in f c.args.block ≡ Some c.in_ok-read.read = all_read f c.args.block r.0 c.in_ok-read.read c.in_ok-read.tail r.1 last in
-    let edited : IsEditedTwice c.in_ok-read.read c.args.name.now c.args.gone c.args.other.now c.args.here c.in_ok-edited.edited =
-    subst (λ (items : List Item). IsEditedTwice items c.args.name.now c.args.gone c.args.other.now c.args.here c.in_ok-edited.edited) c.list.ensures c.in_ok-edited.ensures in
-    let count : nodes_for (length c.list-2.result) ≡ nodes_for (edited_twice_count (items_in f c.args.block) c.args.name.now c.args.gone c.args.other.now c.args.here) =
-    ap (λ (items : List Item). nodes_for (length items)) c.list-2.ensures ∙ ap nodes_for edited.counted
-    ∙ ap (λ (entries : Option (List Item)). nodes_for (edited_twice_count (unwrap_or entries []) c.args.name.now c.args.gone c.args.other.now c.args.here)) (sym all) in
-    let kept = c.read_list.ensures.looks.same_writes in
-    IfOk-weaker c.write_list.result (λ _. g.N.Nodes.writes new ≡ g.N.Nodes.writes c.read_list.new.nodes + nodes_for (length c.list-2.result))
-    (λ _. g.N.Nodes.writes new ≡ g.N.Nodes.writes old + nodes_for (edited_twice_count (items_in f c.args.block) c.args.name.now c.args.gone c.args.other.now c.args.here)) (λ to wrote. omega (arith, wrote, kept, count)) c.write_list.ensures.written
+    let read = works_looking {IsOther = IsChangeFault} g.met.N.Nodes.looks_works c.args.nodes.now c.read_list.new.nodes (λ fault is. is) look_refused c.in_ok-read.ensures.calls in
+    works_after g.met.N.Nodes.works_on g.met.N.Nodes.causes_on old c.read_list.new.nodes c.write_list.new.nodes write_refused read c.write_list.ensures.calls (omega arith) (omega (arith, count, most, same))

@@ -1,4 +1,4 @@
-use Rattle.std.proofs.Common.{◌≡◌, ℕ, ◌+◌, ◌-◌, ◌<◌, ◌≤◌, true, Some, List, [], length, take, drop, get_or, ap, sym, subst, ◌∙◌, arith, rules}
+use Rattle.std.proofs.Common.{◌≡◌, ℕ, ◌+◌, ◌-◌, ◌<◌, true, Some, List, [], length, take, drop, get_or, ap, sym, subst, ◌∙◌, arith, rules}
 use Rattle.std.proofs.lemmas.List.{get_or_default}
 use Rattle.std.proofs.lemmas.Result.{err_from_is_err_and}
 use Rattle.std.specs.Prelude.{slice_index, Ok}
@@ -16,7 +16,7 @@ use Rattle.directory.proofs.TrailEdits.{first_is, level_takes, level_held_later}
 use Rattle.directory.proofs.Forks.{parted, fork_of}
 use Rattle.directory.proofs.Branches.{moved_up, level_along}
 use Rattle.directory.proofs.moves.move_entry.Goals as goal
-use Rattle.node_store.specs.WordLaws.{keeps_nodes}
+use Rattle.node_store.specs.WordLaws.{keeps_nodes, works_after, works_both, works_wider}
 
 pub rewrite_fork-requires-clause-fork : goal.rewrite_fork-requires-clause-fork
 rewrite_fork-requires-clause-fork g c =
@@ -62,7 +62,7 @@ edit_directory-requires-clause-takes g c =
     let way : IsHeldTrail f0 k0 names trail =
     subst (λ (p : Path). IsHeldTrail f0 k0 p trail) (sym c.names-names.ensures.names)
     (subst (λ (t : List ℕ). IsHeldTrail f0 k0 c.args.old.now t) (sym c.blocks-blocks.ensures) (record { root = c.args.root; trail_of = c.requires.sought.old_way; held = c.requires.sought.held })) in
-    let before : Keeps g.N.Nodes old mid = keeps_nodes g.N.Nodes g.met.N.Nodes.same_node g.met.N.Nodes.stays_kept old mid c.requires.sound c.loop-i.invariant.works.came in
+    let before : Keeps g.N.Nodes old mid = keeps_nodes g.N.Nodes g.met.N.Nodes.same_node g.met.N.Nodes.stays_kept old mid c.requires.sound c.loop-i.invariant.calls.2.works.came in
     subst (λ (n : Name). takes (entries_in f1 (slice_index trail i)) n (Some (Dir c.loop-i.to)) ≡ true) (sym name) (level_takes f0 f1 k0 k1 names trail i c.loop-i.to way more before)
 
 pub edit_directory-requires-clause-held : goal.edit_directory-requires-clause-held
@@ -80,22 +80,13 @@ edit_directory-requires-clause-held g c =
     let way : IsHeldTrail (g.N.Nodes.node old) (g.N.Nodes.kept old) names trail =
     subst (λ (p : Path). IsHeldTrail (g.N.Nodes.node old) (g.N.Nodes.kept old) p trail) (sym c.names-names.ensures.names)
     (subst (λ (t : List ℕ). IsHeldTrail (g.N.Nodes.node old) (g.N.Nodes.kept old) c.args.old.now t) (sym c.blocks-blocks.ensures) (record { root = c.args.root; trail_of = c.requires.sought.old_way; held = c.requires.sought.held })) in
-    let before : Keeps g.N.Nodes old mid = keeps_nodes g.N.Nodes g.met.N.Nodes.same_node g.met.N.Nodes.stays_kept old mid c.requires.sound c.loop-i.invariant.works.came in
+    let before : Keeps g.N.Nodes old mid = keeps_nodes g.N.Nodes g.met.N.Nodes.same_node g.met.N.Nodes.stays_kept old mid c.requires.sound c.loop-i.invariant.calls.2.works.came in
     level_held_later (g.N.Nodes.node old) (g.N.Nodes.node mid) (g.N.Nodes.kept old) (g.N.Nodes.kept mid) names trail (c.loop-i.i - 1) way (omega arith) before
 
 pub returns-in_err-to-2-clause-keeps : goal.returns-in_err-to-2-clause-keeps
 returns-in_err-to-2-clause-keeps g c =
-    let follows = g.met.N.Nodes.follows_on c.args.nodes.now c.loop-i.nodes c.edit_directory.new.nodes c.loop-i.invariant.works.came c.edit_directory.ensures.works.came in
+    let follows = g.met.N.Nodes.follows_on c.args.nodes.now c.loop-i.nodes c.edit_directory.new.nodes c.loop-i.invariant.calls.2.works.came c.edit_directory.ensures.calls.works.came in
     keeps_nodes g.N.Nodes g.met.N.Nodes.same_node g.met.N.Nodes.stays_kept c.args.nodes.now c.edit_directory.new.nodes c.requires.sound follows
-
-pub returns-in_err-to-2-clause-why : goal.returns-in_err-to-2-clause-why
-returns-in_err-to-2-clause-why g c =
-    let why = g.met.N.Nodes.causes_on c.args.nodes.now c.loop-i.nodes c.edit_directory.new.nodes c.in_err-to-2.field-0.0 c.loop-i.invariant.works.came c.in_err-to-2.ensures.why in
-    let p = err_from_is_err_and c.from_residual-in_err-to-2.result c.from_residual-in_err-to-2.ensures.1 in
-    rw (p.1, p.2) why
-
-pub returns-in_err-to-2-clause-works : goal.returns-in_err-to-2-clause-works
-returns-in_err-to-2-clause-works g c = g.met.N.Nodes.works_on c.args.nodes.now c.loop-i.nodes c.edit_directory.new.nodes c.loop-i.invariant.works c.edit_directory.ensures.works
 
 pub loop-i-preserved : goal.loop-i-preserved
 loop-i-preserved g c =
@@ -123,98 +114,28 @@ loop-i-preserved g c =
     let way : IsHeldTrail f0 k0 names trail =
     subst (λ (p : Path). IsHeldTrail f0 k0 p trail) (sym c.names-names.ensures.names)
     (subst (λ (t : List ℕ). IsHeldTrail f0 k0 c.args.old.now t) (sym c.blocks-blocks.ensures) (record { root = c.args.root; trail_of = c.requires.sought.old_way; held = c.requires.sought.held })) in
-    let before : Keeps g.N.Nodes old mid = keeps_nodes g.N.Nodes g.met.N.Nodes.same_node g.met.N.Nodes.stays_kept old mid c.requires.sound c.loop-i.invariant.works.came in
+    let before : Keeps g.N.Nodes old mid = keeps_nodes g.N.Nodes g.met.N.Nodes.same_node g.met.N.Nodes.stays_kept old mid c.requires.sound c.loop-i.invariant.calls.2.works.came in
     let last = c.edit_directory.new.nodes in
     let f2 = g.N.Nodes.node last in
     let k2 = g.N.Nodes.kept last in
     let to = c.in_ok-to-2.to in
     let next : c.loop-i.i ≡ i + 1 = omega arith in
-    let keeps : Keeps g.N.Nodes mid last = keeps_nodes g.N.Nodes g.met.N.Nodes.same_node g.met.N.Nodes.stays_kept mid last c.loop-i.invariant.works.sound c.edit_directory.ensures.works.came in
+    let keeps : Keeps g.N.Nodes mid last = keeps_nodes g.N.Nodes g.met.N.Nodes.same_node g.met.N.Nodes.stays_kept mid last c.loop-i.invariant.calls.2.works.sound c.edit_directory.ensures.calls.works.came in
     let same : same_name (get_or names i []) (get_or new_names i []) ≡ true =
     subst (λ (p : Path). same_name (get_or p i []) (get_or new_names i []) ≡ true) (sym c.names-names.ensures.names) (is.alike i before_fork) in
     let edit : IsDirectoryEdit f1 f2 (slice_index trail i) to (get_or names i []) (Some (Dir c.loop-i.to)) =
-    subst (λ (n : Name). IsDirectoryEdit f1 f2 (slice_index trail i) to n (Some (Dir c.loop-i.to))) name c.in_ok-to-2.ensures.edited in
+    subst (λ (n : Name). IsDirectoryEdit f1 f2 (slice_index trail i) to n (Some (Dir c.loop-i.to))) name c.in_ok-to-2.ensures.edited.0 in
     let lower : IsMoved f0 f1 k0 k1 (slice_index trail (i + 1)) c.loop-i.to (drop (i + 1) names) (drop (i + 1) new_names) c.args.place =
     subst (λ (k : ℕ). IsMoved f0 f1 k0 k1 (slice_index trail k) c.loop-i.to (drop k names) (drop k new_names) c.args.place) next c.loop-i.invariant.moved in
     let cost = level_along f0 f1 k0 k1 names trail i way more before in
-    let wrote : g.N.Nodes.writes last ≤ g.N.Nodes.writes mid + edit_nodes (items_in f1 (slice_index trail i)) (get_or names i []) true =
-    subst (λ (n : Name). g.N.Nodes.writes last ≤ g.N.Nodes.writes mid + edit_nodes (items_in f1 (slice_index trail i)) n true) name c.edit_directory.ensures.writes in
-    let read : g.N.Nodes.reads last ≤ g.N.Nodes.reads mid + read_nodes (items_in f1 (slice_index trail i)) (get_or names i []) true =
-    subst (λ (n : Name). g.N.Nodes.reads last ≤ g.N.Nodes.reads mid + read_nodes (items_in f1 (slice_index trail i)) n true) name c.edit_directory.ensures.reads in
+    let wrote : edit_nodes (items_in f1 (slice_index trail i)) c.index-names-i.result true ≡ edit_nodes (items_in f1 (slice_index trail i)) (get_or names i []) true = ap (λ (n : Name). edit_nodes (items_in f1 (slice_index trail i)) n true) name in
+    let read : read_nodes (items_in f1 (slice_index trail i)) c.index-names-i.result true ≡ read_nodes (items_in f1 (slice_index trail i)) (get_or names i []) true = ap (λ (n : Name). read_nodes (items_in f1 (slice_index trail i)) n true) name in
     let along : sum_by (nodes_in f0) (take c.loop-i.i trail) ≡ sum_by (nodes_in f0) (take (i + 1) trail) = ap (λ (k : ℕ). sum_by (nodes_in f0) (take k trail)) next in
     record {
       lawful = search rules;
-      moved = moved_up f0 f1 f2 k0 k1 k2 names new_names trail i to c.loop-i.to c.args.place way more (omega arith) same before keeps (λ b free. g.met.N.Nodes.was_fresh old mid b c.loop-i.invariant.works.came free) lower edit c.in_ok-to-2.ensures.chain;
-      writes = omega (arith, wrote, cost.0, along, c.loop-i.invariant.writes);
-      reads = omega (arith, read, cost.1, along, c.loop-i.invariant.reads);
-      works = g.met.N.Nodes.works_on old mid last c.loop-i.invariant.works c.edit_directory.ensures.works;
+      moved = moved_up f0 f1 f2 k0 k1 k2 names new_names trail i to c.loop-i.to c.args.place way more (omega arith) same before keeps (λ b free. g.met.N.Nodes.was_fresh old mid b c.loop-i.invariant.calls.2.works.came free) lower edit c.in_ok-to-2.ensures.edited.1;
+      calls = (_, _, works_both g.met.N.Nodes.works_on g.met.N.Nodes.causes_on old mid last c.loop-i.invariant.calls.2 c.in_ok-to-2.ensures.calls, omega (arith, read, cost.1, along, c.loop-i.invariant.calls.3), omega (arith, wrote, cost.0, along, c.loop-i.invariant.calls.4));
     }
-
-pub returns-in_err-to-2-clause-writes : goal.returns-in_err-to-2-clause-writes
-returns-in_err-to-2-clause-writes g c =
-    let old = c.args.nodes.now in
-    let mid = c.loop-i.nodes in
-    let f0 = g.N.Nodes.node old in
-    let f1 = g.N.Nodes.node mid in
-    let k0 = g.N.Nodes.kept old in
-    let k1 = g.N.Nodes.kept mid in
-    let names = c.names-names.result.now in
-    let trail = c.blocks-blocks.result.now in
-    let new_names = c.args.new.now in
-    let i = c.loop-i.i - 1 in
-    let test = c.loop-i-test.true in
-    let auto = c.loop-i.auto.i in
-    let is = parted c.args.old.now new_names c.requires.sought.apart in
-    let count : c.common_names-fork.result ≡ common c.args.old.now new_names = search rules in
-    let in_first = is.in_first in
-    let size : length names ≡ length c.args.old.now = ap length c.names-names.ensures.names in
-    let more : i + 1 < length names = omega arith in
-    let within : i < length names = omega arith in
-    let name : c.index-names-i.result ≡ get_or names i [] = c.index-names-i.is ∙ get_or_default names i c.index-names-i.result [] within in
-    let way : IsHeldTrail f0 k0 names trail =
-    subst (λ (p : Path). IsHeldTrail f0 k0 p trail) (sym c.names-names.ensures.names)
-    (subst (λ (t : List ℕ). IsHeldTrail f0 k0 c.args.old.now t) (sym c.blocks-blocks.ensures) (record { root = c.args.root; trail_of = c.requires.sought.old_way; held = c.requires.sought.held })) in
-    let before : Keeps g.N.Nodes old mid = keeps_nodes g.N.Nodes g.met.N.Nodes.same_node g.met.N.Nodes.stays_kept old mid c.requires.sound c.loop-i.invariant.works.came in
-    let last = c.edit_directory.new.nodes in
-    let next : c.loop-i.i ≡ i + 1 = omega arith in
-    let along : sum_by (nodes_in f0) (take c.loop-i.i trail) ≡ sum_by (nodes_in f0) (take (i + 1) trail) = ap (λ (k : ℕ). sum_by (nodes_in f0) (take k trail)) next in
-    let cost = level_along f0 f1 k0 k1 names trail i way more before in
-    let wrote : g.N.Nodes.writes last ≤ g.N.Nodes.writes mid + edit_nodes (items_in f1 (slice_index trail i)) (get_or names i []) true =
-    subst (λ (n : Name). g.N.Nodes.writes last ≤ g.N.Nodes.writes mid + edit_nodes (items_in f1 (slice_index trail i)) n true) name c.edit_directory.ensures.writes in
-    omega (arith, wrote, cost.0, along, c.loop-i.invariant.writes)
-
-pub returns-in_err-to-2-clause-reads : goal.returns-in_err-to-2-clause-reads
-returns-in_err-to-2-clause-reads g c =
-    let old = c.args.nodes.now in
-    let mid = c.loop-i.nodes in
-    let f0 = g.N.Nodes.node old in
-    let f1 = g.N.Nodes.node mid in
-    let k0 = g.N.Nodes.kept old in
-    let k1 = g.N.Nodes.kept mid in
-    let names = c.names-names.result.now in
-    let trail = c.blocks-blocks.result.now in
-    let new_names = c.args.new.now in
-    let i = c.loop-i.i - 1 in
-    let test = c.loop-i-test.true in
-    let auto = c.loop-i.auto.i in
-    let is = parted c.args.old.now new_names c.requires.sought.apart in
-    let count : c.common_names-fork.result ≡ common c.args.old.now new_names = search rules in
-    let in_first = is.in_first in
-    let size : length names ≡ length c.args.old.now = ap length c.names-names.ensures.names in
-    let more : i + 1 < length names = omega arith in
-    let within : i < length names = omega arith in
-    let name : c.index-names-i.result ≡ get_or names i [] = c.index-names-i.is ∙ get_or_default names i c.index-names-i.result [] within in
-    let way : IsHeldTrail f0 k0 names trail =
-    subst (λ (p : Path). IsHeldTrail f0 k0 p trail) (sym c.names-names.ensures.names)
-    (subst (λ (t : List ℕ). IsHeldTrail f0 k0 c.args.old.now t) (sym c.blocks-blocks.ensures) (record { root = c.args.root; trail_of = c.requires.sought.old_way; held = c.requires.sought.held })) in
-    let before : Keeps g.N.Nodes old mid = keeps_nodes g.N.Nodes g.met.N.Nodes.same_node g.met.N.Nodes.stays_kept old mid c.requires.sound c.loop-i.invariant.works.came in
-    let last = c.edit_directory.new.nodes in
-    let next : c.loop-i.i ≡ i + 1 = omega arith in
-    let along : sum_by (nodes_in f0) (take c.loop-i.i trail) ≡ sum_by (nodes_in f0) (take (i + 1) trail) = ap (λ (k : ℕ). sum_by (nodes_in f0) (take k trail)) next in
-    let cost = level_along f0 f1 k0 k1 names trail i way more before in
-    let read : g.N.Nodes.reads last ≤ g.N.Nodes.reads mid + read_nodes (items_in f1 (slice_index trail i)) (get_or names i []) true =
-    subst (λ (n : Name). g.N.Nodes.reads last ≤ g.N.Nodes.reads mid + read_nodes (items_in f1 (slice_index trail i)) n true) name c.edit_directory.ensures.reads in
-    omega (arith, read, cost.1, along, c.loop-i.invariant.reads)
 
 pub prove-unreachable-requires : goal.prove-unreachable-requires
 prove-unreachable-requires g c =
@@ -226,39 +147,67 @@ pub returns-clause-reaches : goal.returns-clause-reaches
 returns-clause-reaches g c =
     let old = c.args.nodes.now in
     let new = c.loop-i.nodes in
-    let keeps : Keeps g.N.Nodes old new = keeps_nodes g.N.Nodes g.met.N.Nodes.same_node g.met.N.Nodes.stays_kept old new c.requires.sound c.loop-i.invariant.works.came in
+    let keeps : Keeps g.N.Nodes old new = keeps_nodes g.N.Nodes g.met.N.Nodes.same_node g.met.N.Nodes.stays_kept old new c.requires.sound c.loop-i.invariant.calls.2.works.came in
     let moved : IsMoved (g.N.Nodes.node old) (g.N.Nodes.node new) (g.N.Nodes.kept old) (g.N.Nodes.kept new) c.args.root c.loop-i.to c.args.old.now c.args.new.now c.args.place = search rules in
     only_moved (g.N.Nodes.node old) (g.N.Nodes.node new) (g.N.Nodes.kept old) (g.N.Nodes.kept new) c.args.root c.args.old.now c.args.new.now c.args.place (Ok c.loop-i.to) keeps c.requires.sought.held c.requires.sought.stands moved
 
 pub returns-in_err-to-clause-keeps : goal.returns-in_err-to-clause-keeps
-returns-in_err-to-clause-keeps g c = keeps_nodes g.N.Nodes g.met.N.Nodes.same_node g.met.N.Nodes.stays_kept c.args.nodes.now c.rewrite_fork.new.nodes c.requires.sound c.rewrite_fork.ensures.works.came
-
-pub returns-in_err-to-clause-why : goal.returns-in_err-to-clause-why
-returns-in_err-to-clause-why g c =
-    let p = err_from_is_err_and c.from_residual.result c.from_residual.ensures.1 in
-    rw (p.1, p.2) c.in_err-to.ensures.why
-
-pub returns-in_err-to-clause-faults : goal.returns-in_err-to-clause-faults
-returns-in_err-to-clause-faults g c =
-    let p = err_from_is_err_and c.from_residual.result c.from_residual.ensures.1 in
-    rw (p.1, p.2) c.in_err-to.ensures.faults
-
-pub returns-in_err-to-clause-works : goal.returns-in_err-to-clause-works
-returns-in_err-to-clause-works g c = c.rewrite_fork.ensures.works
-
-pub returns-in_err-to-2-clause-faults : goal.returns-in_err-to-2-clause-faults
-returns-in_err-to-2-clause-faults g c =
-    let p = err_from_is_err_and c.from_residual-in_err-to-2.result c.from_residual-in_err-to-2.ensures.1 in
-    rw (p.1, p.2) c.in_err-to-2.ensures.faults
+returns-in_err-to-clause-keeps g c = keeps_nodes g.N.Nodes g.met.N.Nodes.same_node g.met.N.Nodes.stays_kept c.args.nodes.now c.rewrite_fork.new.nodes c.requires.sound c.rewrite_fork.ensures.calls.works.came
 
 pub returns-clause-keeps : goal.returns-clause-keeps
-returns-clause-keeps g c = keeps_nodes g.N.Nodes g.met.N.Nodes.same_node g.met.N.Nodes.stays_kept c.args.nodes.now c.loop-i.nodes c.requires.sound c.loop-i.invariant.works.came
-
-pub returns-clause-works : goal.returns-clause-works
-returns-clause-works g c = c.loop-i.invariant.works
+returns-clause-keeps g c = keeps_nodes g.N.Nodes g.met.N.Nodes.same_node g.met.N.Nodes.stays_kept c.args.nodes.now c.loop-i.nodes c.requires.sound c.loop-i.invariant.calls.2.works.came
 
 pub edit_directory-requires-clause-sound : goal.edit_directory-requires-clause-sound
-edit_directory-requires-clause-sound g c = c.loop-i.invariant.works.sound
+edit_directory-requires-clause-sound g c = c.loop-i.invariant.calls.2.works.sound
 
 pub edit_directory-requires-clause-place : goal.edit_directory-requires-clause-place
 edit_directory-requires-clause-place g c = c.loop-i.invariant.lawful
+
+pub loop-i-init : goal.loop-i-init
+loop-i-init g c = record {
+  lawful = search rules;
+  moved = search rules;
+  calls = (_, _, c.in_ok-to.ensures.calls, search rules, search rules);
+}
+
+pub returns-in_err-to-clause-calls : goal.returns-in_err-to-clause-calls
+returns-in_err-to-clause-calls g c =
+    let p = err_from_is_err_and c.from_residual.result c.from_residual.ensures.1 in
+    rw (p.1, p.2) (works_wider c.in_err-to.ensures.calls (search rules) (search rules))
+
+pub returns-in_err-to-2-clause-calls : goal.returns-in_err-to-2-clause-calls
+returns-in_err-to-2-clause-calls g c =
+    let old = c.args.nodes.now in
+    let mid = c.loop-i.nodes in
+    let f0 = g.N.Nodes.node old in
+    let f1 = g.N.Nodes.node mid in
+    let k0 = g.N.Nodes.kept old in
+    let k1 = g.N.Nodes.kept mid in
+    let names = c.names-names.result.now in
+    let trail = c.blocks-blocks.result.now in
+    let new_names = c.args.new.now in
+    let i = c.loop-i.i - 1 in
+    let test = c.loop-i-test.true in
+    let auto = c.loop-i.auto.i in
+    let is = parted c.args.old.now new_names c.requires.sought.apart in
+    let count : c.common_names-fork.result ≡ common c.args.old.now new_names = search rules in
+    let in_first = is.in_first in
+    let size : length names ≡ length c.args.old.now = ap length c.names-names.ensures.names in
+    let more : i + 1 < length names = omega arith in
+    let within : i < length names = omega arith in
+    let name : c.index-names-i.result ≡ get_or names i [] = c.index-names-i.is ∙ get_or_default names i c.index-names-i.result [] within in
+    let way : IsHeldTrail f0 k0 names trail =
+    subst (λ (p : Path). IsHeldTrail f0 k0 p trail) (sym c.names-names.ensures.names)
+    (subst (λ (t : List ℕ). IsHeldTrail f0 k0 c.args.old.now t) (sym c.blocks-blocks.ensures) (record { root = c.args.root; trail_of = c.requires.sought.old_way; held = c.requires.sought.held })) in
+    let before : Keeps g.N.Nodes old mid = keeps_nodes g.N.Nodes g.met.N.Nodes.same_node g.met.N.Nodes.stays_kept old mid c.requires.sound c.loop-i.invariant.calls.2.works.came in
+    let last = c.edit_directory.new.nodes in
+    let next : c.loop-i.i ≡ i + 1 = omega arith in
+    let along : sum_by (nodes_in f0) (take c.loop-i.i trail) ≡ sum_by (nodes_in f0) (take (i + 1) trail) = ap (λ (k : ℕ). sum_by (nodes_in f0) (take k trail)) next in
+    let cost = level_along f0 f1 k0 k1 names trail i way more before in
+    let wrote : edit_nodes (items_in f1 (slice_index trail i)) c.index-names-i.result true ≡ edit_nodes (items_in f1 (slice_index trail i)) (get_or names i []) true = ap (λ (n : Name). edit_nodes (items_in f1 (slice_index trail i)) n true) name in
+    let read : read_nodes (items_in f1 (slice_index trail i)) c.index-names-i.result true ≡ read_nodes (items_in f1 (slice_index trail i)) (get_or names i []) true = ap (λ (n : Name). read_nodes (items_in f1 (slice_index trail i)) n true) name in
+    let p = err_from_is_err_and c.from_residual-in_err-to-2.result c.from_residual-in_err-to-2.ensures.1 in
+    rw (p.1, p.2) (works_after g.met.N.Nodes.works_on g.met.N.Nodes.causes_on old mid last (λ fault is. is) c.loop-i.invariant.calls.2 c.in_err-to-2.ensures.calls (omega (arith, read, cost.1, along, c.loop-i.invariant.calls.3)) (omega (arith, wrote, cost.0, along, c.loop-i.invariant.calls.4)))
+
+pub returns-clause-calls : goal.returns-clause-calls
+returns-clause-calls g c = works_wider c.loop-i.invariant.calls.2 (omega (arith, c.loop-i.invariant.calls.3)) (omega (arith, c.loop-i.invariant.calls.4))

@@ -1,6 +1,7 @@
-use Rattle.std.proofs.Common.{arith, refl}
+use Rattle.std.proofs.Common.{arith}
 use Rattle.directory.proofs.Branches.{branch_of}
 use Rattle.std.proofs.lemmas.Result.{err_from_is_err_and}
+use Rattle.node_store.specs.WordLaws.{works_wider, works_answered, works_idle, works_refused}
 use Rattle.directory.proofs.moves.rewrite_branch.Goals as goal
 
 pub returns-clause-branch : goal.returns-clause-branch
@@ -9,22 +10,6 @@ returns-clause-branch g c =
     let other = c.if-fork-names.false in
     branch_of (g.N.Nodes.node c.args.nodes.now) (g.N.Nodes.node c.rewrite_from.new.nodes) (g.N.Nodes.kept c.args.nodes.now) (g.N.Nodes.kept c.rewrite_from.new.nodes) c.requires.way.root c.args.names.now c.args.trail.now c.args.fork c.in_ok-next.next c.args.place
     c.requires.way.trail_of (omega arith) c.in_ok-next.ensures.rewritten
-
-pub returns-in_err-next-clause-works : goal.returns-in_err-next-clause-works
-returns-in_err-next-clause-works g c = c.rewrite_from.ensures.works
-
-pub returns-in_err-next-clause-why : goal.returns-in_err-next-clause-why
-returns-in_err-next-clause-why g c =
-    let p = err_from_is_err_and c.from_residual.result c.from_residual.ensures.1 in
-    rw (p.1, p.2) c.in_err-next.ensures.why
-
-pub returns-in_err-next-clause-faults : goal.returns-in_err-next-clause-faults
-returns-in_err-next-clause-faults g c =
-    let p = err_from_is_err_and c.from_residual.result c.from_residual.ensures.1 in
-    rw (p.1, p.2) c.in_err-next.ensures.faults
-
-pub returns-clause-works : goal.returns-clause-works
-returns-clause-works g c = c.rewrite_from.ensures.works
 
 pub rewrite_from-requires-clause-level : goal.rewrite_from-requires-clause-level
 rewrite_from-requires-clause-level g c =
@@ -41,5 +26,13 @@ rewrite_from-requires-clause-taken g c =
     let other = c.if-fork-names.false in
     c.requires.taken (omega arith)
 
-pub returns-then-fork-names-clause-works : goal.returns-then-fork-names-clause-works
-returns-then-fork-names-clause-works g c = record { came = g.met.N.Nodes.follows_itself c.args.nodes.now; sound = c.requires.sound; same_limit = refl; same_blocks = refl }
+pub returns-in_err-next-clause-calls : goal.returns-in_err-next-clause-calls
+returns-in_err-next-clause-calls g c =
+    let p = err_from_is_err_and c.from_residual.result c.from_residual.ensures.1 in
+    rw (p.1, p.2) (works_refused c.in_err-next.ensures.calls)
+
+pub returns-clause-calls : goal.returns-clause-calls
+returns-clause-calls g c = works_answered c.in_ok-next.ensures.calls
+
+pub returns-then-fork-names-clause-calls : goal.returns-then-fork-names-clause-calls
+returns-then-fork-names-clause-calls g c = works_wider (works_idle g.met.N.Nodes.follows_itself c.args.nodes.now c.requires.sound) (omega arith) (omega arith)

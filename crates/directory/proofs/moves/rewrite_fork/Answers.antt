@@ -1,6 +1,6 @@
-use Rattle.std.proofs.Common.{◌≡◌, ℕ, ◌+◌, ◌≤◌, true, false, Some, Option, List, [], ◌∷◌, length, drop, get_or, ap, sym, subst, ◌∙◌, arith}
+use Rattle.std.proofs.Common.{◌≡◌, ℕ, ◌+◌, ◌≤◌, Bool, true, false, Some, Option, List, [], ◌∷◌, length, drop, get_or, ap, sym, subst, ◌∙◌, arith}
 use Rattle.std.proofs.lemmas.List.{get_or_default}
-use Rattle.std.proofs.lemmas.Result.{err_from_is_err_and, IfErr-weaker}
+use Rattle.std.proofs.lemmas.Result.{err_from_is_err_and}
 use Rattle.std.specs.Prelude.{slice_index, unwrap_or, nat_lt, IsSome, IfOk}
 use Rattle.std.specs.Option.{is_some}
 use Rattle.plain_trees.proofs.Needs.{nodes_for-le}
@@ -11,14 +11,14 @@ use Rattle.node_format.specs.Items.{Item, named_place}
 use Rattle.node_store.specs.Words.{Keeps}
 use Rattle.block_trees.specs.Trees.{entries_in, items_in}
 use Rattle.block_trees.specs.Reached.{IsHeld}
-use Rattle.block_trees.specs.Rewritten.{IsSecondEdit, IsBranch, IsMoved}
+use Rattle.block_trees.specs.Rewritten.{IsSecondEdit, IsBranch, IsFreshChain, IsMoved}
 use Rattle.directory.specs.Trails.{takes}
 use Rattle.directory.proofs.MovedPaths.{Parts, same_parted, path_parted}
 use Rattle.directory.proofs.TrailEdits.{level_held, way_later, taken_later, path_nodes-later, path_nodes-least}
 use Rattle.directory.proofs.Forks.{first_name}
 use Rattle.directory.proofs.Branches.{fork_room, gone_there}
 use Rattle.directory.proofs.moves.rewrite_fork.Goals as goal
-use Rattle.node_store.specs.WordLaws.{keeps_nodes}
+use Rattle.node_store.specs.WordLaws.{keeps_nodes, works_after, works_both, works_refused, works_wider}
 
 pub rewrite_branch-requires-2-clause-way : goal.rewrite_branch-requires-2-clause-way
 rewrite_branch-requires-2-clause-way g c =
@@ -28,7 +28,7 @@ rewrite_branch-requires-2-clause-way g c =
     let f1 = g.N.Nodes.node one in
     let k0 = g.N.Nodes.kept old in
     let k1 = g.N.Nodes.kept one in
-    let first : Keeps g.N.Nodes old one = keeps_nodes g.N.Nodes g.met.N.Nodes.same_node g.met.N.Nodes.stays_kept old one c.requires.sound c.rewrite_branch.ensures.works.came in
+    let first : Keeps g.N.Nodes old one = keeps_nodes g.N.Nodes g.met.N.Nodes.same_node g.met.N.Nodes.stays_kept old one c.requires.sound c.rewrite_branch.ensures.calls.works.came in
     way_later f0 f1 k0 k1 c.args.new.now c.args.new_trail.now first c.requires.fork.new_way
 
 pub rewrite_branch-requires-2-clause-taken : goal.rewrite_branch-requires-2-clause-taken
@@ -39,15 +39,9 @@ rewrite_branch-requires-2-clause-taken g c more =
     let f1 = g.N.Nodes.node one in
     let k0 = g.N.Nodes.kept old in
     let k1 = g.N.Nodes.kept one in
-    let first : Keeps g.N.Nodes old one = keeps_nodes g.N.Nodes g.met.N.Nodes.same_node g.met.N.Nodes.stays_kept old one c.requires.sound c.rewrite_branch.ensures.works.came in
+    let first : Keeps g.N.Nodes old one = keeps_nodes g.N.Nodes g.met.N.Nodes.same_node g.met.N.Nodes.stays_kept old one c.requires.sound c.rewrite_branch.ensures.calls.works.came in
     let in_new = c.requires.fork.in_new in
     taken_later f0 f1 k0 k1 c.args.new.now c.args.new_trail.now (Some c.args.place) first c.requires.fork.new_way (omega arith) (c.requires.fork.here (omega (arith, more)))
-
-pub returns-in_err-here-clause-why : goal.returns-in_err-here-clause-why
-returns-in_err-here-clause-why g c =
-    let why = g.met.N.Nodes.causes_on c.args.nodes.now c.rewrite_branch.new.nodes c.rewrite_branch-2.new.nodes c.in_err-here.field-0.0 c.rewrite_branch.ensures.works.came c.in_err-here.ensures.why in
-    let p = err_from_is_err_and c.from_residual-in_err-here.result c.from_residual-in_err-here.ensures.1 in
-    rw (p.1, p.2) why
 
 pub edit_directory_twice-requires-clause-takes : goal.edit_directory_twice-requires-clause-takes
 edit_directory_twice-requires-clause-takes g c =
@@ -60,8 +54,8 @@ edit_directory_twice-requires-clause-takes g c =
     let k0 = g.N.Nodes.kept old in
     let k1 = g.N.Nodes.kept one in
     let k2 = g.N.Nodes.kept two in
-    let first : Keeps g.N.Nodes old one = keeps_nodes g.N.Nodes g.met.N.Nodes.same_node g.met.N.Nodes.stays_kept old one c.requires.sound c.rewrite_branch.ensures.works.came in
-    let second : Keeps g.N.Nodes one two = keeps_nodes g.N.Nodes g.met.N.Nodes.same_node g.met.N.Nodes.stays_kept one two c.rewrite_branch.ensures.works.sound c.rewrite_branch-2.ensures.works.came in
+    let first : Keeps g.N.Nodes old one = keeps_nodes g.N.Nodes g.met.N.Nodes.same_node g.met.N.Nodes.stays_kept old one c.requires.sound c.rewrite_branch.ensures.calls.works.came in
+    let second : Keeps g.N.Nodes one two = keeps_nodes g.N.Nodes g.met.N.Nodes.same_node g.met.N.Nodes.stays_kept one two c.rewrite_branch.ensures.calls.works.sound c.rewrite_branch-2.ensures.calls.works.came in
     let fork = c.args.fork in
     let old_names = c.args.old.now in
     let new_names = c.args.new.now in
@@ -99,8 +93,8 @@ returns-clause-moved g c =
     let k0 = g.N.Nodes.kept old in
     let k1 = g.N.Nodes.kept one in
     let k2 = g.N.Nodes.kept two in
-    let first : Keeps g.N.Nodes old one = keeps_nodes g.N.Nodes g.met.N.Nodes.same_node g.met.N.Nodes.stays_kept old one c.requires.sound c.rewrite_branch.ensures.works.came in
-    let second : Keeps g.N.Nodes one two = keeps_nodes g.N.Nodes g.met.N.Nodes.same_node g.met.N.Nodes.stays_kept one two c.rewrite_branch.ensures.works.sound c.rewrite_branch-2.ensures.works.came in
+    let first : Keeps g.N.Nodes old one = keeps_nodes g.N.Nodes g.met.N.Nodes.same_node g.met.N.Nodes.stays_kept old one c.requires.sound c.rewrite_branch.ensures.calls.works.came in
+    let second : Keeps g.N.Nodes one two = keeps_nodes g.N.Nodes g.met.N.Nodes.same_node g.met.N.Nodes.stays_kept one two c.rewrite_branch.ensures.calls.works.sound c.rewrite_branch-2.ensures.calls.works.came in
     let fork = c.args.fork in
     let old_names = c.args.old.now in
     let new_names = c.args.new.now in
@@ -122,57 +116,23 @@ returns-clause-moved g c =
     let gone = c.in_ok-gone.gone in
     let here = c.in_ok-here.here in
     let r = c.edit_directory_twice.result in
-    let third : Keeps g.N.Nodes two new = keeps_nodes g.N.Nodes g.met.N.Nodes.same_node g.met.N.Nodes.stays_kept two new c.rewrite_branch-2.ensures.works.sound c.edit_directory_twice.ensures.works.came in
+    let third : Keeps g.N.Nodes two new = keeps_nodes g.N.Nodes g.met.N.Nodes.same_node g.met.N.Nodes.stays_kept two new c.rewrite_branch-2.ensures.calls.works.sound c.edit_directory_twice.ensures.calls.works.came in
     let parts : Parts f0 f1 f2 k0 k1 k2 block n m p q place gone here = record {
       differs = c.requires.fork.differs;
       held = held;
       first = first;
       second = second;
-      was_fresh = λ b fresh. g.met.N.Nodes.was_fresh old one b c.rewrite_branch.ensures.works.came fresh;
-      was_fresh_too = λ b fresh. g.met.N.Nodes.was_fresh one two b c.rewrite_branch-2.ensures.works.came fresh;
+      was_fresh = λ b fresh. g.met.N.Nodes.was_fresh old one b c.rewrite_branch.ensures.calls.works.came fresh;
+      was_fresh_too = λ b fresh. g.met.N.Nodes.was_fresh one two b c.rewrite_branch-2.ensures.calls.works.came fresh;
       old_branch = c.in_ok-gone.ensures.branch;
       new_branch = subst (λ (b : ℕ). IsBranch f1 f2 k1 k2 b m q (Some place) here) c.requires.fork.same c.in_ok-here.ensures.branch;
     } in
-    let edited : IfOk r (λ to. IsSecondEdit f2 f3 block to n gone m here) =
-    subst (λ (a : Name). IfOk r (λ to. IsSecondEdit f2 f3 block to a gone m here)) old_name
-    (subst (λ (a : Name). IfOk r (λ to. IsSecondEdit f2 f3 block to c.index-old-fork.result gone a here)) new_name c.edit_directory_twice.ensures.edited) in
-    let moved = path_parted f0 f1 f2 f3 k0 k1 k2 k3 block n m p q place gone here r parts third edited c.edit_directory_twice.ensures.chain in
+    let edited : IfOk r (λ to. IsSecondEdit f2 f3 block to n gone m here × IsFreshChain f2 f3 k2 k3 block to) =
+    subst (λ (a : Name). IfOk r (λ to. IsSecondEdit f2 f3 block to a gone m here × IsFreshChain f2 f3 k2 k3 block to)) old_name
+    (subst (λ (a : Name). IfOk r (λ to. IsSecondEdit f2 f3 block to c.index-old-fork.result gone a here × IsFreshChain f2 f3 k2 k3 block to)) new_name c.edit_directory_twice.ensures.edited) in
+    let moved = path_parted f0 f1 f2 f3 k0 k1 k2 k3 block n m p q place gone here r parts third edited in
     subst (λ (a : Path). IfOk r (λ to. IsMoved f0 f3 k0 k3 block to a (drop fork new_names) place)) (sym (first_name fork old_names in_old))
     (subst (λ (a : Path). IfOk r (λ to. IsMoved f0 f3 k0 k3 block to (n ∷ p) a place)) (sym (first_name fork new_names in_new)) moved)
-
-pub returns-clause-why : goal.returns-clause-why
-returns-clause-why g c =
-    let before = g.met.N.Nodes.follows_on c.args.nodes.now c.rewrite_branch.new.nodes c.rewrite_branch-2.new.nodes c.rewrite_branch.ensures.works.came c.rewrite_branch-2.ensures.works.came in
-    IfErr-weaker c.edit_directory_twice.result _ _ (λ fault why. g.met.N.Nodes.causes_on c.args.nodes.now c.rewrite_branch-2.new.nodes c.edit_directory_twice.new.nodes fault before why) c.edit_directory_twice.ensures.why
-
-pub returns-clause-works : goal.returns-clause-works
-returns-clause-works g c =
-    let before = g.met.N.Nodes.works_on c.args.nodes.now c.rewrite_branch.new.nodes c.rewrite_branch-2.new.nodes c.rewrite_branch.ensures.works c.rewrite_branch-2.ensures.works in
-    g.met.N.Nodes.works_on c.args.nodes.now c.rewrite_branch-2.new.nodes c.edit_directory_twice.new.nodes before c.edit_directory_twice.ensures.works
-
-pub returns-in_err-gone-clause-works : goal.returns-in_err-gone-clause-works
-returns-in_err-gone-clause-works g c = c.rewrite_branch.ensures.works
-
-pub returns-in_err-gone-clause-why : goal.returns-in_err-gone-clause-why
-returns-in_err-gone-clause-why g c =
-    let p = err_from_is_err_and c.from_residual.result c.from_residual.ensures.1 in
-    rw (p.1, p.2) c.in_err-gone.ensures.why
-
-pub returns-in_err-gone-clause-faults : goal.returns-in_err-gone-clause-faults
-returns-in_err-gone-clause-faults g c =
-    let p = err_from_is_err_and c.from_residual.result c.from_residual.ensures.1 in
-    rw (p.1, p.2) c.in_err-gone.ensures.faults
-
-pub returns-in_err-here-clause-faults : goal.returns-in_err-here-clause-faults
-returns-in_err-here-clause-faults g c =
-    let p = err_from_is_err_and c.from_residual-in_err-here.result c.from_residual-in_err-here.ensures.1 in
-    rw (p.1, p.2) c.in_err-here.ensures.faults
-
-pub returns-in_err-here-clause-works : goal.returns-in_err-here-clause-works
-returns-in_err-here-clause-works g c = g.met.N.Nodes.works_on c.args.nodes.now c.rewrite_branch.new.nodes c.rewrite_branch-2.new.nodes c.rewrite_branch.ensures.works c.rewrite_branch-2.ensures.works
-
-pub returns-clause-faults : goal.returns-clause-faults
-returns-clause-faults g c = c.edit_directory_twice.ensures.faults
 
 pub rewrite_branch-requires-clause-fork : goal.rewrite_branch-requires-clause-fork
 rewrite_branch-requires-clause-fork g c = c.requires.fork.in_old
@@ -184,45 +144,35 @@ pub rewrite_branch-requires-clause-taken : goal.rewrite_branch-requires-clause-t
 rewrite_branch-requires-clause-taken g c = c.requires.fork.gone
 
 pub rewrite_branch-requires-2-clause-sound : goal.rewrite_branch-requires-2-clause-sound
-rewrite_branch-requires-2-clause-sound g c = c.rewrite_branch.ensures.works.sound
+rewrite_branch-requires-2-clause-sound g c = c.rewrite_branch.ensures.calls.works.sound
 
 pub rewrite_branch-requires-2-clause-fork : goal.rewrite_branch-requires-2-clause-fork
 rewrite_branch-requires-2-clause-fork g c = c.requires.fork.in_new
 
 pub edit_directory_twice-requires-clause-sound : goal.edit_directory_twice-requires-clause-sound
-edit_directory_twice-requires-clause-sound g c = c.rewrite_branch-2.ensures.works.sound
+edit_directory_twice-requires-clause-sound g c = c.rewrite_branch-2.ensures.calls.works.sound
 
-pub returns-in_err-here-clause-writes : goal.returns-in_err-here-clause-writes
-returns-in_err-here-clause-writes g c =
+pub returns-in_err-gone-clause-calls : goal.returns-in_err-gone-clause-calls
+returns-in_err-gone-clause-calls g c =
+    let p = err_from_is_err_and c.from_residual.result c.from_residual.ensures.1 in
+    rw (p.1, p.2) (works_wider (works_refused c.in_err-gone.ensures.calls) (omega arith) (omega arith))
+
+pub returns-in_err-here-clause-calls : goal.returns-in_err-here-clause-calls
+returns-in_err-here-clause-calls g c =
     let old = c.args.nodes.now in
     let one = c.rewrite_branch.new.nodes in
     let f0 = g.N.Nodes.node old in
     let f1 = g.N.Nodes.node one in
     let k0 = g.N.Nodes.kept old in
     let k1 = g.N.Nodes.kept one in
-    let first : Keeps g.N.Nodes old one = keeps_nodes g.N.Nodes g.met.N.Nodes.same_node g.met.N.Nodes.stays_kept old one c.requires.sound c.rewrite_branch.ensures.works.came in
-    let later = path_nodes-later f0 f1 k0 k1 c.args.new.now c.args.new_trail.now true (c.args.fork + 1) first c.requires.fork.new_way in
-    let wrote = c.rewrite_branch.ensures.writes in
-    let wrote' = c.rewrite_branch-2.ensures.writes in
-    omega (arith, later, wrote, wrote')
-
-pub returns-in_err-here-clause-reads : goal.returns-in_err-here-clause-reads
-returns-in_err-here-clause-reads g c =
-    let old = c.args.nodes.now in
-    let one = c.rewrite_branch.new.nodes in
-    let f0 = g.N.Nodes.node old in
-    let f1 = g.N.Nodes.node one in
-    let k0 = g.N.Nodes.kept old in
-    let k1 = g.N.Nodes.kept one in
-    let first : Keeps g.N.Nodes old one = keeps_nodes g.N.Nodes g.met.N.Nodes.same_node g.met.N.Nodes.stays_kept old one c.requires.sound c.rewrite_branch.ensures.works.came in
-    let later = path_nodes-later f0 f1 k0 k1 c.args.new.now c.args.new_trail.now false (c.args.fork + 1) first c.requires.fork.new_way in
+    let first : Keeps g.N.Nodes old one = keeps_nodes g.N.Nodes g.met.N.Nodes.same_node g.met.N.Nodes.stays_kept old one c.requires.sound c.rewrite_branch.ensures.calls.works.came in
+    let later = λ (puts : Bool). path_nodes-later f0 f1 k0 k1 c.args.new.now c.args.new_trail.now puts (c.args.fork + 1) first c.requires.fork.new_way in
     let least = path_nodes-least f0 c.args.new.now c.args.new_trail.now true (c.args.fork + 1) in
-    let read = c.rewrite_branch.ensures.reads in
-    let read' = c.rewrite_branch-2.ensures.reads in
-    omega (arith, later, least, read, read')
+    let p = err_from_is_err_and c.from_residual-in_err-here.result c.from_residual-in_err-here.ensures.1 in
+    rw (p.1, p.2) (works_wider (works_refused (works_both g.met.N.Nodes.works_on g.met.N.Nodes.causes_on old one c.rewrite_branch-2.new.nodes c.in_ok-gone.ensures.calls c.in_err-here.ensures.calls)) (omega (arith, later false, least)) (omega (arith, later true)))
 
-pub returns-clause-writes : goal.returns-clause-writes
-returns-clause-writes g c =
+pub returns-clause-calls : goal.returns-clause-calls
+returns-clause-calls g c =
     let old = c.args.nodes.now in
     let one = c.rewrite_branch.new.nodes in
     let two = c.rewrite_branch-2.new.nodes in
@@ -232,8 +182,8 @@ returns-clause-writes g c =
     let k0 = g.N.Nodes.kept old in
     let k1 = g.N.Nodes.kept one in
     let k2 = g.N.Nodes.kept two in
-    let first : Keeps g.N.Nodes old one = keeps_nodes g.N.Nodes g.met.N.Nodes.same_node g.met.N.Nodes.stays_kept old one c.requires.sound c.rewrite_branch.ensures.works.came in
-    let second : Keeps g.N.Nodes one two = keeps_nodes g.N.Nodes g.met.N.Nodes.same_node g.met.N.Nodes.stays_kept one two c.rewrite_branch.ensures.works.sound c.rewrite_branch-2.ensures.works.came in
+    let first : Keeps g.N.Nodes old one = keeps_nodes g.N.Nodes g.met.N.Nodes.same_node g.met.N.Nodes.stays_kept old one c.requires.sound c.rewrite_branch.ensures.calls.works.came in
+    let second : Keeps g.N.Nodes one two = keeps_nodes g.N.Nodes g.met.N.Nodes.same_node g.met.N.Nodes.stays_kept one two c.rewrite_branch.ensures.calls.works.sound c.rewrite_branch-2.ensures.calls.works.came in
     let fork = c.args.fork in
     let new_names = c.args.new.now in
     let block = slice_index c.args.old_trail.now fork in
@@ -242,41 +192,12 @@ returns-clause-writes g c =
     let new_name : c.index-new-fork.result ≡ get_or new_names fork [] = c.index-new-fork.is ∙ get_or_default new_names fork c.index-new-fork.result [] in_new in
     let held : IsHeld f0 k0 (Dir block) = level_held f0 k0 c.args.old.now c.args.old_trail.now fork c.requires.fork.old_way in_old in
     let same : items_in f2 block ≡ items_in f0 block = ap (λ (o : Option (List Item)). unwrap_or o []) (same_parted f0 f1 f2 k0 k1 k2 block first second held).0 in
-    let later = path_nodes-later f0 f1 k0 k1 new_names c.args.new_trail.now true (fork + 1) first c.requires.fork.new_way in
     let there = gone_there f0 f1 k0 k1 block fork (get_or c.args.old.now fork []) c.args.old.now c.in_ok-gone.gone c.in_ok-gone.ensures.branch in
     let at_fork : edit_nodes (items_in f2 block) c.index-new-fork.result (is_some c.in_ok-gone.gone) ≡ edit_nodes (items_in f0 block) (get_or new_names fork []) (nat_lt (fork + 1) (length c.args.old.now)) =
     λ i. edit_nodes (same i) (new_name i) (there i) in
-    let wrote = c.rewrite_branch.ensures.writes in
-    let wrote' = c.rewrite_branch-2.ensures.writes in
-    let edited = c.edit_directory_twice.ensures.writes in
-    omega (arith, later, at_fork, wrote, wrote', edited)
-
-pub returns-clause-reads : goal.returns-clause-reads
-returns-clause-reads g c =
-    let old = c.args.nodes.now in
-    let one = c.rewrite_branch.new.nodes in
-    let two = c.rewrite_branch-2.new.nodes in
-    let f0 = g.N.Nodes.node old in
-    let f1 = g.N.Nodes.node one in
-    let f2 = g.N.Nodes.node two in
-    let k0 = g.N.Nodes.kept old in
-    let k1 = g.N.Nodes.kept one in
-    let k2 = g.N.Nodes.kept two in
-    let first : Keeps g.N.Nodes old one = keeps_nodes g.N.Nodes g.met.N.Nodes.same_node g.met.N.Nodes.stays_kept old one c.requires.sound c.rewrite_branch.ensures.works.came in
-    let second : Keeps g.N.Nodes one two = keeps_nodes g.N.Nodes g.met.N.Nodes.same_node g.met.N.Nodes.stays_kept one two c.rewrite_branch.ensures.works.sound c.rewrite_branch-2.ensures.works.came in
-    let fork = c.args.fork in
-    let new_names = c.args.new.now in
-    let block = slice_index c.args.old_trail.now fork in
-    let in_old = c.requires.fork.in_old in
-    let in_new = c.requires.fork.in_new in
-    let new_name : c.index-new-fork.result ≡ get_or new_names fork [] = c.index-new-fork.is ∙ get_or_default new_names fork c.index-new-fork.result [] in_new in
-    let held : IsHeld f0 k0 (Dir block) = level_held f0 k0 c.args.old.now c.args.old_trail.now fork c.requires.fork.old_way in_old in
-    let same : items_in f2 block ≡ items_in f0 block = ap (λ (o : Option (List Item)). unwrap_or o []) (same_parted f0 f1 f2 k0 k1 k2 block first second held).0 in
-    let later = path_nodes-later f0 f1 k0 k1 new_names c.args.new_trail.now false (fork + 1) first c.requires.fork.new_way in
-    let least = path_nodes-least f0 new_names c.args.new_trail.now true (fork + 1) in
-    let at_fork : nodes_in f2 block ≤ edit_nodes (items_in f0 block) (get_or new_names fork []) (nat_lt (fork + 1) (length c.args.old.now)) =
+    let later = λ (puts : Bool). path_nodes-later f0 f1 k0 k1 c.args.new.now c.args.new_trail.now puts (c.args.fork + 1) first c.requires.fork.new_way in
+    let least = path_nodes-least f0 c.args.new.now c.args.new_trail.now true (c.args.fork + 1) in
+    let whole : nodes_in f2 block ≤ edit_nodes (items_in f0 block) (get_or new_names fork []) (nat_lt (fork + 1) (length c.args.old.now)) =
     nodes_for-le (length (items_in f2 block)) _ (omega (arith, ap length same)) in
-    let read = c.rewrite_branch.ensures.reads in
-    let read' = c.rewrite_branch-2.ensures.reads in
-    let edited = c.edit_directory_twice.ensures.reads in
-    omega (arith, later, least, at_fork, read, read', edited)
+    let both = works_both g.met.N.Nodes.works_on g.met.N.Nodes.causes_on old one two c.in_ok-gone.ensures.calls c.in_ok-here.ensures.calls in
+    works_after g.met.N.Nodes.works_on g.met.N.Nodes.causes_on old two c.edit_directory_twice.new.nodes (λ fault is. is) both c.edit_directory_twice.ensures.calls (omega (arith, later false, least, whole)) (omega (arith, later true, at_fork))

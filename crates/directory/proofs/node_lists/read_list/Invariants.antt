@@ -1,6 +1,7 @@
-use Rattle.std.proofs.Common.{◌≡◌, ◌+◌, ◌-◌}
+use Rattle.std.proofs.Common.{◌-◌, Ok}
 use Rattle.fs_types.specs.declared.limits.TheConstants.{CHAIN_NODES}
-use Rattle.node_store.specs.Words.{Looks}
+use Rattle.node_store.specs.Faults.{IsLookFault}
+use Rattle.node_store.specs.Words.{LooksWithin}
 use Rattle.directory.proofs.ReadLists.{GoesOn}
 use Rattle.directory.proofs.node_lists.read_list.Given as goal
 
@@ -8,6 +9,5 @@ use Rattle.directory.proofs.node_lists.read_list.Given as goal
 abbrev pub invariant-loop : goal.invariant-loop
 invariant-loop g l = record {
   goes : GoesOn (g.N.Nodes.node l.fn.nodes) l.block (CHAIN_NODES - l.counter) l.counter l.list l.seen.next l.name l.puts l.seen.has_name;
-  reads : g.N.Nodes.reads l.nodes ≡ g.N.Nodes.reads l.fn.nodes + l.counter;
-  looks : Looks g.N.Nodes l.fn.nodes l.nodes;
+  calls : LooksWithin g.N.Nodes IsLookFault l.counter l.fn.nodes (Ok l.seen) l.nodes;
 }

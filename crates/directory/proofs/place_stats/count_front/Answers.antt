@@ -10,14 +10,9 @@ unreachable-requires g c =
     (front_says (g.N.Nodes.page c.args.nodes.now) (g.N.Nodes.node c.args.nodes.now c.args.block) c.fronted.result.now c.requires.node.0 c.front_count.result (g.met.N.Nodes.least_page c.args.nodes.now c.requires.sound) c.requires.node.1
     (λ bytes is. subst (λ (front : List ℕ). IsFront (g.N.Nodes.page c.args.nodes.now) front bytes) (sym c.fronted.ensures) (c.in_ok-front.ensures.begins bytes is)) c.front_count.ensures.told)
 
-pub returns-clause-count : goal.returns-clause-count
-returns-clause-count g c =
+pub returns-clause-counted : goal.returns-clause-counted
+returns-clause-counted g c =
     let says = front_says (g.N.Nodes.page c.args.nodes.now) (g.N.Nodes.node c.args.nodes.now c.args.block) c.fronted.result.now c.requires.node.0 c.front_count.result (g.met.N.Nodes.least_page c.args.nodes.now c.requires.sound) c.requires.node.1
     (λ bytes is. subst (λ (front : List ℕ). IsFront (g.N.Nodes.page c.args.nodes.now) front bytes) (sym c.fronted.ensures) (c.in_ok-front.ensures.begins bytes is)) c.front_count.ensures.told in
-    ap (λ (o : Option (ℕ × ℕ)). option_map_or (λ r. r.0) o 0) (sym says ∙ c.in-Some.is)
-
-pub returns-clause-next : goal.returns-clause-next
-returns-clause-next g c =
-    let says = front_says (g.N.Nodes.page c.args.nodes.now) (g.N.Nodes.node c.args.nodes.now c.args.block) c.fronted.result.now c.requires.node.0 c.front_count.result (g.met.N.Nodes.least_page c.args.nodes.now c.requires.sound) c.requires.node.1
-    (λ bytes is. subst (λ (front : List ℕ). IsFront (g.N.Nodes.page c.args.nodes.now) front bytes) (sym c.fronted.ensures) (c.in_ok-front.ensures.begins bytes is)) c.front_count.ensures.told in
-    ap (λ (o : Option (ℕ × ℕ)). option_map_or (λ r. r.1) o 0) (sym says ∙ c.in-Some.is)
+    let is = sym says ∙ c.in-Some.is in
+    (ap (λ (o : Option (ℕ × ℕ)). option_map_or (λ r. r.0) o 0) is, ap (λ (o : Option (ℕ × ℕ)). option_map_or (λ r. r.1) o 0) is)

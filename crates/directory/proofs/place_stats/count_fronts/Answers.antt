@@ -10,7 +10,7 @@ use Rattle.directory.proofs.place_stats.count_fronts.Goals as goal
 
 pub loop-init : goal.loop-init
 loop-init g c = record {
-  walk = counted_begun (g.N.Nodes.node c.args.nodes.now) c.args.block c.in_ok-count.next c.in_ok-count.count c.in_ok-count.ensures.next c.in_ok-count.ensures.count;
+  walk = counted_begun (g.N.Nodes.node c.args.nodes.now) c.args.block c.in_ok-count.next c.in_ok-count.count c.in_ok-count.ensures.counted.1 c.in_ok-count.ensures.counted.0;
   few = let few = c.in_ok-count.ensures.few in omega arith;
   asks = c.count_front.ensures.asks;
   looks = c.count_front.ensures.looks;
@@ -24,7 +24,7 @@ count_front-requires-in-loop-clause-node g c =
 pub loop-preserved : goal.loop-preserved
 loop-preserved g c = record {
   walk = counted_on (g.N.Nodes.node c.args.nodes.now) (g.N.Nodes.node c.loop.nodes) c.args.block c.loop.invariant.looks.same_nodes c.loop.counter c.loop.next c.in_ok-more.after c.loop.count c.in_ok-more.more c.loop-test.true c.loop.invariant.walk
-      (ne_eqb c.loop.next 0 c.if-next-eq0.false) c.in_ok-more.ensures.next c.in_ok-more.ensures.count;
+      (ne_eqb c.loop.next 0 c.if-next-eq0.false) c.in_ok-more.ensures.counted.1 c.in_ok-more.ensures.counted.0;
   few = omega (arith, c.loop.invariant.few, c.in_ok-more.ensures.few);
   asks = omega (arith, c.loop.invariant.asks, c.count_front-in-loop.ensures.asks);
   looks = g.met.N.Nodes.looks_on c.args.nodes.now c.loop.nodes c.count_front-in-loop.new.nodes c.loop.invariant.looks c.count_front-in-loop.ensures.looks;

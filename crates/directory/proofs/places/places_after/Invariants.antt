@@ -1,6 +1,7 @@
-use Rattle.std.proofs.Common.{◌≡◌, ◌-◌, ◌+◌}
+use Rattle.std.proofs.Common.{◌-◌, ◌+◌, Ok}
 use Rattle.std.specs.Option.{option_copied}
-use Rattle.node_store.specs.Words.{Looks}
+use Rattle.node_store.specs.Faults.{IsReadFault}
+use Rattle.node_store.specs.Words.{LooksWithin}
 use Rattle.block_trees.specs.Chains.{most_after}
 use Rattle.directory.proofs.Placed.{HasPlaced}
 use Rattle.directory.proofs.places.places_after.Given as goal
@@ -9,6 +10,5 @@ use Rattle.directory.proofs.places.places_after.Given as goal
 abbrev pub invariant-loop : goal.invariant-loop
 invariant-loop g l = record {
   walk : HasPlaced (option_copied l.fn.from) l.fn.most (g.N.Nodes.node l.fn.nodes) l.fn.block (most_after - l.counter) l.next (l.counter + 1) l.places;
-  reads : g.N.Nodes.reads l.nodes ≡ g.N.Nodes.reads l.fn.nodes + (l.counter + 1);
-  looks : Looks g.N.Nodes l.fn.nodes l.nodes;
+  calls : LooksWithin g.N.Nodes IsReadFault (l.counter + 1) l.fn.nodes (Ok l.next) l.nodes;
 }

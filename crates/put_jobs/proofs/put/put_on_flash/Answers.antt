@@ -9,20 +9,20 @@ pub returns-in-Err-clause-err : goal.returns-in-Err-clause-err
 returns-in-Err-clause-err g c =
     inr (inr (inr (inl (
       c.args.flash,
-      c.mount.new.flash,
+      c.mount_as_planned.new.flash,
       c.in-Err.fault,
       refl,
-      record { cause = c.in-Err.ensures.why; reads = c.mount.ensures.only_reads },
+      (record { cause = c.in-Err.ensures.why; reads = c.mount_as_planned.ensures.only_reads }, c.mount_as_planned.ensures.plan),
       c.of_system.ensures,
     ))))
 
 pub returns-in-Ok-put_all-clause-ok : goal.returns-in-Ok-put_all-clause-ok
 returns-in-Ok-put_all-clause-ok g c =
-    all_put (Is c.args.flash) c.args.removed.now (g.F.ImageFiles.held c.args.files.now) c.args.batch.now.base (map source_found c.args.batch.now.sources.items) c.args.flash c.mount.new.flash c.in-Ok.system c.put_all.new.mounted
-    refl c.mount.ensures.only_reads c.in-Ok.ensures.ok c.in-Ok.ensures.system c.in-Ok-put_all.ensures
+    all_put (Is c.args.flash) c.args.removed.now (g.F.ImageFiles.held c.args.files.now) c.args.batch.now.base (map source_found c.args.batch.now.sources.items) c.args.flash c.mount_as_planned.new.flash c.in-Ok.system c.put_all.new.mounted
+    refl c.mount_as_planned.ensures.only_reads c.in-Ok.ensures.ok c.in-Ok.ensures.system c.in-Ok-put_all.ensures
 
 pub returns-in-Err-put_all-clause-err : goal.returns-in-Err-put_all-clause-err
 returns-in-Err-put_all-clause-err g c =
-    not_put (Is c.args.flash) IsNever c.args.removed.now (g.F.ImageFiles.held c.args.files.now) c.args.batch.now.base (map source_found c.args.batch.now.sources.items) c.args.flash c.mount.new.flash c.in-Ok.system
+    not_put (Is c.args.flash) IsNever c.args.removed.now (g.F.ImageFiles.held c.args.files.now) c.args.batch.now.base (map source_found c.args.batch.now.sources.items) c.args.flash c.mount_as_planned.new.flash c.in-Ok.system
     (place c.put_all.new.mounted) c.in-Err-put_all.failure
-    refl c.mount.ensures.only_reads c.in-Ok.ensures.ok c.in-Ok.ensures.system c.in-Err-put_all.ensures
+    refl c.mount_as_planned.ensures.only_reads c.in-Ok.ensures.ok c.in-Ok.ensures.system c.in-Err-put_all.ensures

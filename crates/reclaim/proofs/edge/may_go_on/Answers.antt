@@ -1,9 +1,12 @@
-use Rattle.std.proofs.Common.{◌≡◌, ℕ, List, Some, None, refl, ap, subst, sym, ◌∙◌}
+use Rattle.std.proofs.Common.{◌≡◌, ℕ, List, Some, None, refl, ap, subst, sym, ◌∙◌, arith}
 use Rattle.fields.proofs.Found.{found}
 use Rattle.fs_types.specs.Names.{Name}
 use Rattle.node_store.specs.Fronts.{IsFront}
+use Rattle.std.proofs.lemmas.Result.{err_from_is_err_and}
+use Rattle.node_store.specs.WordLaws.{looks_wider, looks_answered, looks_idle}
 use Rattle.reclaim.specs.Looks.{may_follow}
 use Rattle.reclaim.proofs.Follows.{link_bytes}
+use Rattle.reclaim.proofs.Looking.{one_read}
 use Rattle.reclaim.proofs.edge.may_go_on.Goals as goal
 
 pub returns-then-edge-eq0-clause-exact : goal.returns-then-edge-eq0-clause-exact
@@ -28,3 +31,17 @@ returns-clause-exact g c = (
       c.comes_after.ensures (g.N.Nodes.page s) own.0 l (g.met.N.Nodes.least_page s c.requires) front own.2 ∙ ap (λ (name : Name). may_follow name (Some l)) c.as_slice.ensures.value,
   λ none. absurd (c.if-edge-eq0.false none),
 )
+
+pub returns-then-edge-eq0-clause-calls : goal.returns-then-edge-eq0-clause-calls
+returns-then-edge-eq0-clause-calls g c = looks_wider (looks_idle g.met.N.Nodes.follows_itself c.args.nodes.now c.requires) (omega arith)
+
+pub returns-in_err-brought-clause-calls : goal.returns-in_err-brought-clause-calls
+returns-in_err-brought-clause-calls g c =
+    let p = err_from_is_err_and c.from_residual.result c.from_residual.ensures.1 in
+    rw (p.1, p.2) (looks_wider c.in_err-brought.ensures.calls (omega (arith, one_read c.args.edge.now.next c.if-edge-eq0.false)))
+
+pub returns-then-not-brought-clause-calls : goal.returns-then-not-brought-clause-calls
+returns-then-not-brought-clause-calls g c = looks_wider (looks_answered c.in_ok-brought.ensures.calls) (omega (arith, one_read c.args.edge.now.next c.if-edge-eq0.false))
+
+pub returns-clause-calls : goal.returns-clause-calls
+returns-clause-calls g c = looks_wider (looks_answered c.in_ok-brought.ensures.calls) (omega (arith, one_read c.args.edge.now.next c.if-edge-eq0.false))

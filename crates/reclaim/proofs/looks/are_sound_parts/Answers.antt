@@ -1,9 +1,10 @@
-use Rattle.std.proofs.Common.{◌↔◌, ℕ, List, Bool, Option, Some, sym, subst}
+use Rattle.std.proofs.Common.{◌↔◌, ℕ, List, Bool, Option, Some, ap, sym, subst, arith}
 use Rattle.std.specs.Prelude.{IsTrue, slice_index}
 use Rattle.std.proofs.lemmas.Result.{IfOk-weaker}
-use Rattle.reclaim.specs.Looks.{ArePartsOf, IsSoundAt, SlotsHold, NamesNodes, AreSoundParts}
+use Rattle.reclaim.specs.Looks.{index_reads, ArePartsOf, IsSoundAt, SlotsHold, NamesNodes, AreSoundParts}
 use Rattle.reclaim.proofs.FrontHeads.{slots_hold}
-use Rattle.reclaim.proofs.Looking.{parts_plain, parts_body, parts_at}
+use Rattle.node_store.specs.WordLaws.{looks_wider, looks_idle}
+use Rattle.reclaim.proofs.Looking.{parts_plain, parts_body}
 use Rattle.reclaim.proofs.looks.are_sound_parts.Goals as goal
 
 pub returns-in-None-clause-exact : goal.returns-in-None-clause-exact
@@ -20,6 +21,8 @@ returns-in-Some-clause-exact g c =
     parts_body c.args.capacity f c.args.pointers.now c.in-Some.index good (own (slots_hold f node c.args.pointers.now c.in-Some.index names (sym here.index_is) here.pointers_are)) node here)
     c.is_sound_at.ensures.exact
 
-pub returns-in-Some-clause-reads : goal.returns-in-Some-clause-reads
-returns-in-Some-clause-reads g c node parts =
-    parts_at node c.args.pointers.now c.in-Some.index (g.N.Nodes.reads c.args.nodes.now) (g.N.Nodes.reads c.is_sound_at.new.nodes) c.is_sound_at.ensures.reads (subst (ArePartsOf node c.args.pointers.now) c.in-Some.is parts)
+pub returns-in-Some-clause-calls : goal.returns-in-Some-clause-calls
+returns-in-Some-clause-calls g c = looks_wider c.is_sound_at.ensures.calls (omega (arith, ap index_reads c.in-Some.is))
+
+pub returns-in-None-clause-calls : goal.returns-in-None-clause-calls
+returns-in-None-clause-calls g c = looks_wider (looks_idle g.met.N.Nodes.follows_itself c.args.nodes.now c.requires.sound) (omega arith)

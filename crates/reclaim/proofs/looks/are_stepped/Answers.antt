@@ -7,6 +7,7 @@ use Rattle.reclaim.specs.Looks.{AreSteppedTo, SlotsHold}
 use Rattle.reclaim.proofs.Looking.{stepped_not, stepped_more, slot_there}
 use Rattle.std.proofs.lemmas.Result.{err_from_is_err_and}
 use Rattle.std.proofs.lemmas.Bool.{true≢false}
+use Rattle.node_store.specs.WordLaws.{looks_after, looks_wider, looks_answered, looks_idle}
 use Rattle.reclaim.proofs.looks.are_stepped.Goals as goal
 use Rattle.reclaim.proofs.looks.are_stepped.Goals.{then-has_pointer+in_ok-holds+else-not-holds, else-has_pointer}
 
@@ -15,34 +16,28 @@ returns-then-not-holds-clause-exact g c hold first =
     let p = slice_index c.args.pointers.now in
     let x = c.loop-slot.slot in
     let next : suc x ≡ x + 1 = omega arith in
-    let there = slot_there (g.N.Nodes.node c.args.nodes.now) (g.N.Nodes.node c.loop-slot.nodes) p c.args.index x c.loop-slot.invariant.looks.same_nodes (omega (arith, c.loop-slot-test.true)) (ap (has_slot c.args.index) next ∙ sym c.has_pointer.ensures ∙ c.if-has_pointer.true) hold in
+    let there = slot_there (g.N.Nodes.node c.args.nodes.now) (g.N.Nodes.node c.loop-slot.nodes) p c.args.index x c.loop-slot.invariant.calls.looks.same_nodes (omega (arith, c.loop-slot-test.true)) (ap (has_slot c.args.index) next ∙ sym c.has_pointer.ensures ∙ c.if-has_pointer.true) hold in
     stepped_not (g.N.Nodes.node c.args.nodes.now) p c.args.index x c.in_ok-holds.holds
     (omega (arith, c.loop-slot-test.true))
     (ap (has_slot c.args.index) next ∙ sym c.has_pointer.ensures ∙ c.if-has_pointer.true)
     c.if-not-holds.true
     (subst (λ (k : ℕ). IsTrue c.in_ok-holds.holds ↔ HoldsSlot (g.N.Nodes.node c.args.nodes.now (p x)) x (p k)) (sym next)
-    (subst (λ (f : Blocks). IsTrue c.in_ok-holds.holds ↔ HoldsSlot (f (p x)) x (p (x + 1))) c.loop-slot.invariant.looks.same_nodes (c.in_ok-holds.ensures.exact there)))
+    (subst (λ (f : Blocks). IsTrue c.in_ok-holds.holds ↔ HoldsSlot (f (p x)) x (p (x + 1))) c.loop-slot.invariant.calls.looks.same_nodes (c.in_ok-holds.ensures.exact there)))
 
-pub returns-in_err-holds-clause-why : goal.returns-in_err-holds-clause-why
-returns-in_err-holds-clause-why g c =
+pub loop-slot-init : goal.loop-slot-init
+loop-slot-init g c = record { good = λ hold first. first; calls = looks_idle g.met.N.Nodes.follows_itself c.args.nodes.now c.requires.sound; asks = omega arith }
+
+pub returns-in_err-holds-clause-calls : goal.returns-in_err-holds-clause-calls
+returns-in_err-holds-clause-calls g c =
     let p = err_from_is_err_and c.from_residual.result c.from_residual.ensures.1 in
-    rw (p.1, p.2) (g.met.N.Nodes.causes_on c.args.nodes.now c.loop-slot.nodes c.holds_slot.new.nodes c.in_err-holds.field-0.0 c.loop-slot.invariant.looks.came c.in_err-holds.ensures.why)
+    rw (p.1, p.2) (looks_after g.met.N.Nodes.looks_on g.met.N.Nodes.causes_on c.args.nodes.now c.loop-slot.nodes c.holds_slot.new.nodes (λ fault is. is) c.loop-slot.invariant.calls c.in_err-holds.ensures.calls (omega (arith, c.loop-slot-test.true)))
 
-pub returns-in_err-holds-clause-faults : goal.returns-in_err-holds-clause-faults
-returns-in_err-holds-clause-faults g c =
-    let p = err_from_is_err_and c.from_residual.result c.from_residual.ensures.1 in
-    rw (p.1, p.2) c.in_err-holds.ensures.faults
+pub returns-then-not-holds-clause-calls : goal.returns-then-not-holds-clause-calls
+returns-then-not-holds-clause-calls g c =
+    looks_after g.met.N.Nodes.looks_on g.met.N.Nodes.causes_on c.args.nodes.now c.loop-slot.nodes c.holds_slot.new.nodes (λ fault is. is) c.loop-slot.invariant.calls (looks_answered c.in_ok-holds.ensures.calls) (omega (arith, c.loop-slot-test.true))
 
-pub returns-in_err-holds-clause-looks : goal.returns-in_err-holds-clause-looks
-returns-in_err-holds-clause-looks g c =
-    g.met.N.Nodes.looks_on c.args.nodes.now c.loop-slot.nodes c.holds_slot.new.nodes c.loop-slot.invariant.looks c.holds_slot.ensures.looks
-
-pub returns-then-not-holds-clause-looks : goal.returns-then-not-holds-clause-looks
-returns-then-not-holds-clause-looks g c =
-    g.met.N.Nodes.looks_on c.args.nodes.now c.loop-slot.nodes c.holds_slot.new.nodes c.loop-slot.invariant.looks c.holds_slot.ensures.looks
-
-pub returns-clause-looks : goal.returns-clause-looks
-returns-clause-looks g c = c.loop-slot.invariant.looks
+pub returns-clause-calls : goal.returns-clause-calls
+returns-clause-calls g c = looks_wider c.loop-slot.invariant.calls (omega (arith, c.loop-slot.auto.slot-end))
 
 pub loop-slot-preserved : goal.loop-slot-preserved
 loop-slot-preserved g c =
@@ -53,21 +48,19 @@ loop-slot-preserved g c =
     elim c.if-has_pointer.branch [
       | then-has_pointer+in_ok-holds+else-not-holds w ↦
           let here : SlotsHold (g.N.Nodes.node c.args.nodes.now) p c.args.index → HoldsSlot (g.N.Nodes.node c.args.nodes.now (p x)) x (p (suc x)) = λ hold.
-          let there = slot_there (g.N.Nodes.node c.args.nodes.now) (g.N.Nodes.node c.loop-slot.nodes) p c.args.index x so_far.looks.same_nodes (omega (arith, c.loop-slot-test.true)) (ap (has_slot c.args.index) next ∙ sym c.has_pointer.ensures ∙ w.if-has_pointer.true) hold in
+          let there = slot_there (g.N.Nodes.node c.args.nodes.now) (g.N.Nodes.node c.loop-slot.nodes) p c.args.index x so_far.calls.looks.same_nodes (omega (arith, c.loop-slot-test.true)) (ap (has_slot c.args.index) next ∙ sym c.has_pointer.ensures ∙ w.if-has_pointer.true) hold in
           subst (λ (k : ℕ). HoldsSlot (g.N.Nodes.node c.args.nodes.now (p x)) x (p k)) (sym next)
-          (subst (λ (f : Blocks). HoldsSlot (f (p x)) x (p (x + 1))) so_far.looks.same_nodes ((w.in_ok-holds.ensures.exact there).0 w.if-not-holds.false)) in
+          (subst (λ (f : Blocks). HoldsSlot (f (p x)) x (p (x + 1))) so_far.calls.looks.same_nodes ((w.in_ok-holds.ensures.exact there).0 w.if-not-holds.false)) in
           rw w.nodes-is (record {
             good = λ hold first. stepped_more (g.N.Nodes.node c.args.nodes.now) p c.args.index x (so_far.good hold first) (λ has. here hold);
-            reads = omega (arith, so_far.reads, w.holds_slot.ensures.reads, c.loop-slot.auto.slot);
-            asks = omega (arith, so_far.asks, w.holds_slot.ensures.reads, w.holds_slot.ensures.asks);
-            looks = g.met.N.Nodes.looks_on c.args.nodes.now c.loop-slot.nodes w.holds_slot.new.nodes so_far.looks w.holds_slot.ensures.looks;
+            calls = looks_after g.met.N.Nodes.looks_on g.met.N.Nodes.causes_on c.args.nodes.now c.loop-slot.nodes w.holds_slot.new.nodes (λ fault is. is) so_far.calls (looks_answered w.in_ok-holds.ensures.calls) (omega (arith, c.loop-slot.auto.slot));
+            asks = omega (arith, so_far.asks, w.holds_slot.ensures.asks);
           })
       | else-has_pointer w ↦
           rw w.nodes-is (record {
             good = λ hold first. stepped_more (g.N.Nodes.node c.args.nodes.now) p c.args.index x (so_far.good hold first) (λ has. absurd (true≢false (sym has ∙ ap (has_slot c.args.index) next ∙ sym c.has_pointer.ensures ∙ w.if-has_pointer.false)));
-            reads = omega (arith, so_far.reads);
+            calls = looks_wider so_far.calls (omega arith);
             asks = so_far.asks;
-            looks = so_far.looks;
           })
     ]
 

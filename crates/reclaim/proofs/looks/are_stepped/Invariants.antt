@@ -1,6 +1,7 @@
-use Rattle.std.proofs.Common.{◌≤◌, ◌+◌, ◌-◌}
+use Rattle.std.proofs.Common.{Ok, true, ◌≤◌, ◌+◌, ◌-◌}
 use Rattle.std.specs.Prelude.{slice_index}
-use Rattle.node_store.specs.Words.{Looks}
+use Rattle.node_store.specs.Faults.{IsLookFault}
+use Rattle.node_store.specs.Words.{LooksWithin}
 use Rattle.reclaim.specs.Looks.{AreSteppedTo, SlotsHold}
 use Rattle.reclaim.proofs.looks.are_stepped.Given as goal
 
@@ -8,7 +9,6 @@ use Rattle.reclaim.proofs.looks.are_stepped.Given as goal
 abbrev pub invariant-loop-slot : goal.invariant-loop-slot
 invariant-loop-slot g l = record {
   good : SlotsHold (g.N.Nodes.node l.initial.nodes) (slice_index l.pointers) l.index → AreSteppedTo (g.N.Nodes.node l.initial.nodes) (slice_index l.pointers) l.index 1 → AreSteppedTo (g.N.Nodes.node l.initial.nodes) (slice_index l.pointers) l.index l.slot;
-  reads : g.N.Nodes.reads l.nodes ≤ g.N.Nodes.reads l.initial.nodes + (l.slot - 1);
+  calls : LooksWithin g.N.Nodes IsLookFault (l.slot - 1) l.initial.nodes (Ok true) l.nodes;
   asks : g.N.Nodes.asked l.nodes + g.N.Nodes.reads l.initial.nodes ≤ g.N.Nodes.asked l.initial.nodes + g.N.Nodes.reads l.nodes;
-  looks : Looks g.N.Nodes l.initial.nodes l.nodes;
 }

@@ -2,9 +2,10 @@ use Rattle.std.proofs.Common.{ℕ, ap, ◌∙◌, arith}
 use Rattle.std.specs.Option.{option_map}
 use Rattle.std.proofs.lemmas.Result.{IfOk-weaker}
 use Rattle.fs_types.specs.Names.{Name}
-use Rattle.reclaim.specs.Looks.{link_reads}
+use Rattle.node_store.specs.WordLaws.{looks_wider, looks_idle}
+use Rattle.reclaim.specs.Looks.{edge_reads}
 use Rattle.reclaim.specs.declared.edge.Edge.{Edge}
-use Rattle.reclaim.proofs.Looking.{followed_none, followed_some, next_reads}
+use Rattle.reclaim.proofs.Looking.{followed_none, followed_some}
 use Rattle.reclaim.proofs.looks.is_followed.Goals as goal
 
 abbrev said : Edge → Name × ℕ
@@ -20,10 +21,8 @@ returns-in-Some-clause-exact g c =
 pub returns-in-None-clause-exact : goal.returns-in-None-clause-exact
 returns-in-None-clause-exact g c node says holds = followed_none (g.N.Nodes.node c.args.nodes.now) node (says ∙ ap (option_map said) c.in-None.is)
 
-pub returns-in-Some-clause-reads : goal.returns-in-Some-clause-reads
-returns-in-Some-clause-reads g c node says =
-    let e = c.in-Some.edge in
-    omega (arith, c.may_go_on.ensures.reads, ap link_reads (next_reads node e.last.items e.next (says ∙ ap (option_map said) c.in-Some.is)))
+pub returns-in-Some-clause-calls : goal.returns-in-Some-clause-calls
+returns-in-Some-clause-calls g c = looks_wider c.may_go_on.ensures.calls (omega (arith, ap edge_reads c.in-Some.is))
 
-pub returns-in-None-clause-reads : goal.returns-in-None-clause-reads
-returns-in-None-clause-reads g c node says = omega arith
+pub returns-in-None-clause-calls : goal.returns-in-None-clause-calls
+returns-in-None-clause-calls g c = looks_wider (looks_idle g.met.N.Nodes.follows_itself c.args.nodes.now c.requires) (omega arith)

@@ -1,22 +1,16 @@
-use Rattle.std.proofs.Common.{◌≡◌, ◌↔◌, ℕ, Some, List, Option, sym, ap, subst, ◌∙◌}
-use Rattle.std.specs.Prelude.{IfOk, Contains}
-use Rattle.block_trees.specs.Reached.{Names}
-use Rattle.reclaim.specs.Kinds.{NamesBody}
+use Rattle.std.proofs.Common.{◌≡◌, ℕ, Some, List, Option, sym, ap, subst, ◌∙◌}
+use Rattle.std.specs.Prelude.{IfOk}
+use Rattle.reclaim.specs.Facts.{AreNamed}
 use Rattle.std.proofs.lemmas.Result.{IfOk-weaker}
 use Rattle.reclaim.proofs.FrontNames.{has_bytes}
 use Rattle.reclaim.proofs.named.read_whole.Goals as goal
 
-pub returns-clause-blocks : goal.returns-clause-blocks
-returns-clause-blocks g c =
+pub returns-clause-named : goal.returns-clause-named
+returns-clause-named g c =
     let is : g.N.Nodes.node c.args.nodes.now c.args.block ≡ Some c.lent.result.now = c.in_ok-read.ensures.shown ∙ ap (λ (bytes : List ℕ). Some bytes) (sym c.lent.ensures) in
-    subst (λ (node : Option (List ℕ)). IfOk c.list_named.result (λ n. (b : ℕ) → Contains n.blocks.items b ↔ Names node b)) (sym is) c.list_named.ensures.blocks
-
-pub returns-clause-bodies : goal.returns-clause-bodies
-returns-clause-bodies g c =
-    let is : g.N.Nodes.node c.args.nodes.now c.args.block ≡ Some c.lent.result.now = c.in_ok-read.ensures.shown ∙ ap (λ (bytes : List ℕ). Some bytes) (sym c.lent.ensures) in
-    subst (λ (node : Option (List ℕ)). IfOk c.list_named.result (λ n. (b : ℕ) → Contains n.bodies.items b ↔ NamesBody node b)) (sym is) c.list_named.ensures.bodies
+    subst (λ (node : Option (List ℕ)). IfOk c.list_named.result (AreNamed node)) (sym is) c.list_named.ensures.named
 
 pub returns-clause-there : goal.returns-clause-there
 returns-clause-there g c =
     let is : g.N.Nodes.node c.args.nodes.now c.args.block ≡ Some c.lent.result.now = c.in_ok-read.ensures.shown ∙ ap (λ (bytes : List ℕ). Some bytes) (sym c.lent.ensures) in
-    IfOk-weaker c.list_named.result _ _ (λ n _. has_bytes (g.N.Nodes.node c.args.nodes.now c.args.block) c.lent.result.now is) c.list_named.ensures.blocks
+    IfOk-weaker c.list_named.result _ _ (λ n _. has_bytes (g.N.Nodes.node c.args.nodes.now c.args.block) c.lent.result.now is) c.list_named.ensures.named

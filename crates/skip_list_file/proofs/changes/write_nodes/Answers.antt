@@ -1,13 +1,13 @@
 use Rattle.std.proofs.Common.{◌≤◌, ◌≡◌, ℕ, ◌+◌, ◌-◌, ◌*◌, ◌<◌, min, List, length, take, drop, refl, sym, ap, subst, ◌∙◌, arith}
 use Rattle.std.proofs.lemmas.Result.{err_from_is_err_and}
-use Rattle.std.proofs.Math.Nat.{div-mul-le_self, le_of_eq}
-use Rattle.plain_trees.specs.Contents.{nodes_from}
+use Rattle.std.proofs.Math.Nat.{div-mul-le_self}
 use Rattle.block_trees.specs.Bodies.{head_index, body, IsBody}
 use Rattle.node_format.specs.declared.place.Place.TheVariants.{File}
 use Rattle.node_store.specs.Words.{IsHeld, Keeps}
 use Rattle.skip_list_file.specs.declared.body.Body.{Body}
 use Rattle.skip_list_file.specs.Reading.{AreBlocks}
 use Rattle.skip_list_file.specs.Writing as spec
+use Rattle.skip_list_file.proofs.NodeCalls.{writes_after, writes_refused}
 use Rattle.skip_list_file.proofs.Fronts.{body_length}
 use Rattle.skip_list_file.proofs.Counted.{few_none, few_on, few_all, few_listed, written_count}
 use Rattle.skip_list_file.proofs.Growth.{IsBegun, body_stays, blocks_stay, begun_front, starts_before, starts_within, turn, written_whole, written_reaches, first_within, first_own, own_first, all_ends}
@@ -41,26 +41,6 @@ write_node-requires-clause-sound g c = c.loop-index.invariant.works.sound
 pub write_node-requires-clause-within : goal.write_node-requires-clause-within
 write_node-requires-clause-within g c = starts_within c.args.change.capacity c.loop-index.index c.args.change.size (omega (arith, c.args.change.least)) (omega (arith, c.args.change.changed)) (omega (arith, c.loop-index-test.true))
 
-pub write_node-requires-clause-holds : goal.write_node-requires-clause-holds
-write_node-requires-clause-holds g c =
-    let old = c.args.nodes.now in
-    let at = c.loop-index.nodes in
-    let keeps : Keeps g.N.Nodes old at = keeps_nodes g.N.Nodes g.met.N.Nodes.same_node g.met.N.Nodes.stays_kept old at c.requires.sound c.loop-index.invariant.works.came in
-    record {
-      capacity_is = c.requires.holds.capacity_is ∙ ap (λ (n : ℕ). n - 80) (sym c.loop-index.invariant.works.same_limit);
-      least = c.requires.holds.least;
-      whole = (body_stays c.args.change.capacity (g.N.Nodes.node old) (g.N.Nodes.node at) (g.N.Nodes.kept old) (g.N.Nodes.kept at) c.args.change.body.head c.args.change.body.length keeps c.requires.holds.whole c.requires.stored.held).whole;
-    }
-
-pub write_node-requires-clause-listed : goal.write_node-requires-clause-listed
-write_node-requires-clause-listed g c =
-    let old = c.args.nodes.now in
-    let at = c.loop-index.nodes in
-    let keeps : Keeps g.N.Nodes old at = keeps_nodes g.N.Nodes g.met.N.Nodes.same_node g.met.N.Nodes.stays_kept old at c.requires.sound c.loop-index.invariant.works.came in
-    let few = few_listed c.args.change.capacity c.args.change.body.length (c.args.change.offset + length c.args.bytes.now) (length c.args.start.old.items) c.args.change.capacity refl c.requires.start.count in
-    subst (AreBlocks (g.N.Nodes.node at) c.args.change.body.head) (sym c.as_slice.ensures.value)
-    (blocks_stay c.args.change.capacity (g.N.Nodes.node old) (g.N.Nodes.node at) (g.N.Nodes.kept old) (g.N.Nodes.kept at) c.args.change.body.head c.args.change.body.length c.args.start.old.items keeps c.requires.holds.whole c.requires.stored.held few c.requires.start.listed)
-
 pub write_node-requires-clause-before : goal.write_node-requires-clause-before
 write_node-requires-clause-before g c =
     let at = c.loop-index.nodes in
@@ -75,33 +55,6 @@ write_node-requires-clause-before g c =
       table = c.loop-index.invariant.table;
     }
 
-pub returns-in_err-head-clause-refused : goal.returns-in_err-head-clause-refused
-returns-in_err-head-clause-refused g c =
-    let p = err_from_is_err_and c.from_residual.result c.from_residual.ensures.1 in
-    let refused = c.in_err-head.ensures.refused in
-    let why = g.met.N.Nodes.causes_on c.args.nodes.now c.loop-index.nodes c.write_node.new.nodes c.in_err-head.field-0.0 c.loop-index.invariant.works.came refused.1 in
-    rw (p.1, p.2) (refused.0, why)
-
-pub returns-in_err-head-clause-writes : goal.returns-in_err-head-clause-writes
-returns-in_err-head-clause-writes g c =
-    let p = err_from_is_err_and c.from_residual.result c.from_residual.ensures.1 in
-    let change = c.args.change in
-    let few : g.N.Nodes.writes c.write_node.new.nodes ≤ g.N.Nodes.writes c.args.nodes.now + nodes_from change.capacity (min change.offset change.body.length) change.size =
-    omega (arith, c.write_node.ensures.writes.most, c.loop-index.invariant.writes, c.loop-index.auto.index, c.loop-index-test.true, c.requires.start.first) in
-    record { most = few; done = rw p.1 tt }
-
-pub returns-in_err-head-clause-works : goal.returns-in_err-head-clause-works
-returns-in_err-head-clause-works g c = g.met.N.Nodes.works_on c.args.nodes.now c.loop-index.nodes c.write_node.new.nodes c.loop-index.invariant.works c.write_node.ensures.works
-
-pub returns-in_err-head-clause-reads : goal.returns-in_err-head-clause-reads
-returns-in_err-head-clause-reads g c =
-    let change = c.args.change in
-    let end : ℕ = change.offset + length c.args.bytes.now in
-    few_all change.capacity change.body.length end c.args.start.first (c.loop-index.index + 1) (g.N.Nodes.reads c.args.nodes.now) (g.N.Nodes.reads c.write_node.new.nodes)
-    (few_on change.capacity change.body.length change.offset end c.args.start.first c.loop-index.index (min change.capacity (change.size - c.loop-index.index * change.capacity)) (g.N.Nodes.reads c.args.nodes.now) (g.N.Nodes.reads c.loop-index.nodes) (g.N.Nodes.reads c.write_node.new.nodes) (length c.args.start.old.items)
-    (omega (arith, c.args.change.least)) c.requires.start.first c.loop-index.auto.index (omega arith) c.requires.start.count
-    c.write_node.ensures.reads.unread (λ within. c.write_node.ensures.reads.one (subst (λ (l : List ℕ). head_index c.args.change.capacity c.args.change.body.length - c.loop-index.index < length l) (sym c.as_slice.ensures.value) within)) c.write_node.ensures.reads.few c.loop-index.invariant.reads)
-
 pub loop-index-preserved : goal.loop-index-preserved
 loop-index-preserved g c =
     let old = c.args.nodes.now in
@@ -113,7 +66,7 @@ loop-index-preserved g c =
     let least : 0 < change.capacity = omega (arith, c.args.change.least) in
     let within : i * change.capacity < change.size = starts_within change.capacity i change.size least (omega (arith, c.args.change.changed)) (omega (arith, c.loop-index-test.true)) in
     let keeps : Keeps g.N.Nodes old at = keeps_nodes g.N.Nodes g.met.N.Nodes.same_node g.met.N.Nodes.stays_kept old at c.requires.sound c.loop-index.invariant.works.came in
-    let kept_on : Keeps g.N.Nodes at c.write_node.new.nodes = keeps_nodes g.N.Nodes g.met.N.Nodes.same_node g.met.N.Nodes.stays_kept at c.write_node.new.nodes c.loop-index.invariant.works.sound c.write_node.ensures.works.came in
+    let kept_on : Keeps g.N.Nodes at c.write_node.new.nodes = keeps_nodes g.N.Nodes g.met.N.Nodes.same_node g.met.N.Nodes.stays_kept at c.write_node.new.nodes c.loop-index.invariant.works.sound c.write_node.ensures.calls.works.came in
     let stays = body_stays change.capacity f (g.N.Nodes.node at) (g.N.Nodes.kept old) (g.N.Nodes.kept at) change.body.head change.body.length keeps c.requires.holds.whole c.requires.stored.held in
     let wanted : List ℕ = spec.edited (body change.capacity f change.body.head change.body.length) change.offset c.args.bytes.now change.size in
     let more = subst (λ (b : List ℕ). spec.IsGrown change.capacity (g.N.Nodes.node at) (g.N.Nodes.node c.write_node.new.nodes) (g.N.Nodes.kept at) (g.N.Nodes.kept c.write_node.new.nodes) c.loop-index.head i c.in_ok-head.head
@@ -124,9 +77,9 @@ loop-index-preserved g c =
       table = c.in_ok-head.ensures.table;
       reads = few_on change.capacity change.body.length change.offset end c.args.start.first i (min change.capacity (change.size - i * change.capacity)) (g.N.Nodes.reads old) (g.N.Nodes.reads at) (g.N.Nodes.reads c.write_node.new.nodes) (length c.args.start.old.items)
           least c.requires.start.first c.loop-index.auto.index (omega arith) c.requires.start.count
-          c.write_node.ensures.reads.unread (λ listed. c.write_node.ensures.reads.one (subst (λ (l : List ℕ). head_index c.args.change.capacity c.args.change.body.length - c.loop-index.index < length l) (sym c.as_slice.ensures.value) listed)) c.write_node.ensures.reads.few c.loop-index.invariant.reads;
-      writes = omega (arith, c.in_ok-head.ensures.writes.done, c.loop-index.invariant.writes, c.loop-index.auto.index);
-      works = g.met.N.Nodes.works_on old at c.write_node.new.nodes c.loop-index.invariant.works c.write_node.ensures.works;
+          c.write_node.ensures.reads.unread (λ listed. c.write_node.ensures.reads.one (subst (λ (l : List ℕ). head_index c.args.change.capacity c.args.change.body.length - c.loop-index.index < length l) (sym c.as_slice.ensures.value) listed)) c.write_node.ensures.calls.reads c.loop-index.invariant.reads;
+      writes = omega (arith, c.in_ok-head.ensures.calls.writes, c.loop-index.invariant.writes, c.loop-index.auto.index);
+      works = g.met.N.Nodes.works_on old at c.write_node.new.nodes c.loop-index.invariant.works c.write_node.ensures.calls.works;
     }
 
 pub returns-clause-written : goal.returns-clause-written
@@ -151,13 +104,48 @@ returns-clause-reaches g c =
     let begun = subst (IsBegun change.capacity f (g.N.Nodes.kept c.args.nodes.now) change.body wanted (g.N.Nodes.node at) (g.N.Nodes.kept at) c.loop-index.head) ends c.loop-index.invariant.begun in
     written_reaches change.capacity f (g.N.Nodes.node at) (g.N.Nodes.kept c.args.nodes.now) (g.N.Nodes.kept at) change.body to wanted begun (sym (edited_length _ change.offset c.args.bytes.now change.size))
 
-pub returns-clause-reads : goal.returns-clause-reads
-returns-clause-reads g c =
-    few_all c.args.change.capacity c.args.change.body.length (c.args.change.offset + length c.args.bytes.now) c.args.start.first c.loop-index.index (g.N.Nodes.reads c.args.nodes.now) (g.N.Nodes.reads c.loop-index.nodes) c.loop-index.invariant.reads
-
-pub returns-clause-writes : goal.returns-clause-writes
-returns-clause-writes g c =
+pub returns-in_err-head-clause-calls : goal.returns-in_err-head-clause-calls
+returns-in_err-head-clause-calls g c =
     let change = c.args.change in
-    let all = written_count change.capacity (min change.offset change.body.length) change.size c.args.start.first c.loop-index.index (g.N.Nodes.writes c.args.nodes.now) (g.N.Nodes.writes c.loop-index.nodes) (omega (arith, change.least)) c.requires.start.first change.changed
-    (omega (arith, c.loop-index-test.false)) c.loop-index.auto.index-end c.loop-index.invariant.writes in
-    record { most = le_of_eq all; done = all }
+    let end : ℕ = change.offset + length c.args.bytes.now in
+    let now = c.loop-index.invariant in
+    let done = c.write_node.ensures in
+    let few = few_on change.capacity change.body.length change.offset end c.args.start.first c.loop-index.index (min change.capacity (change.size - c.loop-index.index * change.capacity)) (g.N.Nodes.reads c.args.nodes.now) (g.N.Nodes.reads c.loop-index.nodes) (g.N.Nodes.reads c.write_node.new.nodes) (length c.args.start.old.items)
+    (omega (arith, c.args.change.least)) c.requires.start.first c.loop-index.auto.index (omega arith) c.requires.start.count
+    done.reads.unread (λ within. done.reads.one (subst (λ (l : List ℕ). head_index c.args.change.capacity c.args.change.body.length - c.loop-index.index < length l) (sym c.as_slice.ensures.value) within)) done.calls.reads now.reads in
+    let p = err_from_is_err_and c.from_residual.result c.from_residual.ensures.1 in
+    rw (p.1, p.2) (writes_after g.met.N.Nodes.works_on g.met.N.Nodes.causes_on c.args.nodes.now c.loop-index.nodes c.write_node.new.nodes now.works (writes_refused c.in_err-head.ensures.calls)
+    (few_all change.capacity change.body.length end c.args.start.first (c.loop-index.index + 1) (g.N.Nodes.reads c.args.nodes.now) (g.N.Nodes.reads c.write_node.new.nodes) few)
+    (omega (arith, done.calls.writes, now.writes, c.loop-index.auto.index, c.loop-index-test.true, c.requires.start.first)))
+
+pub returns-clause-calls : goal.returns-clause-calls
+returns-clause-calls g c =
+    let change = c.args.change in
+    let now = c.loop-index.invariant in
+    record {
+      works = now.works;
+      reads = few_all change.capacity change.body.length (change.offset + length c.args.bytes.now) c.args.start.first c.loop-index.index (g.N.Nodes.reads c.args.nodes.now) (g.N.Nodes.reads c.loop-index.nodes) now.reads;
+      writes = written_count change.capacity (min change.offset change.body.length) change.size c.args.start.first c.loop-index.index (g.N.Nodes.writes c.args.nodes.now) (g.N.Nodes.writes c.loop-index.nodes) (omega (arith, change.least)) c.requires.start.first change.changed
+          (omega (arith, c.loop-index-test.false)) c.loop-index.auto.index-end now.writes;
+      why = tt;
+      faults = tt;
+    }
+
+pub write_node-requires-clause-changes : goal.write_node-requires-clause-changes
+write_node-requires-clause-changes g c =
+    let old = c.args.nodes.now in
+    let at = c.loop-index.nodes in
+    let keeps : Keeps g.N.Nodes old at = keeps_nodes g.N.Nodes g.met.N.Nodes.same_node g.met.N.Nodes.stays_kept old at c.requires.sound c.loop-index.invariant.works.came in
+    let few = few_listed c.args.change.capacity c.args.change.body.length (c.args.change.offset + length c.args.bytes.now) (length c.args.start.old.items) c.args.change.capacity refl c.requires.start.count in
+    record {
+      old = record {
+        holds = record {
+          capacity_is = c.requires.holds.capacity_is ∙ ap (λ (n : ℕ). n - 80) (sym c.loop-index.invariant.works.same_limit);
+          least = c.requires.holds.least;
+          whole = (body_stays c.args.change.capacity (g.N.Nodes.node old) (g.N.Nodes.node at) (g.N.Nodes.kept old) (g.N.Nodes.kept at) c.args.change.body.head c.args.change.body.length keeps c.requires.holds.whole c.requires.stored.held).whole;
+        };
+        listed = subst (AreBlocks (g.N.Nodes.node at) c.args.change.body.head) (sym c.as_slice.ensures.value)
+            (blocks_stay c.args.change.capacity (g.N.Nodes.node old) (g.N.Nodes.node at) (g.N.Nodes.kept old) (g.N.Nodes.kept at) c.args.change.body.head c.args.change.body.length c.args.start.old.items keeps c.requires.holds.whole c.requires.stored.held few c.requires.start.listed);
+      };
+      fits = c.requires.written;
+    }

@@ -10,7 +10,7 @@ use Rattle.skip_list_file.proofs.FirstPages.{write_refused}
 use Rattle.skip_list_file.proofs.Growth.{are_linked, back_stays, product_some, grown, is_next, head_full}
 use Rattle.skip_list_file.proofs.Marks.{linked_before, table_on}
 use Rattle.skip_list_file.proofs.new_nodes.append.Goals as goal
-use Rattle.node_store.specs.WordLaws.{keeps_nodes}
+use Rattle.node_store.specs.WordLaws.{keeps_nodes, works_answered}
 
 pub write_new-requires-clause-whole : goal.write_new-requires-clause-whole
 write_new-requires-clause-whole g c =
@@ -28,7 +28,7 @@ returns-clause-grown g c =
     let some : 0 < length bytes = omega (arith, c.requires.spelled.used, c.requires.spelled.node.some) in
     let fits : length bytes ≤ capacity = omega (arith, c.requires.spelled.size, c.requires.fits) in
     let least : 0 < capacity = omega (arith, some, c.requires.spelled.size, c.requires.fits) in
-    let keeps : Keeps g.N.Nodes old new = keeps_nodes g.N.Nodes g.met.N.Nodes.same_node g.met.N.Nodes.stays_kept old new c.requires.sound c.write_new.ensures.works.came in
+    let keeps : Keeps g.N.Nodes old new = keeps_nodes g.N.Nodes g.met.N.Nodes.same_node g.met.N.Nodes.stays_kept old new c.requires.sound c.write_new.ensures.calls.works.came in
     let full : 0 < c.args.index → length (data_of (f c.args.head)) ≡ capacity = head_full (g.N.Nodes.limit old) capacity f c.args.head c.args.index refl least c.requires.stored.whole (λ bytes is. g.met.N.Nodes.whole old c.args.head bytes c.requires.sound is) in
     let node : IsNext f (g.N.Nodes.node new) c.args.head c.args.index next bytes =
     is_next f (g.N.Nodes.node new) c.args.head c.args.index next c.args.table.now.blocks bytes c.args.node.items c.in_ok-block.ensures.written c.requires.spelled c.requires.slots in
@@ -54,7 +54,7 @@ returns-clause-table g c last is =
     let f' : Blocks = g.N.Nodes.node new in
     let some : 0 < length bytes = omega (arith, c.requires.spelled.used, c.requires.spelled.node.some) in
     let least : 0 < capacity = omega (arith, some, c.requires.spelled.size, c.requires.fits) in
-    let keeps : Keeps g.N.Nodes old new = keeps_nodes g.N.Nodes g.met.N.Nodes.same_node g.met.N.Nodes.stays_kept old new c.requires.sound c.write_new.ensures.works.came in
+    let keeps : Keeps g.N.Nodes old new = keeps_nodes g.N.Nodes g.met.N.Nodes.same_node g.met.N.Nodes.stays_kept old new c.requires.sound c.write_new.ensures.calls.works.came in
     let node : IsNext f f' head index next bytes =
     is_next f f' head index next c.args.table.now.blocks bytes c.args.node.items c.in_ok-block.ensures.written c.requires.spelled c.requires.slots in
     let before : 0 < index → pointer_of (f' next) 0 ≡ head = λ (some : 0 < index). node.slots 0 (omega arith, some, (index, omega arith)) in
@@ -63,7 +63,11 @@ returns-clause-table g c last is =
     (λ b reached. c.requires.stored.held head (product_some capacity index least some, refl) b reached) in
     table_on f f' head next index last c.args.table.now.blocks c.move_on.new.self.blocks is c.move_on.ensures before stays
 
-pub returns-in_err-block-clause-refused : goal.returns-in_err-block-clause-refused
-returns-in_err-block-clause-refused g c =
+pub returns-in_err-block-clause-calls : goal.returns-in_err-block-clause-calls
+returns-in_err-block-clause-calls g c =
+    let calls = c.in_err-block.ensures.calls in
     let p = err_from_is_err_and c.from_residual.result c.from_residual.ensures.1 in
-    rw (p.1, p.2) (write_refused c.in_err-block.field-0.0 c.in_err-block.ensures.refused.0, c.in_err-block.ensures.refused.1)
+    rw (p.1, p.2) (record { works = calls.works; reads = calls.reads; writes = calls.writes; why = calls.why; faults = write_refused c.in_err-block.field-0.0 calls.faults })
+
+pub returns-clause-calls : goal.returns-clause-calls
+returns-clause-calls g c = works_answered c.in_ok-block.ensures.calls

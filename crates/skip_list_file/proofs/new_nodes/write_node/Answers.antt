@@ -1,13 +1,12 @@
 use Rattle.std.proofs.Common.{◌≡◌, ℕ, ◌+◌, ◌-◌, ◌*◌, ◌/◌, ◌≤◌, min, List, length, take, drop, sym, ap, subst, ◌∙◌, arith}
 use Rattle.std.proofs.lemmas.List.{length-take}
 use Rattle.std.proofs.lemmas.Nat.{le-div}
-use Rattle.std.proofs.lemmas.Result.{err_from_is_err_and, IfOk-weaker, IfErr-weaker}
-use Rattle.fs_types.specs.declared.fault.Fault.{Fault}
+use Rattle.std.proofs.lemmas.Result.{err_from_is_err_and, IfOk-weaker}
 use Rattle.node_format.specs.Headers.{body_header}
 use Rattle.node_format.specs.BodyNodes.{IsBodySpelling}
 use Rattle.block_trees.specs.Bodies.{Blocks}
-use Rattle.skip_list_file.specs.Writing.{IsGrown, IsStored, IsTable, IsWritingFault, ReadsKept, WritesNodes, bytes_after, part_after, part_length}
-use Rattle.skip_list_file.proofs.FirstPages.{read_refused}
+use Rattle.skip_list_file.specs.Writing.{IsGrown, IsStored, IsTable, bytes_after, part_after}
+use Rattle.skip_list_file.proofs.NodeCalls.{along_looking, along_refused, writes_after, writes_within}
 use Rattle.skip_list_file.proofs.Marks.{table_slots}
 use Rattle.skip_list_file.proofs.Growth.{grown_from, stored_later}
 use Rattle.skip_list_file.proofs.new_nodes.write_node.Goals as goal
@@ -22,19 +21,19 @@ part_fits file start capacity rest = omega (arith, length-take (min capacity res
 
 pub append-requires-clause-stored : goal.append-requires-clause-stored
 append-requires-clause-stored g c =
-    let looks = c.edited_node.ensures.looks in
+    let looks = c.edited_node.ensures.calls.looks in
     let now = c.edited_node.new.nodes in
     let is = c.requires.before.stored in
-    subst (λ (r : ℕ). IsStored r (g.N.Nodes.node now) (g.N.Nodes.kept now) c.args.head (c.args.index * r)) (same_capacity c.args.change.capacity (g.N.Nodes.limit c.args.nodes.now) (g.N.Nodes.limit now) c.requires.holds.capacity_is looks.same_limit)
+    subst (λ (r : ℕ). IsStored r (g.N.Nodes.node now) (g.N.Nodes.kept now) c.args.head (c.args.index * r)) (same_capacity c.args.change.capacity (g.N.Nodes.limit c.args.nodes.now) (g.N.Nodes.limit now) c.requires.changes.old.holds.capacity_is looks.same_limit)
     (stored_later c.args.change.capacity c.args.head (c.args.index * c.args.change.capacity) (g.N.Nodes.node c.args.nodes.now) (g.N.Nodes.node now) (g.N.Nodes.kept c.args.nodes.now) (g.N.Nodes.kept now) looks.same_nodes looks.same_kept is)
 
 pub append-requires-clause-slots : goal.append-requires-clause-slots
 append-requires-clause-slots g c =
     let change = c.args.change in
     let last : ℕ = (change.size - 1) / change.capacity in
-    let below : c.args.index ≤ last = le-div c.args.index (change.size - 1) change.capacity c.requires.holds.least (omega (arith, c.requires.within)) in
+    let below : c.args.index ≤ last = le-div c.args.index (change.size - 1) change.capacity c.requires.changes.old.holds.least (omega (arith, c.requires.within)) in
     table_slots (g.N.Nodes.node c.edited_node.new.nodes) c.args.head c.args.index last c.args.table.now.blocks below
-    (subst (λ (h : Blocks). IsTable h c.args.head c.args.index last c.args.table.now.blocks) (sym c.edited_node.ensures.looks.same_nodes) c.requires.before.table)
+    (subst (λ (h : Blocks). IsTable h c.args.head c.args.index last c.args.table.now.blocks) (sym c.edited_node.ensures.calls.looks.same_nodes) c.requires.before.table)
 
 pub append-requires-clause-spelled : goal.append-requires-clause-spelled
 append-requires-clause-spelled g c =
@@ -47,7 +46,7 @@ append-requires-clause-fits g c =
     let change = c.args.change in
     let spelled = c.in_ok-node.ensures.spelled in
     let part = part_fits (bytes_after (g.N.Nodes.node c.args.nodes.now) change c.args.bytes.now) (c.args.index * change.capacity) change.capacity (change.size - c.args.index * change.capacity) in
-    omega (arith, spelled.size, part, c.requires.holds.capacity_is, c.requires.holds.least, c.edited_node.ensures.looks.same_limit)
+    omega (arith, spelled.size, part, c.requires.changes.old.holds.capacity_is, c.requires.changes.old.holds.least, c.edited_node.ensures.calls.looks.same_limit)
 
 pub returns-clause-grown : goal.returns-clause-grown
 returns-clause-grown g c =
@@ -55,46 +54,38 @@ returns-clause-grown g c =
     let change = c.args.change in
     let mid = c.edited_node.new.nodes in
     let new = c.append.new.nodes in
-    let looks = c.edited_node.ensures.looks in
+    let looks = c.edited_node.ensures.calls.looks in
     let bytes : List ℕ = drop body_header c.in_ok-node.node.items in
     let wanted : List ℕ = part_after f change c.args.bytes.now c.args.index in
     IfOk-weaker c.append.result
     (λ next. IsGrown (g.N.Nodes.limit mid - body_header) (g.N.Nodes.node mid) (g.N.Nodes.node new) (g.N.Nodes.kept mid) (g.N.Nodes.kept new) c.args.head c.args.index next bytes)
     (λ next. IsGrown change.capacity f (g.N.Nodes.node new) (g.N.Nodes.kept c.args.nodes.now) (g.N.Nodes.kept new) c.args.head c.args.index next wanted)
     (λ next grown. grown_from change.capacity f (g.N.Nodes.node mid) (g.N.Nodes.node new) (g.N.Nodes.kept c.args.nodes.now) (g.N.Nodes.kept mid) (g.N.Nodes.kept new) c.args.head c.args.index next bytes wanted looks.same_nodes looks.same_kept c.in_ok-node.ensures.spelled.data_is
-    (subst (λ (r : ℕ). IsGrown r (g.N.Nodes.node mid) (g.N.Nodes.node new) (g.N.Nodes.kept mid) (g.N.Nodes.kept new) c.args.head c.args.index next bytes) (sym (same_capacity change.capacity (g.N.Nodes.limit c.args.nodes.now) (g.N.Nodes.limit mid) c.requires.holds.capacity_is looks.same_limit)) grown))
+    (subst (λ (r : ℕ). IsGrown r (g.N.Nodes.node mid) (g.N.Nodes.node new) (g.N.Nodes.kept mid) (g.N.Nodes.kept new) c.args.head c.args.index next bytes) (sym (same_capacity change.capacity (g.N.Nodes.limit c.args.nodes.now) (g.N.Nodes.limit mid) c.requires.changes.old.holds.capacity_is looks.same_limit)) grown))
     c.append.ensures.grown
 
 pub returns-clause-table : goal.returns-clause-table
 returns-clause-table g c =
     let change = c.args.change in
     let last : ℕ = (change.size - 1) / change.capacity in
-    let was = subst (λ (h : Blocks). IsTable h c.args.head c.args.index last c.args.table.now.blocks) (sym c.edited_node.ensures.looks.same_nodes) c.requires.before.table in
+    let was = subst (λ (h : Blocks). IsTable h c.args.head c.args.index last c.args.table.now.blocks) (sym c.edited_node.ensures.calls.looks.same_nodes) c.requires.before.table in
     IfOk-weaker c.append.result _ (λ next. IsTable (g.N.Nodes.node c.append.new.nodes) next (c.args.index + 1) last c.append.new.table.blocks) (λ next table. table last was) c.append.ensures.table
 
 pub returns-clause-reads : goal.returns-clause-reads
-returns-clause-reads g c =
-    let change = c.args.change in
-    subst (ReadsKept change (change.offset + length c.args.bytes.now) c.args.index (part_length change c.args.index) (length c.args.old.now) (g.N.Nodes.reads c.args.nodes.now)) (sym c.append.ensures.reads) c.edited_node.ensures.reads
+returns-clause-reads g c = record {
+  unread = λ none. omega (arith, c.edited_node.ensures.reads.unread none, c.append.ensures.calls.reads);
+  one = λ listed. omega (arith, c.edited_node.ensures.reads.one listed, c.append.ensures.calls.reads);
+}
 
-pub returns-clause-writes : goal.returns-clause-writes
-returns-clause-writes g c =
-    subst (λ (n : ℕ). WritesNodes c.append.result n (g.N.Nodes.writes c.append.new.nodes) 1) c.edited_node.ensures.looks.same_writes c.append.ensures.writes
+pub returns-clause-calls : goal.returns-clause-calls
+returns-clause-calls g c =
+    let old = c.args.nodes.now in
+    let mid = c.edited_node.new.nodes in
+    let first = c.edited_node.ensures.calls in
+    let then = c.append.ensures.calls in
+    writes_after g.met.N.Nodes.works_on g.met.N.Nodes.causes_on old mid c.append.new.nodes (g.met.N.Nodes.looks_works old mid first.looks) (writes_within 0 then) (λ digits has. omega (arith, first.reads digits has, then.reads)) (omega (arith, first.looks.same_writes, then.writes))
 
-pub returns-clause-refused : goal.returns-clause-refused
-returns-clause-refused g c =
-    IfErr-weaker c.append.result _ (λ (fault : Fault). IsWritingFault fault × g.N.Nodes.causes c.args.nodes.now c.append.new.nodes fault)
-    (λ fault refused. (refused.0, g.met.N.Nodes.causes_on c.args.nodes.now c.edited_node.new.nodes c.append.new.nodes fault c.edited_node.ensures.looks.came refused.1)) c.append.ensures.refused
-
-pub returns-clause-works : goal.returns-clause-works
-returns-clause-works g c =
-    g.met.N.Nodes.works_on c.args.nodes.now c.edited_node.new.nodes c.append.new.nodes (g.met.N.Nodes.looks_works c.args.nodes.now c.edited_node.new.nodes c.edited_node.ensures.looks) c.append.ensures.works
-
-pub returns-in_err-node-clause-refused : goal.returns-in_err-node-clause-refused
-returns-in_err-node-clause-refused g c =
+pub returns-in_err-node-clause-calls : goal.returns-in_err-node-clause-calls
+returns-in_err-node-clause-calls g c =
     let p = err_from_is_err_and c.from_residual.result c.from_residual.ensures.1 in
-    let refused = c.in_err-node.ensures.refused in
-    rw (p.1, p.2) (read_refused c.in_err-node.field-0.0 refused.0, refused.1)
-
-pub returns-in_err-node-clause-works : goal.returns-in_err-node-clause-works
-returns-in_err-node-clause-works g c = g.met.N.Nodes.looks_works c.args.nodes.now c.edited_node.new.nodes c.edited_node.ensures.looks
+    rw (p.1, p.2) (along_looking g.met.N.Nodes.looks_works c.args.nodes.now c.edited_node.new.nodes (along_refused c.in_err-node.ensures.calls))

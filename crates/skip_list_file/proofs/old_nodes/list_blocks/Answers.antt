@@ -2,6 +2,9 @@ use Rattle.std.proofs.Common.{◌≡◌, ℕ, ◌+◌, ◌-◌, Option, List, []
 use Rattle.std.proofs.lemmas.Result.{err_from_is_err_and}
 use Rattle.block_trees.specs.Bodies.{Blocks, pointer_of, back}
 use Rattle.skip_list_file.specs.Reading.{AreBlocks}
+use Rattle.node_store.specs.WordLaws.{looks_refused}
+use Rattle.skip_list_file.proofs.NodeCalls.{within_after}
+use Rattle.skip_list_file.proofs.Parts.{count_some}
 use Rattle.skip_list_file.proofs.Places.{HasPointer}
 use Rattle.skip_list_file.proofs.Kept.{more_listed, listed_pointer, listed_next}
 use Rattle.skip_list_file.proofs.old_nodes.list_blocks.Goals as goal
@@ -34,23 +37,23 @@ loop-step-preserved g c =
       size = ap length items ∙ length-append c.loop-step.blocks.items (block ∷ []) ∙ ap (λ (n : ℕ). n + 1) now.size;
       long = c.push_reserved-in-loop-step.ensures.len ∙ ap (λ (n : ℕ). n + 1) now.long;
       held = c.push_reserved-in-loop-step.ensures.capacity ∙ now.held;
-      reads = omega (arith, now.reads, done.reads);
-      asks = omega (arith, now.asks, done.asks, done.reads);
-      looks = g.met.N.Nodes.looks_on c.args.nodes.now c.loop-step.nodes c.pointer_at.new.nodes now.looks done.looks;
+      reads = omega (arith, now.reads, done.calls.reads);
+      asks = omega (arith, now.asks, done.asks);
+      looks = g.met.N.Nodes.looks_on c.args.nodes.now c.loop-step.nodes c.pointer_at.new.nodes now.looks done.calls.looks;
     }
 
 pub pointer_at-requires-clause-sound : goal.pointer_at-requires-clause-sound
 pointer_at-requires-clause-sound g c = c.loop-step.invariant.looks.sound
 
-pub returns-in_err-block-clause-looks : goal.returns-in_err-block-clause-looks
-returns-in_err-block-clause-looks g c = g.met.N.Nodes.looks_on c.args.nodes.now c.loop-step.nodes c.pointer_at.new.nodes c.loop-step.invariant.looks c.pointer_at.ensures.looks
-
-pub returns-in_err-block-clause-refused : goal.returns-in_err-block-clause-refused
-returns-in_err-block-clause-refused g c =
+pub returns-in_err-block-clause-calls : goal.returns-in_err-block-clause-calls
+returns-in_err-block-clause-calls g c =
+    let now = c.loop-step.invariant in
+    let calls = c.in_err-block.ensures.calls in
+    let count = count_some c.args.capacity c.args.from c.args.body.length (omega arith) in
     let p = err_from_is_err_and c.from_residual-in_err-block.result c.from_residual-in_err-block.ensures.1 in
-    let refused = c.in_err-block.ensures.refused in
-    let why = g.met.N.Nodes.causes_on c.args.nodes.now c.loop-step.nodes c.pointer_at.new.nodes c.in_err-block.field-0.0 c.loop-step.invariant.looks.came refused.1 in
-    rw (p.1, p.2) (refused.0, why)
+    rw (p.1, p.2) (within_after g.met.N.Nodes.looks_on g.met.N.Nodes.causes_on c.args.nodes.now c.loop-step.nodes c.pointer_at.new.nodes now.looks (looks_refused calls) (omega (arith, now.reads, calls.reads, count)))
 
-pub returns-clause-looks : goal.returns-clause-looks
-returns-clause-looks g c = c.loop-step.invariant.looks
+pub returns-clause-calls : goal.returns-clause-calls
+returns-clause-calls g c =
+    let count = count_some c.args.capacity c.args.from c.args.body.length (omega arith) in
+    record { looks = c.loop-step.invariant.looks; reads = omega (arith, c.loop-step.invariant.reads, count); why = tt; faults = tt }

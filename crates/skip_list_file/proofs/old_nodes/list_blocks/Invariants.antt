@@ -1,4 +1,4 @@
-use Rattle.std.proofs.Common.{◌≡◌, ◌+◌, ◌-◌, length}
+use Rattle.std.proofs.Common.{◌≡◌, ◌≤◌, ◌+◌, ◌-◌, length}
 use Rattle.std.specs.Prelude.{vec_len, vec_capacity}
 use Rattle.node_store.specs.Words.{Looks}
 use Rattle.block_trees.specs.Bodies.{back}
@@ -13,7 +13,7 @@ invariant-loop-step g l = record {
   size : length l.blocks.items ≡ l._step;
   long : vec_len l.blocks ≡ l._step;
   held : vec_capacity l.blocks ≡ l.count;
-  reads : g.N.Nodes.reads l.nodes + 1 ≡ g.N.Nodes.reads l.initial.nodes + l._step;
+  reads : g.N.Nodes.reads l.nodes + 1 ≤ g.N.Nodes.reads l.initial.nodes + l._step;
   asks : AsksPageEach g.N.Nodes.asked g.N.Nodes.reads l.initial.nodes l.nodes;
   looks : Looks g.N.Nodes l.initial.nodes l.nodes;
 }

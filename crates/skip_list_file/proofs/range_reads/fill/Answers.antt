@@ -3,6 +3,8 @@ use Rattle.std.proofs.lemmas.Bool.{true≢false, lt-ltb, le-ltb}
 use Rattle.std.proofs.lemmas.Result.{err_from_is_err_and}
 use Rattle.node_format.specs.Headers.{body_header}
 use Rattle.node_store.specs.Parts.{pages_of_range}
+use Rattle.node_store.specs.WordLaws.{looks_refused}
+use Rattle.skip_list_file.proofs.NodeCalls.{within_after}
 use Rattle.skip_list_file.proofs.PartReads.{within_one}
 use Rattle.skip_list_file.proofs.range_reads.fill.Goals.{then-whole, else-whole}
 use borrow.Rule.Slice.PartMut.{put_mid}
@@ -33,12 +35,6 @@ copy_piece-requires-clause-within g c =
     let part = part_length c.args.start c.loop-end.end c.max-from.result c.loop-end.out le le' now.left.size in
     omega (arith, whole, same, part, is, le')
 
-pub returns-in_err-block-clause-reads : goal.returns-in_err-block-clause-reads
-returns-in_err-block-clause-reads g c =
-    let now = c.loop-end.invariant in
-    let fewer = one_fewer c.args.capacity c.args.start c.loop-end.end c.max-from.result c.requires.capacity c.loop-end-test.true c.max-from.ensures in
-    omega (arith, fewer, now.reads, c.in_err-block.ensures.reads)
-
 -- the pages of a block are as many as at first
 pub returns-in_err-block-clause-asks : goal.returns-in_err-block-clause-asks
 returns-in_err-block-clause-asks g c =
@@ -49,13 +45,6 @@ returns-in_err-block-clause-asks g c =
     let step = pages_fewer (pages_for (g.N.Nodes.page old) (g.N.Nodes.limit old)) (nodes_between c.args.capacity c.args.start c.max-from.result) (nodes_between c.args.capacity c.args.start c.loop-end.end) (g.N.Nodes.asked c.loop-end.nodes) (g.N.Nodes.asked c.copy_piece.new.nodes)
     (g.N.Nodes.asked old + nodes_between c.args.capacity c.args.start c.args.end * pages_for (g.N.Nodes.page old) (g.N.Nodes.limit old)) fewer (subst (λ (n : ℕ). g.N.Nodes.asked c.copy_piece.new.nodes ≤ g.N.Nodes.asked c.loop-end.nodes + n) same_pages c.copy_piece.ensures.asks) now.asks in
     omega (arith, step)
-
-pub returns-in_err-block-clause-refused : goal.returns-in_err-block-clause-refused
-returns-in_err-block-clause-refused g c =
-    let p = err_from_is_err_and c.from_residual.result c.from_residual.ensures.1 in
-    let refused = c.in_err-block.ensures.refused in
-    let why = g.met.N.Nodes.causes_on c.args.nodes.now c.loop-end.nodes c.copy_piece.new.nodes c.in_err-block.field-0.0 c.loop-end.invariant.looks.came refused.1 in
-    rw (p.1, p.2) (refused.0, why)
 
 pub loop-end-preserved : goal.loop-end-preserved
 loop-end-preserved g c =
@@ -90,7 +79,7 @@ loop-end-preserved g c =
       left = step_left c.args.capacity f c.args.start end index c.loop-end.block from c.in_ok-block.block out new _ ((from - 1) / c.args.capacity) c.requires.capacity lt now.left step same refl;
       below = omega (arith, le', now.below);
       size = same ∙ now.size;
-      reads = omega (arith, fewer, now.reads, done.reads);
+      reads = omega (arith, fewer, now.reads, done.calls.reads);
       asks = pages_fewer (pages_for (g.N.Nodes.page old) (g.N.Nodes.limit old)) (nodes_between c.args.capacity c.args.start from) (nodes_between c.args.capacity c.args.start end) (g.N.Nodes.asked c.loop-end.nodes) (g.N.Nodes.asked c.copy_piece.new.nodes)
           (g.N.Nodes.asked old + nodes_between c.args.capacity c.args.start c.args.end * pages_for (g.N.Nodes.page old) (g.N.Nodes.limit old)) fewer (subst (λ (n : ℕ). g.N.Nodes.asked c.copy_piece.new.nodes ≤ g.N.Nodes.asked c.loop-end.nodes + n) same_pages done.asks) now.asks;
       still = λ more one.
@@ -112,11 +101,19 @@ loop-end-preserved g c =
           ≡ pages_of_range (g.N.Nodes.page old) (body_header + c.args.start % c.args.capacity) (c.args.end - c.args.start) =
           λ j. pages_of_range (page j) (body_header + here.place_is j) (size j) in
           omega (arith, step, at.2, pages);
-      looks = g.met.N.Nodes.looks_on old c.loop-end.nodes c.copy_piece.new.nodes now.looks done.looks;
+      looks = g.met.N.Nodes.looks_on old c.loop-end.nodes c.copy_piece.new.nodes now.looks done.calls.looks;
     }
 
 pub copy_piece-requires-clause-sound : goal.copy_piece-requires-clause-sound
 copy_piece-requires-clause-sound g c = c.loop-end.invariant.looks.sound
 
-pub returns-in_err-block-clause-looks : goal.returns-in_err-block-clause-looks
-returns-in_err-block-clause-looks g c = g.met.N.Nodes.looks_on c.args.nodes.now c.loop-end.nodes c.copy_piece.new.nodes c.loop-end.invariant.looks c.copy_piece.ensures.looks
+pub returns-in_err-block-clause-calls : goal.returns-in_err-block-clause-calls
+returns-in_err-block-clause-calls g c =
+    let now = c.loop-end.invariant in
+    let calls = c.in_err-block.ensures.calls in
+    let fewer = one_fewer c.args.capacity c.args.start c.loop-end.end c.max-from.result c.requires.capacity c.loop-end-test.true c.max-from.ensures in
+    let p = err_from_is_err_and c.from_residual.result c.from_residual.ensures.1 in
+    rw (p.1, p.2) (within_after g.met.N.Nodes.looks_on g.met.N.Nodes.causes_on c.args.nodes.now c.loop-end.nodes c.copy_piece.new.nodes now.looks (looks_refused calls) (omega (arith, fewer, now.reads, calls.reads)))
+
+pub returns-clause-calls : goal.returns-clause-calls
+returns-clause-calls g c = record { looks = c.loop-end.invariant.looks; reads = omega (arith, c.loop-end.invariant.reads); why = tt; faults = tt }

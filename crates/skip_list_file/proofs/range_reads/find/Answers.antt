@@ -2,6 +2,8 @@ use Rattle.std.proofs.Common.{◌≡◌, ℕ, ◌-◌, refl, sym, ap, subst, ◌
 use Rattle.node_format.specs.Headers.{body_header}
 use Rattle.block_trees.specs.Bodies.{Blocks, index_of, pointer_of, back}
 use Rattle.block_trees.proofs.Bodies.{chain_node}
+use Rattle.std.proofs.lemmas.Result.{err_from_is_err_and}
+use Rattle.skip_list_file.proofs.NodeCalls.{along_after, along_within}
 use Rattle.skip_list_file.proofs.Hops.{few_hops}
 use Rattle.skip_list_file.proofs.Chains.{IsOnWay, FewReads, way_on, few_on}
 use Rattle.skip_list_file.proofs.range_reads.find.Goals as goal
@@ -38,11 +40,23 @@ loop-at-preserved g c =
     let old = c.args.nodes.now in
     let next : c.in_ok-block.block ≡ pointer_of (g.N.Nodes.node old c.loop-at.block) x = done.found ∙ ap (λ (f : Blocks). pointer_of (f c.loop-at.block) x) so_far.looks.same_nodes in
     let way = way_on (g.N.Nodes.limit old - body_header) (g.N.Nodes.node old) c.args.head c.args.head_index c.args.index c.loop-at.at c.loop-at.block x c.in_ok-block.block so_far.way c.farthest_slot-slot.ensures.0 next in
-    let few = few_on c.args.head_index c.args.index c.loop-at.at (g.N.Nodes.reads old) (g.N.Nodes.reads c.loop-at.nodes) (g.N.Nodes.reads c.pointer_at.new.nodes) x c.loop-at-test.true c.farthest_slot-slot.ensures done.reads so_far.few in
+    let few = few_on c.args.head_index c.args.index c.loop-at.at (g.N.Nodes.reads old) (g.N.Nodes.reads c.loop-at.nodes) (g.N.Nodes.reads c.pointer_at.new.nodes) x c.loop-at-test.true c.farthest_slot-slot.ensures done.calls.reads so_far.few in
     record {
       way = subst (λ (p : ℕ). IsOnWay (g.N.Nodes.limit old - body_header) (g.N.Nodes.node old) c.args.head c.args.head_index c.args.index (c.loop-at.at - p) c.in_ok-block.block) (sym c.pow-at.ensures) way;
       few = subst (λ (p : ℕ). FewReads c.args.head_index c.args.index (c.loop-at.at - p) (g.N.Nodes.reads old) (g.N.Nodes.reads c.pointer_at.new.nodes)) (sym c.pow-at.ensures) few;
-      asks = omega (arith, so_far.asks, done.asks, done.reads);
+      asks = omega (arith, so_far.asks, done.asks);
       partly = done.partly ∙ so_far.partly;
-      looks = g.met.N.Nodes.looks_on old c.loop-at.nodes c.pointer_at.new.nodes so_far.looks done.looks;
+      looks = g.met.N.Nodes.looks_on old c.loop-at.nodes c.pointer_at.new.nodes so_far.looks done.calls.looks;
     }
+
+pub returns-in_err-block-clause-calls : goal.returns-in_err-block-clause-calls
+returns-in_err-block-clause-calls g c =
+    let old = c.args.nodes.now in
+    let so_far = c.loop-at.invariant in
+    let calls = c.in_err-block.ensures.calls in
+    let few = few_on c.args.head_index c.args.index c.loop-at.at (g.N.Nodes.reads old) (g.N.Nodes.reads c.loop-at.nodes) (g.N.Nodes.reads c.pointer_at.new.nodes) c.farthest_slot-slot.result c.loop-at-test.true c.farthest_slot-slot.ensures calls.reads so_far.few in
+    let p = err_from_is_err_and c.from_residual.result c.from_residual.ensures.1 in
+    rw (p.1, p.2) (along_after g.met.N.Nodes.looks_on g.met.N.Nodes.causes_on old c.loop-at.nodes c.pointer_at.new.nodes so_far.looks (along_within 0 calls) (λ digits small. omega (arith, (few digits small).2)))
+
+pub returns-clause-calls : goal.returns-clause-calls
+returns-clause-calls g c = record { looks = c.loop-at.invariant.looks; reads = λ digits small. omega (arith, (c.loop-at.invariant.few digits small).2); why = tt; faults = tt }

@@ -6,84 +6,79 @@ use Rattle.node_format.specs.Headers.{body_header}
 use Rattle.node_store.specs.NodePages.{pages_for}
 use Rattle.block_trees.specs.Bodies.{Blocks, data_to, IsChain}
 use Rattle.skip_list_file.specs.Reading.{HasDigits, nodes_between, nodes_of_range}
+use Rattle.node_store.specs.WordLaws.{looks_answered, looks_refused}
+use Rattle.skip_list_file.proofs.NodeCalls.{along_after, along_refused, along_wider, along_within}
 use Rattle.skip_list_file.proofs.Parts.{range_found, body_read, some_nodes}
 use Rattle.skip_list_file.proofs.range_reads.read_range.Goals as goal
+use Rattle.skip_list_file.proofs.range_reads.read_range.Goals.{After-find, After-fill}
+use Rattle.skip_list_file.proofs.range_reads.read_range.Given.{Over}
+
+module _ (g : Over) (c : After-find g) where
+  -- the reads of the way to the node of the last byte
+  way : (digits : ℕ) → HasDigits ((c.args.body.length - 1) / (g.N.Nodes.limit c.args.nodes.now - body_header)) digits → g.N.Nodes.reads c.find.new.nodes ≤ g.N.Nodes.reads c.args.nodes.now + 2 * digits
+  way digits has = c.find.ensures.calls.reads digits (subst (λ (r : ℕ). HasDigits ((c.args.body.length - 1) / r) digits) (sym c.capacity_in-capacity.ensures.capacity) has)
+
+  -- there is a byte to read
+  some : nodes_of_range (g.N.Nodes.limit c.args.nodes.now - body_header) c.args.body.length c.args.offset c.args.count ≡ 0 → ⊥
+  some none = (
+    let capacity = c.capacity_in-capacity.ensures in
+    let least = some_nodes (g.N.Nodes.limit c.args.nodes.now - body_header) c.args.body.length c.args.offset c.args.count (omega (arith, capacity.capacity, capacity.some)) (omega (arith, c.min-end.ensures, c.saturating_add.ensures, c.from.ensures)) in
+    omega (arith, least, none)
+  )
+
+module _ (g : Over) (c : After-fill g) where
+  nodes : nodes_between c.capacity_in-capacity.result c.args.offset c.min-end.result ≡ nodes_of_range (g.N.Nodes.limit c.args.nodes.now - body_header) c.args.body.length c.args.offset c.args.count
+  nodes =
+      let end_is : c.min-end.result ≡ min c.args.body.length (c.args.offset + c.args.count) = omega (arith, c.min-end.ensures, c.saturating_add.ensures, c.from.ensures) in
+      ap (λ (r : ℕ). nodes_between r c.args.offset c.min-end.result) c.capacity_in-capacity.ensures.capacity ∙ ap (nodes_between (g.N.Nodes.limit c.args.nodes.now - body_header) c.args.offset) end_is
+
+  -- the pages of the way, and those of the nodes
+  pages_both : (hops : ℕ) → g.N.Nodes.reads c.find.new.nodes ≤ g.N.Nodes.reads c.args.nodes.now + hops
+      → g.N.Nodes.asked c.fill.new.nodes ≤ g.N.Nodes.asked c.args.nodes.now + (nodes_of_range (g.N.Nodes.limit c.args.nodes.now - body_header) c.args.body.length c.args.offset c.args.count * pages_for (g.N.Nodes.page c.args.nodes.now) (g.N.Nodes.limit c.args.nodes.now) + hops)
+  pages_both hops few =
+      let old = c.args.nodes.now in
+      let mid = c.find.new.nodes in
+      let by_way : g.N.Nodes.asked mid ≤ g.N.Nodes.asked old + hops = omega (arith, c.find.ensures.asks, few) in
+      let same_pages = ap (λ (n : ℕ). pages_for n (g.N.Nodes.limit mid)) (g.met.N.Nodes.same_page old mid c.find.ensures.calls.looks.came) ∙ ap (pages_for (g.N.Nodes.page old)) c.find.ensures.calls.looks.same_limit in
+      let by_nodes = subst (λ (n : ℕ). g.N.Nodes.asked c.fill.new.nodes ≤ g.N.Nodes.asked mid + n * pages_for (g.N.Nodes.page old) (g.N.Nodes.limit old)) nodes
+      (subst (λ (n : ℕ). g.N.Nodes.asked c.fill.new.nodes ≤ g.N.Nodes.asked mid + nodes_between c.capacity_in-capacity.result c.args.offset c.min-end.result * n) same_pages c.fill.ensures.asks) in
+      omega (arith, by_way, by_nodes)
 
 pub returns-in_err-block-clause-unread : goal.returns-in_err-block-clause-unread
-returns-in_err-block-clause-unread g c = λ none.
-    let capacity = c.capacity_in-capacity.ensures in
-    let some = some_nodes (g.N.Nodes.limit c.args.nodes.now - body_header) c.args.body.length c.args.offset c.args.count (omega (arith, capacity.capacity, capacity.some)) (omega (arith, c.min-end.ensures, c.saturating_add.ensures, c.from.ensures)) in
-    absurd (omega (arith, some, none))
-
-pub fill-requires-clause-chain : goal.fill-requires-clause-chain
-fill-requires-clause-chain g c =
-    let f = g.N.Nodes.node c.args.nodes.now in
-    let capacity = c.capacity_in-capacity.ensures in
-    let range = range_found (g.N.Nodes.limit c.args.nodes.now - body_header) c.capacity_in-capacity.result f c.args.body.head c.args.body.length c.args.offset c.min-end.result c.in_ok-block.block capacity.capacity capacity.some
-    (omega arith) (omega (arith, c.min-end.ensures, c.from.ensures)) c.requires.body c.in_ok-block.ensures.found in
-    subst (λ (blocks : Blocks). IsChain c.capacity_in-capacity.result blocks ((c.min-end.result - 1) / c.capacity_in-capacity.result) c.in_ok-block.block) (sym c.in_ok-block.ensures.looks.same_nodes) range.chain
-
-pub fill-requires-clause-within : goal.fill-requires-clause-within
-fill-requires-clause-within g c =
-    let f = g.N.Nodes.node c.args.nodes.now in
-    let capacity = c.capacity_in-capacity.ensures in
-    let range = range_found (g.N.Nodes.limit c.args.nodes.now - body_header) c.capacity_in-capacity.result f c.args.body.head c.args.body.length c.args.offset c.min-end.result c.in_ok-block.block capacity.capacity capacity.some
-    (omega arith) (omega (arith, c.min-end.ensures, c.from.ensures)) c.requires.body c.in_ok-block.ensures.found in
-    let same = ap (λ (blocks : Blocks). length (data_to blocks ((c.min-end.result - 1) / c.capacity_in-capacity.result) c.in_ok-block.block)) c.in_ok-block.ensures.looks.same_nodes in
-    omega (arith, range.within, same)
+returns-in_err-block-clause-unread g c = λ none. absurd (some g (goal.at.returns-in_err-block-clause-unread g c).After-find none)
 
 pub returns-in_err-fill-clause-unread : goal.returns-in_err-fill-clause-unread
-returns-in_err-fill-clause-unread g c = λ none.
-    let capacity = c.capacity_in-capacity.ensures in
-    let some = some_nodes (g.N.Nodes.limit c.args.nodes.now - body_header) c.args.body.length c.args.offset c.args.count (omega (arith, capacity.capacity, capacity.some)) (omega (arith, c.min-end.ensures, c.saturating_add.ensures, c.from.ensures)) in
-    absurd (omega (arith, some, none))
+returns-in_err-fill-clause-unread g c = λ none. absurd (some g (goal.at.returns-in_err-fill-clause-unread g c).After-find none)
 
--- the pages of the way, and those of the nodes
-pages_both : (pages count before way now hops : ℕ) → way ≤ before + hops → now ≤ way + count * pages → now ≤ before + (count * pages + hops)
-pages_both pages count before way now hops by_way by_nodes = omega arith
+pub returns-clause-unread : goal.returns-clause-unread
+returns-clause-unread g c = λ none. absurd (some g (goal.at.returns-clause-unread g c).After-find none)
+
+pub fill-requires-clause-range : goal.fill-requires-clause-range
+fill-requires-clause-range g c =
+    let f = g.N.Nodes.node c.args.nodes.now in
+    let capacity = c.capacity_in-capacity.ensures in
+    let range = range_found (g.N.Nodes.limit c.args.nodes.now - body_header) c.capacity_in-capacity.result f c.args.body.head c.args.body.length c.args.offset c.min-end.result c.in_ok-block.block capacity.capacity capacity.some
+    (omega arith) (omega (arith, c.min-end.ensures, c.from.ensures)) c.requires.body c.in_ok-block.ensures.found in
+    let same_nodes = c.find.ensures.calls.looks.same_nodes in
+    let same = ap (λ (blocks : Blocks). length (data_to blocks ((c.min-end.result - 1) / c.capacity_in-capacity.result) c.in_ok-block.block)) same_nodes in
+    record {
+      order = omega arith;
+      chain = subst (λ (blocks : Blocks). IsChain c.capacity_in-capacity.result blocks ((c.min-end.result - 1) / c.capacity_in-capacity.result) c.in_ok-block.block) (sym same_nodes) range.chain;
+      within = omega (arith, range.within, same);
+    }
 
 pub returns-in_err-block-clause-asks : goal.returns-in_err-block-clause-asks
-returns-in_err-block-clause-asks g c digits has =
-    let few = c.find.ensures.reads digits (subst (λ (r : ℕ). HasDigits ((c.args.body.length - 1) / r) digits) (sym c.capacity_in-capacity.ensures.capacity) has) in
-    omega (arith, c.find.ensures.asks, few)
+returns-in_err-block-clause-asks g c digits has = omega (arith, c.find.ensures.asks, way g (goal.at.returns-in_err-block-clause-asks g c).After-find digits has)
 
 pub returns-in_err-fill-clause-asks : goal.returns-in_err-fill-clause-asks
 returns-in_err-fill-clause-asks g c digits has =
-    let old = c.args.nodes.now in
-    let mid = c.find.new.nodes in
-    let limit = g.N.Nodes.limit old - body_header in
-    let pages = pages_for (g.N.Nodes.page old) (g.N.Nodes.limit old) in
-    let capacity = c.capacity_in-capacity.ensures in
-    let end_is : c.min-end.result ≡ min c.args.body.length (c.args.offset + c.args.count) = omega (arith, c.min-end.ensures, c.saturating_add.ensures, c.from.ensures) in
-    let few = c.find.ensures.reads digits (subst (λ (r : ℕ). HasDigits ((c.args.body.length - 1) / r) digits) (sym capacity.capacity) has) in
-    let by_way : g.N.Nodes.asked mid ≤ g.N.Nodes.asked old + 2 * digits = omega (arith, c.find.ensures.asks, few) in
-    let same_pages = ap (λ (n : ℕ). pages_for n (g.N.Nodes.limit mid)) (g.met.N.Nodes.same_page old mid c.find.ensures.looks.came) ∙ ap (pages_for (g.N.Nodes.page old)) c.find.ensures.looks.same_limit in
-    let nodes = ap (λ (r : ℕ). nodes_between r c.args.offset c.min-end.result) capacity.capacity ∙ ap (nodes_between limit c.args.offset) end_is in
-    let by_nodes = subst (λ (n : ℕ). g.N.Nodes.asked c.fill.new.nodes ≤ g.N.Nodes.asked mid + n * pages) nodes
-    (subst (λ (n : ℕ). g.N.Nodes.asked c.fill.new.nodes ≤ g.N.Nodes.asked mid + nodes_between c.capacity_in-capacity.result c.args.offset c.min-end.result * n) same_pages c.fill.ensures.asks) in
-    pages_both pages (nodes_of_range limit c.args.body.length c.args.offset c.args.count) (g.N.Nodes.asked old) (g.N.Nodes.asked mid) (g.N.Nodes.asked c.fill.new.nodes) (2 * digits) by_way by_nodes
+    let t = goal.at.returns-in_err-fill-clause-asks g c in
+    pages_both g t.After-fill (2 * digits) (way g t.After-find digits has)
 
 pub returns-clause-asks : goal.returns-clause-asks
 returns-clause-asks g c digits has =
-    let old = c.args.nodes.now in
-    let mid = c.find.new.nodes in
-    let limit = g.N.Nodes.limit old - body_header in
-    let pages = pages_for (g.N.Nodes.page old) (g.N.Nodes.limit old) in
-    let capacity = c.capacity_in-capacity.ensures in
-    let end_is : c.min-end.result ≡ min c.args.body.length (c.args.offset + c.args.count) = omega (arith, c.min-end.ensures, c.saturating_add.ensures, c.from.ensures) in
-    let few = c.find.ensures.reads digits (subst (λ (r : ℕ). HasDigits ((c.args.body.length - 1) / r) digits) (sym capacity.capacity) has) in
-    let by_way : g.N.Nodes.asked mid ≤ g.N.Nodes.asked old + 2 * digits = omega (arith, c.find.ensures.asks, few) in
-    let same_pages = ap (λ (n : ℕ). pages_for n (g.N.Nodes.limit mid)) (g.met.N.Nodes.same_page old mid c.find.ensures.looks.came) ∙ ap (pages_for (g.N.Nodes.page old)) c.find.ensures.looks.same_limit in
-    let nodes = ap (λ (r : ℕ). nodes_between r c.args.offset c.min-end.result) capacity.capacity ∙ ap (nodes_between limit c.args.offset) end_is in
-    let by_nodes = subst (λ (n : ℕ). g.N.Nodes.asked c.fill.new.nodes ≤ g.N.Nodes.asked mid + n * pages) nodes
-    (subst (λ (n : ℕ). g.N.Nodes.asked c.fill.new.nodes ≤ g.N.Nodes.asked mid + nodes_between c.capacity_in-capacity.result c.args.offset c.min-end.result * n) same_pages c.fill.ensures.asks) in
-    pages_both pages (nodes_of_range limit c.args.body.length c.args.offset c.args.count) (g.N.Nodes.asked old) (g.N.Nodes.asked mid) (g.N.Nodes.asked c.fill.new.nodes) (2 * digits) by_way by_nodes
-
-pub returns-clause-unread : goal.returns-clause-unread
-returns-clause-unread g c = λ none.
-    let capacity = c.capacity_in-capacity.ensures in
-    let some = some_nodes (g.N.Nodes.limit c.args.nodes.now - body_header) c.args.body.length c.args.offset c.args.count (omega (arith, capacity.capacity, capacity.some)) (omega (arith, c.min-end.ensures, c.saturating_add.ensures, c.from.ensures)) in
-    absurd (omega (arith, some, none))
+    let t = goal.at.returns-clause-asks g c in
+    pages_both g t.After-fill (2 * digits) (way g t.After-find digits has)
 
 pub returns-clause-read : goal.returns-clause-read
 returns-clause-read g c =
@@ -99,35 +94,24 @@ returns-clause-read g c =
     c.from_vec.ensures
     ∙ take_at out (drop (length out) c.in_ok-bytes.bytes.items) c.in_ok-bytes.bytes.len long
     ∙ c.in_ok-fill.ensures.filled
-    ∙ ap (λ (blocks : Blocks). take (c.min-end.result - c.args.offset) (drop c.args.offset (data_to blocks index block))) c.in_ok-block.ensures.looks.same_nodes
+    ∙ ap (λ (blocks : Blocks). take (c.min-end.result - c.args.offset) (drop c.args.offset (data_to blocks index block))) c.in_ok-block.ensures.calls.looks.same_nodes
     ∙ body_read limit c.capacity_in-capacity.result f c.args.body.head c.args.body.length c.args.offset c.args.count c.min-end.result block capacity.capacity end_is (omega arith) c.requires.body range
 
-pub returns-in_err-fill-clause-why : goal.returns-in_err-fill-clause-why
-returns-in_err-fill-clause-why g c =
-    let p = err_from_is_err_and c.from_residual-in_err-fill.result c.from_residual-in_err-fill.ensures.1 in
-    let why = g.met.N.Nodes.causes_on c.args.nodes.now c.find.new.nodes c.fill.new.nodes c.in_err-fill.field-0.0 c.find.ensures.looks.came c.in_err-fill.ensures.refused.1 in
-    rw (p.1, p.2) why
-
-pub returns-in_err-fill-clause-looks : goal.returns-in_err-fill-clause-looks
-returns-in_err-fill-clause-looks g c = g.met.N.Nodes.looks_on c.args.nodes.now c.find.new.nodes c.fill.new.nodes c.find.ensures.looks c.fill.ensures.looks
-
-pub returns-clause-looks : goal.returns-clause-looks
-returns-clause-looks g c = g.met.N.Nodes.looks_on c.args.nodes.now c.find.new.nodes c.fill.new.nodes c.find.ensures.looks c.fill.ensures.looks
-
-pub returns-in_err-block-clause-looks : goal.returns-in_err-block-clause-looks
-returns-in_err-block-clause-looks g c = c.find.ensures.looks
-
-pub returns-in_err-block-clause-why : goal.returns-in_err-block-clause-why
-returns-in_err-block-clause-why g c =
+pub returns-in_err-block-clause-calls : goal.returns-in_err-block-clause-calls
+returns-in_err-block-clause-calls g c =
+    let t = goal.at.returns-in_err-block-clause-calls g c in
     let p = err_from_is_err_and c.from_residual-in_err-block.result c.from_residual-in_err-block.ensures.1 in
-    rw (p.1, p.2) c.in_err-block.ensures.refused.1
+    rw (p.1, p.2) (along_wider (along_refused c.in_err-block.ensures.calls) (λ digits has. omega (arith, way g t.After-find digits has)))
 
-pub returns-in_err-block-clause-faults : goal.returns-in_err-block-clause-faults
-returns-in_err-block-clause-faults g c =
-    let p = err_from_is_err_and c.from_residual-in_err-block.result c.from_residual-in_err-block.ensures.1 in
-    rw (p.1, p.2) c.in_err-block.ensures.refused.0
-
-pub returns-in_err-fill-clause-faults : goal.returns-in_err-fill-clause-faults
-returns-in_err-fill-clause-faults g c =
+pub returns-in_err-fill-clause-calls : goal.returns-in_err-fill-clause-calls
+returns-in_err-fill-clause-calls g c =
+    let t = goal.at.returns-in_err-fill-clause-calls g c in
     let p = err_from_is_err_and c.from_residual-in_err-fill.result c.from_residual-in_err-fill.ensures.1 in
-    rw (p.1, p.2) c.in_err-fill.ensures.refused.0
+    rw (p.1, p.2) (along_after g.met.N.Nodes.looks_on g.met.N.Nodes.causes_on c.args.nodes.now c.find.new.nodes c.fill.new.nodes c.find.ensures.calls.looks (along_within 0 (looks_refused c.in_err-fill.ensures.calls))
+    (λ digits has. omega (arith, way g t.After-find digits has, nodes g t.After-fill, c.fill.ensures.calls.reads)))
+
+pub returns-clause-calls : goal.returns-clause-calls
+returns-clause-calls g c =
+    let t = goal.at.returns-clause-calls g c in
+    along_after g.met.N.Nodes.looks_on g.met.N.Nodes.causes_on c.args.nodes.now c.find.new.nodes c.fill.new.nodes c.find.ensures.calls.looks (along_within 0 (looks_answered c.in_ok-fill.ensures.calls))
+    (λ digits has. omega (arith, way g t.After-find digits has, nodes g t.After-fill, c.fill.ensures.calls.reads))

@@ -1,6 +1,8 @@
 use Rattle.std.proofs.Common.{◌≡◌, ℕ, suc, ◌+◌, ◌-◌, ◌*◌, ◌/◌, ◌%◌, ◌^◌, sym, ap, subst, ◌∙◌, arith}
 use Rattle.std.proofs.lemmas.List.{length-set}
 use Rattle.block_trees.specs.Bodies.{Blocks, back, IsChain, IsLinked}
+use Rattle.node_store.specs.WordLaws.{looks_refused}
+use Rattle.skip_list_file.proofs.NodeCalls.{within_after}
 use Rattle.skip_list_file.proofs.Marks.{linked_before, mark_chain, mark_linked, mark_next, none_farther, set_named, few_more}
 use Rattle.std.proofs.lemmas.Result.{err_from_is_err_and}
 use Rattle.skip_list_file.proofs.table.start_table.Goals as goal
@@ -36,7 +38,7 @@ step_back-requires-clause-linked g c =
 pub returns-in_err-block-clause-reads : goal.returns-in_err-block-clause-reads
 returns-in_err-block-clause-reads g c digits small =
     few_more c.args.index digits c.loop-slot.slot (g.N.Nodes.reads c.args.nodes.now) (g.N.Nodes.reads c.loop-slot.nodes) (g.N.Nodes.reads c.step_back.new.nodes)
-    (omega arith) small (omega arith) c.loop-slot.invariant.reads (c.loop-slot.invariant.few digits small) c.step_back.ensures.reads c.step_back.ensures.unread
+    (omega arith) small (omega arith) c.loop-slot.invariant.reads (c.loop-slot.invariant.few digits small) c.step_back.ensures.calls.reads c.step_back.ensures.unread
 
 pub loop-slot-preserved : goal.loop-slot-preserved
 loop-slot-preserved g c =
@@ -55,25 +57,22 @@ loop-slot-preserved g c =
       size = length-set c.loop-slot.blocks slot c.in_ok-block.block ∙ now.size;
       here = at ∙ ap (λ (y : ℕ). back f c.args.head (n % 2 ^ y)) again;
       named = set_named f c.args.head n slot c.in_ok-block.block c.loop-slot.blocks (omega (arith, now.size)) at now.named;
-      reads = omega (arith, now.reads, c.step_back.ensures.reads);
+      reads = omega (arith, now.reads, c.step_back.ensures.calls.reads);
       few = λ digits small. few_more c.args.index digits slot (g.N.Nodes.reads c.args.nodes.now) (g.N.Nodes.reads c.loop-slot.nodes) (g.N.Nodes.reads c.step_back.new.nodes)
-          (omega arith) small (omega arith) now.reads (now.few digits small) c.step_back.ensures.reads c.step_back.ensures.unread;
+          (omega arith) small (omega arith) now.reads (now.few digits small) c.step_back.ensures.calls.reads c.step_back.ensures.unread;
       asks = omega (arith, now.asks, done.asks);
-      looks = g.met.N.Nodes.looks_on c.args.nodes.now c.loop-slot.nodes c.step_back.new.nodes now.looks done.looks;
+      looks = g.met.N.Nodes.looks_on c.args.nodes.now c.loop-slot.nodes c.step_back.new.nodes now.looks done.calls.looks;
     }
 
-pub returns-in_err-block-clause-looks : goal.returns-in_err-block-clause-looks
-returns-in_err-block-clause-looks g c = g.met.N.Nodes.looks_on c.args.nodes.now c.loop-slot.nodes c.step_back.new.nodes c.loop-slot.invariant.looks c.step_back.ensures.looks
-
-pub returns-in_err-block-clause-refused : goal.returns-in_err-block-clause-refused
-returns-in_err-block-clause-refused g c =
+pub returns-in_err-block-clause-calls : goal.returns-in_err-block-clause-calls
+returns-in_err-block-clause-calls g c =
+    let now = c.loop-slot.invariant in
+    let calls = c.in_err-block.ensures.calls in
     let p = err_from_is_err_and c.from_residual.result c.from_residual.ensures.1 in
-    let refused = c.in_err-block.ensures.refused in
-    let why = g.met.N.Nodes.causes_on c.args.nodes.now c.loop-slot.nodes c.step_back.new.nodes c.in_err-block.field-0.0 c.loop-slot.invariant.looks.came refused.1 in
-    rw (p.1, p.2) (refused.0, why)
+    rw (p.1, p.2) (within_after g.met.N.Nodes.looks_on g.met.N.Nodes.causes_on c.args.nodes.now c.loop-slot.nodes c.step_back.new.nodes now.looks (looks_refused calls) (omega (arith, now.reads, calls.reads)))
 
-pub returns-then-last-power-clause-looks : goal.returns-then-last-power-clause-looks
-returns-then-last-power-clause-looks g c = c.loop-slot.invariant.looks
+pub returns-then-last-power-clause-calls : goal.returns-then-last-power-clause-calls
+returns-then-last-power-clause-calls g c = record { looks = c.loop-slot.invariant.looks; reads = omega (arith, c.loop-slot.invariant.reads); why = tt; faults = tt }
 
-pub returns-clause-looks : goal.returns-clause-looks
-returns-clause-looks g c = c.loop-slot.invariant.looks
+pub returns-clause-calls : goal.returns-clause-calls
+returns-clause-calls g c = record { looks = c.loop-slot.invariant.looks; reads = omega (arith, c.loop-slot.invariant.reads); why = tt; faults = tt }

@@ -1,8 +1,13 @@
-use Rattle.std.proofs.Common.{true, false, arith}
-use Rattle.tree_edits.proofs.Lookups.{file_below, file_named}
+use Rattle.std.proofs.Common.{true, false, arith, ◌-◌, refl, inl}
+use Rattle.node_store.specs.WordLaws.{works_idle}
+use Rattle.node_format.specs.Headers.{body_header}
+use Rattle.directory.proofs.LookupLaws.{rooted_leads}
+use Rattle.tree_edits.proofs.NewBytes.{keeps_itself}
+use Rattle.tree_edits.proofs.NewRoots.{made_result, removed_result, moved_result}
+use Rattle.tree_edits.proofs.AppliedEdits.{is_applied}
+use Rattle.tree_edits.proofs.Lookups.{file_below, file_named, removable_stands}
 use Rattle.tree_edits.proofs.Needs.{path_nodes-long, move_nodes-long, move_needs}
 use Rattle.tree_edits.proofs.applied.apply.Goals as goal
-use Rattle.node_store.specs.WordLaws.{keeps_nodes}
 
 -- what is put at a path or taken out needs a node, since the path has a name
 pub returns-in-PutEmptyFile-clause-still : goal.returns-in-PutEmptyFile-clause-still
@@ -20,18 +25,6 @@ returns-in-WriteFile-clause-still g c = λ none.
     let long = path_nodes-long (g.N.Nodes.node c.args.nodes.now) c.in-WriteFile.trail.now c.in-WriteFile.path.now true 0 in
     let some = file_below (g.N.Nodes.node c.args.nodes.now) c.args.root c.in-WriteFile.path.now editable.3 editable.4 editable.5 in
     absurd (omega arith)
-
-pub returns-in-WriteFile-clause-keeps : goal.returns-in-WriteFile-clause-keeps
-returns-in-WriteFile-clause-keeps g c = keeps_nodes g.N.Nodes g.met.N.Nodes.same_node g.met.N.Nodes.stays_kept c.args.nodes.now c.write_file.new.nodes c.requires.sound c.write_file.ensures.applied.came
-
-pub returns-in-WriteFile-clause-why : goal.returns-in-WriteFile-clause-why
-returns-in-WriteFile-clause-why g c = c.write_file.ensures.applied.why
-
-pub returns-in-WriteFile-clause-faults : goal.returns-in-WriteFile-clause-faults
-returns-in-WriteFile-clause-faults g c = c.write_file.ensures.applied.faults
-
-pub returns-in-WriteFile-clause-follows : goal.returns-in-WriteFile-clause-follows
-returns-in-WriteFile-clause-follows g c = c.write_file.ensures.applied.came
 
 pub returns-in-SetLength-clause-still : goal.returns-in-SetLength-clause-still
 returns-in-SetLength-clause-still g c = λ none.
@@ -57,77 +50,82 @@ returns-in-Move-clause-still g c = λ none.
     let some = move_needs c.in-Move.old.now c.in-Move.new.now editable.0 in
     absurd (omega arith)
 
-pub returns-in-MakeDirectory-clause-keeps : goal.returns-in-MakeDirectory-clause-keeps
-returns-in-MakeDirectory-clause-keeps g c = keeps_nodes g.N.Nodes g.met.N.Nodes.same_node g.met.N.Nodes.stays_kept c.args.nodes.now c.make.new.nodes c.requires.sound c.make.ensures.applied.came
+pub returns-in-PutEmptyFile-clause-applied : goal.returns-in-PutEmptyFile-clause-applied
+returns-in-PutEmptyFile-clause-applied g c = rw c.in-PutEmptyFile.is c.put_empty.ensures.applied
 
-pub returns-in-MakeDirectory-clause-why : goal.returns-in-MakeDirectory-clause-why
-returns-in-MakeDirectory-clause-why g c = c.make.ensures.applied.why
+pub returns-in-WriteFile-clause-applied : goal.returns-in-WriteFile-clause-applied
+returns-in-WriteFile-clause-applied g c = rw c.in-WriteFile.is c.write_file.ensures.applied
 
-pub returns-in-MakeDirectory-clause-faults : goal.returns-in-MakeDirectory-clause-faults
-returns-in-MakeDirectory-clause-faults g c = c.make.ensures.applied.faults
+pub returns-in-WriteFiles-clause-applied : goal.returns-in-WriteFiles-clause-applied
+returns-in-WriteFiles-clause-applied g c = rw c.in-WriteFiles.is c.write_files.ensures.applied
 
-pub returns-in-MakeDirectory-clause-follows : goal.returns-in-MakeDirectory-clause-follows
-returns-in-MakeDirectory-clause-follows g c = c.make.ensures.applied.came
+pub returns-in-Overwrite-clause-applied : goal.returns-in-Overwrite-clause-applied
+returns-in-Overwrite-clause-applied g c = rw c.in-Overwrite.is c.overwrite.ensures.applied
 
-pub returns-in-PutEmptyFile-clause-keeps : goal.returns-in-PutEmptyFile-clause-keeps
-returns-in-PutEmptyFile-clause-keeps g c = keeps_nodes g.N.Nodes g.met.N.Nodes.same_node g.met.N.Nodes.stays_kept c.args.nodes.now c.put_empty.new.nodes c.requires.sound c.put_empty.ensures.applied.came
+pub returns-in-SetLength-clause-applied : goal.returns-in-SetLength-clause-applied
+returns-in-SetLength-clause-applied g c = rw c.in-SetLength.is c.resize.ensures.applied
 
-pub returns-in-PutEmptyFile-clause-why : goal.returns-in-PutEmptyFile-clause-why
-returns-in-PutEmptyFile-clause-why g c = c.put_empty.ensures.applied.why
+pub returns-in-MakeDirectory-clause-applied : goal.returns-in-MakeDirectory-clause-applied
+returns-in-MakeDirectory-clause-applied g c =
+    let old = c.args.nodes.now in
+    let capacity = g.N.Nodes.limit old - body_header in
+    let f = g.N.Nodes.node old in
+    let editable = rw c.in-MakeDirectory.is at c.requires.editable in
+    let new = c.put_directory.new.nodes in
+    let made = made_result capacity f (g.N.Nodes.node new) (g.N.Nodes.kept old) (g.N.Nodes.kept new) c.args.root c.in-MakeDirectory.path.now c.put_directory.result
+    c.put_directory.ensures.keeps c.requires.held c.requires.rooted editable.0 editable.2 c.put_directory.ensures.made c.put_directory.ensures.reaches in
+    rw c.in-MakeDirectory.is (is_applied made c.put_directory.ensures.keeps c.put_directory.ensures.calls (omega arith))
 
-pub returns-in-PutEmptyFile-clause-faults : goal.returns-in-PutEmptyFile-clause-faults
-returns-in-PutEmptyFile-clause-faults g c = c.put_empty.ensures.applied.faults
+pub remove_entry-requires-clause-sought : goal.remove_entry-requires-clause-sought
+remove_entry-requires-clause-sought g c =
+    let editable = rw c.in-Remove.is at c.requires.editable in
+    record { below = editable.2; held = c.requires.held; way = editable.1 }
 
-pub returns-in-PutEmptyFile-clause-follows : goal.returns-in-PutEmptyFile-clause-follows
-returns-in-PutEmptyFile-clause-follows g c = c.put_empty.ensures.applied.came
+pub remove_entry-requires-clause-stands : goal.remove_entry-requires-clause-stands
+remove_entry-requires-clause-stands g c =
+    let old = c.args.nodes.now in
+    let capacity = g.N.Nodes.limit old - body_header in
+    let f = g.N.Nodes.node old in
+    let editable = rw c.in-Remove.is at c.requires.editable in
+    removable_stands f c.args.root c.in-Remove.path.now editable.3 (rooted_leads capacity f c.args.root c.requires.rooted) editable.4 editable.5
 
-pub returns-in-Overwrite-clause-keeps : goal.returns-in-Overwrite-clause-keeps
-returns-in-Overwrite-clause-keeps g c = keeps_nodes g.N.Nodes g.met.N.Nodes.same_node g.met.N.Nodes.stays_kept c.args.nodes.now c.overwrite.new.nodes c.requires.sound c.overwrite.ensures.applied.came
+pub returns-in-Remove-clause-applied : goal.returns-in-Remove-clause-applied
+returns-in-Remove-clause-applied g c =
+    let old = c.args.nodes.now in
+    let capacity = g.N.Nodes.limit old - body_header in
+    let f = g.N.Nodes.node old in
+    let editable = rw c.in-Remove.is at c.requires.editable in
+    let new = c.remove_entry.new.nodes in
+    let removed = removed_result capacity f (g.N.Nodes.node new) (g.N.Nodes.kept old) (g.N.Nodes.kept new) c.args.root c.in-Remove.path.now editable.3 c.remove_entry.result
+    c.remove_entry.ensures.keeps c.requires.held c.requires.rooted editable.0 editable.4 editable.5 c.remove_entry.ensures.rewritten c.remove_entry.ensures.reaches in
+    rw c.in-Remove.is (is_applied removed c.remove_entry.ensures.keeps c.remove_entry.ensures.calls (omega arith))
 
-pub returns-in-Overwrite-clause-why : goal.returns-in-Overwrite-clause-why
-returns-in-Overwrite-clause-why g c = c.overwrite.ensures.applied.why
+pub move_entry-requires-clause-sought : goal.move_entry-requires-clause-sought
+move_entry-requires-clause-sought g c =
+    let editable = rw c.in-Move.is at c.requires.editable in
+    let movable = editable.1 in
+    record {
+      apart = editable.0;
+      held = c.requires.held;
+      old_way = movable.old_way;
+      new_way = movable.new_way;
+      stands = movable.stands;
+      room = movable.room;
+    }
 
-pub returns-in-Overwrite-clause-faults : goal.returns-in-Overwrite-clause-faults
-returns-in-Overwrite-clause-faults g c = c.overwrite.ensures.applied.faults
+pub returns-in-Move-clause-applied : goal.returns-in-Move-clause-applied
+returns-in-Move-clause-applied g c =
+    let old = c.args.nodes.now in
+    let capacity = g.N.Nodes.limit old - body_header in
+    let f = g.N.Nodes.node old in
+    let editable = rw c.in-Move.is at c.requires.editable in
+    let new = c.move_entry.new.nodes in
+    let moved = moved_result capacity f (g.N.Nodes.node new) (g.N.Nodes.kept old) (g.N.Nodes.kept new) c.args.root c.in-Move.old.now c.in-Move.new.now c.in-Move.place c.move_entry.result
+    c.move_entry.ensures.keeps c.requires.held c.requires.rooted editable.1 c.move_entry.ensures.moved in
+    rw c.in-Move.is (is_applied moved c.move_entry.ensures.keeps c.move_entry.ensures.calls (omega arith))
 
-pub returns-in-Overwrite-clause-follows : goal.returns-in-Overwrite-clause-follows
-returns-in-Overwrite-clause-follows g c = c.overwrite.ensures.applied.came
-
-pub returns-in-SetLength-clause-keeps : goal.returns-in-SetLength-clause-keeps
-returns-in-SetLength-clause-keeps g c = keeps_nodes g.N.Nodes g.met.N.Nodes.same_node g.met.N.Nodes.stays_kept c.args.nodes.now c.resize.new.nodes c.requires.sound c.resize.ensures.applied.came
-
-pub returns-in-SetLength-clause-why : goal.returns-in-SetLength-clause-why
-returns-in-SetLength-clause-why g c = c.resize.ensures.applied.why
-
-pub returns-in-SetLength-clause-faults : goal.returns-in-SetLength-clause-faults
-returns-in-SetLength-clause-faults g c = c.resize.ensures.applied.faults
-
-pub returns-in-SetLength-clause-follows : goal.returns-in-SetLength-clause-follows
-returns-in-SetLength-clause-follows g c = c.resize.ensures.applied.came
-
-pub returns-in-Remove-clause-keeps : goal.returns-in-Remove-clause-keeps
-returns-in-Remove-clause-keeps g c = keeps_nodes g.N.Nodes g.met.N.Nodes.same_node g.met.N.Nodes.stays_kept c.args.nodes.now c.remove.new.nodes c.requires.sound c.remove.ensures.applied.came
-
-pub returns-in-Remove-clause-why : goal.returns-in-Remove-clause-why
-returns-in-Remove-clause-why g c = c.remove.ensures.applied.why
-
-pub returns-in-Remove-clause-faults : goal.returns-in-Remove-clause-faults
-returns-in-Remove-clause-faults g c = c.remove.ensures.applied.faults
-
-pub returns-in-Remove-clause-follows : goal.returns-in-Remove-clause-follows
-returns-in-Remove-clause-follows g c = c.remove.ensures.applied.came
-
-pub returns-in-Move-clause-keeps : goal.returns-in-Move-clause-keeps
-returns-in-Move-clause-keeps g c = keeps_nodes g.N.Nodes g.met.N.Nodes.same_node g.met.N.Nodes.stays_kept c.args.nodes.now c.rename.new.nodes c.requires.sound c.rename.ensures.applied.came
-
-pub returns-in-Move-clause-why : goal.returns-in-Move-clause-why
-returns-in-Move-clause-why g c = c.rename.ensures.applied.why
-
-pub returns-in-Move-clause-faults : goal.returns-in-Move-clause-faults
-returns-in-Move-clause-faults g c = c.rename.ensures.applied.faults
-
-pub returns-in-Move-clause-follows : goal.returns-in-Move-clause-follows
-returns-in-Move-clause-follows g c = c.rename.ensures.applied.came
-
-pub returns-in-WriteFiles-clause-writes : goal.returns-in-WriteFiles-clause-writes
-returns-in-WriteFiles-clause-writes g c = rw c.in-WriteFiles.is c.write_files.ensures.writes
+pub returns-in-Restore-clause-applied : goal.returns-in-Restore-clause-applied
+returns-in-Restore-clause-applied g c =
+    let old = c.args.nodes.now in
+    let editable = rw c.in-Restore.is at c.requires.editable in
+    rw c.in-Restore.is (is_applied (record { rooted = editable.1; held = editable.0; shows = refl; reached = λ block r. inl r }) (keeps_itself (g.N.Nodes.kept old) (g.N.Nodes.node old)) (works_idle g.met.N.Nodes.follows_itself old c.requires.sound) (omega arith))

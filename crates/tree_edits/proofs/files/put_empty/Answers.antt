@@ -1,6 +1,7 @@
-use Rattle.std.proofs.Common.{◌-◌, [], refl}
+use Rattle.std.proofs.Common.{◌-◌, [], refl, arith}
 use Rattle.node_format.specs.Headers.{body_header}
 use Rattle.skip_list_file.specs.declared.body.Body.{Body}
+use Rattle.tree_edits.proofs.AppliedEdits.{is_applied}
 use Rattle.tree_edits.proofs.Lookups.{file_below}
 use Rattle.tree_edits.proofs.NewBytes.{file_result, keeps_itself, empty_written, empty_from}
 use Rattle.tree_edits.proofs.files.put_empty.Goals as goal
@@ -11,21 +12,20 @@ returns-clause-applied g c =
     let new = c.put_body.new.nodes in
     let there = c.requires.fits in
     let none : Body = record { head = 0; length = 0 } in
-    record {
-      new_root =
-          file_result (g.N.Nodes.limit c.args.nodes.now - body_header) (g.N.Nodes.node old) (g.N.Nodes.node old) (g.N.Nodes.node new) (g.N.Nodes.kept old) (g.N.Nodes.kept old) (g.N.Nodes.kept new) c.args.root c.args.path.now there.0 none [] c.put_body.result
-          (keeps_itself (g.N.Nodes.kept old) (g.N.Nodes.node old)) c.put_body.ensures.keeps c.requires.held c.requires.rooted c.requires.lawful there.1 there.2
-          (empty_written (g.N.Nodes.limit c.args.nodes.now - body_header) (g.N.Nodes.node old) (g.N.Nodes.kept old) none refl refl) (empty_from (g.N.Nodes.node old) (g.N.Nodes.kept old) c.args.root (g.N.Nodes.node old) none refl) c.put_body.ensures.rewritten c.put_body.ensures.reaches;
-      why = c.put_body.ensures.why;
-      faults = c.put_body.ensures.faults;
-      came = c.put_body.ensures.follows;
-    }
+    is_applied
+    (file_result (g.N.Nodes.limit c.args.nodes.now - body_header) (g.N.Nodes.node old) (g.N.Nodes.node old) (g.N.Nodes.node new) (g.N.Nodes.kept old) (g.N.Nodes.kept old) (g.N.Nodes.kept new) c.args.root c.args.path.now there.0 none [] c.put_body.result
+    (keeps_itself (g.N.Nodes.kept old) (g.N.Nodes.node old)) c.put_body.ensures.keeps c.requires.looked.held c.requires.looked.rooted c.requires.looked.lawful there.1 there.2
+    (empty_written (g.N.Nodes.limit c.args.nodes.now - body_header) (g.N.Nodes.node old) (g.N.Nodes.kept old) none refl refl) (empty_from (g.N.Nodes.node old) (g.N.Nodes.kept old) c.args.root (g.N.Nodes.node old) none refl) c.put_body.ensures.rewritten c.put_body.ensures.reaches)
+    c.put_body.ensures.keeps c.put_body.ensures.calls (omega arith)
 
 pub put_body-requires-clause-sought : goal.put_body-requires-clause-sought
 put_body-requires-clause-sought g c =
     let there = c.requires.fits in
     record {
       below = file_below (g.N.Nodes.node c.args.nodes.now) c.args.root c.args.path.now there.0 there.1 there.2;
-      held = c.requires.held;
-      way = c.requires.way;
+      held = c.requires.looked.held;
+      way = c.requires.looked.way;
     }
+
+pub returns-clause-reads : goal.returns-clause-reads
+returns-clause-reads g c = c.put_body.ensures.calls.reads

@@ -8,6 +8,7 @@ use Rattle.directory.proofs.Held.{held_later}
 use Rattle.directory.proofs.LookupLaws.{rooted_leads}
 use Rattle.directory.proofs.TrailEdits.{look_later, trail_later}
 use Rattle.skip_list_file.specs.Writing.{IsWritten}
+use Rattle.tree_edits.proofs.ManyFiles.{keeps_on}
 use Rattle.tree_edits.proofs.NewBytes.{file_result, from_file, file_whole, file_held, file_bytes, body_fault}
 use Rattle.std.proofs.lemmas.Result.{err_from_is_err_and, IfErr-weaker}
 use Rattle.fs_types.specs.declared.fault.Fault.{Fault}
@@ -20,8 +21,8 @@ set_length-requires-clause-stored g c =
     let capacity = g.N.Nodes.limit c.args.nodes.now - body_header in
     let f = g.N.Nodes.node c.args.nodes.now in
     record {
-      whole = file_whole capacity f c.args.root c.args.path.now c.args.body.head c.args.body.length c.requires.rooted c.requires.found;
-      held = file_held f (g.N.Nodes.kept c.args.nodes.now) c.args.root c.args.path.now c.args.body.head c.args.body.length (rooted_leads capacity f c.args.root c.requires.rooted) c.requires.held c.requires.found;
+      whole = file_whole capacity f c.args.root c.args.path.now c.args.body.head c.args.body.length c.requires.looked.rooted c.requires.found;
+      held = file_held f (g.N.Nodes.kept c.args.nodes.now) c.args.root c.args.path.now c.args.body.head c.args.body.length (rooted_leads capacity f c.args.root c.requires.looked.rooted) c.requires.looked.held c.requires.found;
     }
 
 pub put_body-requires-clause-sought : goal.put_body-requires-clause-sought
@@ -30,8 +31,8 @@ put_body-requires-clause-sought g c =
     let mid = c.set_length.new.nodes in
     record {
       below = file_named (g.N.Nodes.node old) c.args.root c.args.path.now c.args.body.head c.args.body.length c.requires.found;
-      held = held_later (g.N.Nodes.node old) (g.N.Nodes.node mid) (g.N.Nodes.kept old) (g.N.Nodes.kept mid) c.set_length.ensures.keeps c.args.root c.requires.held;
-      way = trail_later (g.N.Nodes.node old) (g.N.Nodes.node mid) (g.N.Nodes.kept old) (g.N.Nodes.kept mid) c.set_length.ensures.keeps c.args.path.now c.args.root c.args.trail.now c.requires.held c.requires.way;
+      held = held_later (g.N.Nodes.node old) (g.N.Nodes.node mid) (g.N.Nodes.kept old) (g.N.Nodes.kept mid) c.set_length.ensures.keeps c.args.root c.requires.looked.held;
+      way = trail_later (g.N.Nodes.node old) (g.N.Nodes.node mid) (g.N.Nodes.kept old) (g.N.Nodes.kept mid) c.set_length.ensures.keeps c.args.path.now c.args.root c.args.trail.now c.requires.looked.held c.requires.looked.way;
     }
 
 pub put_body-requires-clause-fits : goal.put_body-requires-clause-fits
@@ -39,7 +40,7 @@ put_body-requires-clause-fits g c =
     let old = c.args.nodes.now in
     let mid = c.set_length.new.nodes in
     let there = found.File c.args.body.head c.args.body.length in
-    (there, look_later (g.N.Nodes.node old) (g.N.Nodes.node mid) (g.N.Nodes.kept old) (g.N.Nodes.kept mid) c.set_length.ensures.keeps c.args.path.now c.args.root c.requires.held ∙ c.requires.found, tt)
+    (there, look_later (g.N.Nodes.node old) (g.N.Nodes.node mid) (g.N.Nodes.kept old) (g.N.Nodes.kept mid) c.set_length.ensures.keeps c.args.path.now c.args.root c.requires.looked.held ∙ c.requires.found, tt)
 
 pub returns-clause-applied : goal.returns-clause-applied
 returns-clause-applied g c =
@@ -48,43 +49,44 @@ returns-clause-applied g c =
     let new = c.put_body.new.nodes in
     let capacity = (g.N.Nodes.limit c.args.nodes.now - body_header) in
     let written = subst (λ (bs : List ℕ). IsWritten capacity (g.N.Nodes.node mid) (g.N.Nodes.kept mid) c.in_ok-new.new (resized bs c.args.size))
-    (file_bytes capacity (g.N.Nodes.node old) c.args.root c.args.path.now c.args.body.head c.args.body.length c.requires.rooted c.requires.found) c.in_ok-new.ensures.written in
+    (file_bytes capacity (g.N.Nodes.node old) c.args.root c.args.path.now c.args.body.head c.args.body.length c.requires.looked.rooted c.requires.found) c.in_ok-new.ensures.written in
+    let same = path_nodes-later (g.N.Nodes.node c.args.nodes.now) (g.N.Nodes.node c.set_length.new.nodes) (g.N.Nodes.kept c.args.nodes.now) (g.N.Nodes.kept c.set_length.new.nodes) c.args.path.now c.args.trail.now true
+    (record { root = c.args.root; trail_of = c.requires.looked.way; held = c.requires.looked.held }) c.set_length.ensures.keeps in
     record {
       new_root =
           file_result capacity (g.N.Nodes.node old) (g.N.Nodes.node mid) (g.N.Nodes.node new) (g.N.Nodes.kept old) (g.N.Nodes.kept mid) (g.N.Nodes.kept new) c.args.root c.args.path.now (found.File c.args.body.head c.args.body.length) c.in_ok-new.new
-          (resized (bytes_of_file (root_tree capacity (g.N.Nodes.node old) c.args.root) c.args.path.now) c.args.size) c.put_body.result c.set_length.ensures.keeps c.put_body.ensures.keeps c.requires.held c.requires.rooted c.requires.lawful c.requires.found tt written
-          (from_file capacity (g.N.Nodes.node old) (g.N.Nodes.node mid) (g.N.Nodes.kept old) c.args.root c.args.path.now c.args.body c.in_ok-new.new (rooted_leads capacity (g.N.Nodes.node old) c.args.root c.requires.rooted) c.requires.found c.in_ok-new.ensures.reaches) c.put_body.ensures.rewritten c.put_body.ensures.reaches;
+          (resized (bytes_of_file (root_tree capacity (g.N.Nodes.node old) c.args.root) c.args.path.now) c.args.size) c.put_body.result c.set_length.ensures.keeps c.put_body.ensures.keeps c.requires.looked.held c.requires.looked.rooted c.requires.looked.lawful c.requires.found tt written
+          (from_file capacity (g.N.Nodes.node old) (g.N.Nodes.node mid) (g.N.Nodes.kept old) c.args.root c.args.path.now c.args.body c.in_ok-new.new (rooted_leads capacity (g.N.Nodes.node old) c.args.root c.requires.looked.rooted) c.requires.found c.in_ok-new.ensures.reaches) c.put_body.ensures.rewritten c.put_body.ensures.reaches;
+      keeps = keeps_on (g.N.Nodes.node old) (g.N.Nodes.node mid) (g.N.Nodes.node new) (g.N.Nodes.kept old) (g.N.Nodes.kept mid) (g.N.Nodes.kept new) c.set_length.ensures.keeps c.put_body.ensures.keeps;
+      works = g.met.N.Nodes.works_on old mid new c.set_length.ensures.calls.works c.put_body.ensures.calls.works;
+      writes = omega (arith, same, c.set_length.ensures.calls.writes, c.put_body.ensures.calls.writes);
       why =
-          IfErr-weaker c.put_body.result _ (λ (fault : Fault). g.N.Nodes.causes c.args.nodes.now c.put_body.new.nodes fault)
-          (λ fault why. g.met.N.Nodes.causes_on c.args.nodes.now c.set_length.new.nodes c.put_body.new.nodes fault c.set_length.ensures.works.came why) c.put_body.ensures.why;
-      faults = c.put_body.ensures.faults;
-      came = g.met.N.Nodes.follows_on c.args.nodes.now c.set_length.new.nodes c.put_body.new.nodes c.set_length.ensures.works.came c.put_body.ensures.follows;
+          IfErr-weaker c.put_body.result _ (λ (fault : Fault). g.N.Nodes.causes old new fault)
+          (λ fault why. g.met.N.Nodes.causes_on old mid new fault c.set_length.ensures.calls.works.came why) c.put_body.ensures.calls.why;
+      faults = c.put_body.ensures.calls.faults;
     }
 
 pub put_body-requires-clause-sound : goal.put_body-requires-clause-sound
-put_body-requires-clause-sound g c = c.set_length.ensures.works.sound
+put_body-requires-clause-sound g c = c.set_length.ensures.calls.works.sound
 
 pub returns-in_err-new-clause-applied : goal.returns-in_err-new-clause-applied
 returns-in_err-new-clause-applied g c =
     let p = err_from_is_err_and c.from_residual.result c.from_residual.ensures.1 in
-    let refused = c.in_err-new.ensures.refused in
+    let calls = c.in_err-new.ensures.calls in
     rw (p.1, p.2) (record {
       new_root = tt;
-      why = refused.1;
-      faults = body_fault c.in_err-new.field-0.0 refused.0;
-      came = c.set_length.ensures.works.came;
+      keeps = c.set_length.ensures.keeps;
+      works = calls.works;
+      writes = omega (arith, calls.writes);
+      why = calls.why;
+      faults = body_fault c.in_err-new.field-0.0 calls.faults;
     })
 
 -- the directories of the path have as many nodes after the body was written
-pub returns-clause-writes : goal.returns-clause-writes
-returns-clause-writes g c =
-    let same = path_nodes-later (g.N.Nodes.node c.args.nodes.now) (g.N.Nodes.node c.set_length.new.nodes) (g.N.Nodes.kept c.args.nodes.now) (g.N.Nodes.kept c.set_length.new.nodes) c.args.path.now c.args.trail.now true
-    (record { root = c.args.root; trail_of = c.requires.way; held = c.requires.held }) c.set_length.ensures.keeps in
-    omega (arith, c.set_length.ensures.writes.most, c.put_body.ensures.writes)
 
 pub returns-clause-reads : goal.returns-clause-reads
 returns-clause-reads g c = λ digits has.
     let same = path_nodes-later (g.N.Nodes.node c.args.nodes.now) (g.N.Nodes.node c.set_length.new.nodes) (g.N.Nodes.kept c.args.nodes.now) (g.N.Nodes.kept c.set_length.new.nodes) c.args.path.now c.args.trail.now false
-    (record { root = c.args.root; trail_of = c.requires.way; held = c.requires.held }) c.set_length.ensures.keeps in
-    let body = c.set_length.ensures.reads digits has in
-    omega (arith, body, c.put_body.ensures.reads)
+    (record { root = c.args.root; trail_of = c.requires.looked.way; held = c.requires.looked.held }) c.set_length.ensures.keeps in
+    let body = c.set_length.ensures.calls.reads digits has in
+    omega (arith, same, body, c.put_body.ensures.calls.reads)

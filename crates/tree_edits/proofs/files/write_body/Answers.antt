@@ -5,6 +5,7 @@ use Rattle.std.proofs.lemmas.Bool.{eqb-true, eqb-false}
 use Rattle.node_format.specs.Headers.{body_header}
 use Rattle.skip_list_file.specs.Writing.{IsWritten}
 use Rattle.skip_list_file.specs.declared.body.Body.{Body}
+use Rattle.node_store.specs.WordLaws.{works_wider, works_idle}
 use Rattle.tree_edits.proofs.NewBytes.{empty_written, written_whole, whole_need, empty_digits, empty_between, fresh_body, keeps_itself}
 use Rattle.tree_edits.proofs.files.write_body.Goals as goal
 
@@ -33,17 +34,6 @@ returns-clause-fresh g c =
     (λ new only. fresh_body (g.N.Nodes.limit c.args.nodes.now - body_header) (g.N.Nodes.node c.args.nodes.now) (g.N.Nodes.node c.write_range.new.nodes) (g.N.Nodes.kept c.args.nodes.now) new only)
     c.write_range.ensures.reaches
 
-pub returns-clause-reads : goal.returns-clause-reads
-returns-clause-reads g c =
-    let capacity = g.N.Nodes.limit c.args.nodes.now - body_header in
-    let few = c.write_range.ensures.reads 0 (empty_digits capacity) in
-    omega (arith, few, empty_between capacity (0 + length c.args.bytes.now))
-
-pub returns-clause-writes : goal.returns-clause-writes
-returns-clause-writes g c =
-    let some : 0 < length c.args.bytes.now = some_bytes c.args.bytes.now (sym c.is_empty.ensures ∙ c.if-is_empty.false) in
-    omega (arith, c.write_range.ensures.writes.most, whole_need (g.N.Nodes.limit c.args.nodes.now - body_header) (length c.args.bytes.now) some)
-
 pub returns-then-is_empty-clause-written : goal.returns-then-is_empty-clause-written
 returns-then-is_empty-clause-written g c =
     let none : Body = record { head = 0; length = 0 } in
@@ -53,3 +43,20 @@ returns-then-is_empty-clause-written g c =
 
 pub returns-then-is_empty-clause-keeps : goal.returns-then-is_empty-clause-keeps
 returns-then-is_empty-clause-keeps g c = keeps_itself (g.N.Nodes.kept c.args.nodes.now) (g.N.Nodes.node c.args.nodes.now)
+
+pub returns-clause-calls : goal.returns-clause-calls
+returns-clause-calls g c =
+    let capacity = g.N.Nodes.limit c.args.nodes.now - body_header in
+    let calls = c.write_range.ensures.calls in
+    let few = calls.reads 0 (empty_digits capacity) in
+    let some : 0 < length c.args.bytes.now = some_bytes c.args.bytes.now (sym c.is_empty.ensures ∙ c.if-is_empty.false) in
+    record {
+      works = calls.works;
+      reads = omega (arith, few, empty_between capacity (0 + length c.args.bytes.now));
+      writes = omega (arith, calls.writes, whole_need capacity (length c.args.bytes.now) some);
+      why = calls.why;
+      faults = calls.faults;
+    }
+
+pub returns-then-is_empty-clause-calls : goal.returns-then-is_empty-clause-calls
+returns-then-is_empty-clause-calls g c = works_wider (works_idle g.met.N.Nodes.follows_itself c.args.nodes.now c.requires.sound) (omega arith) (omega arith)

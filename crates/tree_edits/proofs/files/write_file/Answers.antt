@@ -1,9 +1,11 @@
 use Rattle.std.proofs.Common.{◌-◌, true, false, ◌∙◌, inr, arith}
-use Rattle.std.proofs.lemmas.Result.{err_from_is_err_and, IfErr-weaker}
-use Rattle.fs_types.specs.declared.fault.Fault.{Fault}
+use Rattle.std.proofs.lemmas.Result.{err_from_is_err_and}
 use Rattle.node_format.specs.Headers.{body_header}
 use Rattle.directory.proofs.Held.{held_later}
 use Rattle.directory.proofs.TrailEdits.{look_later, trail_later}
+use Rattle.node_store.specs.WordLaws.{works_both}
+use Rattle.tree_edits.proofs.ManyFiles.{keeps_on}
+use Rattle.tree_edits.proofs.AppliedEdits.{is_applied}
 use Rattle.tree_edits.proofs.NewBytes.{file_result, body_fault}
 use Rattle.tree_edits.proofs.Lookups.{file_below}
 use Rattle.tree_edits.proofs.Needs.{path_nodes-later}
@@ -16,17 +18,14 @@ returns-clause-applied g c =
     let new = c.put_body.new.nodes in
     let capacity = (g.N.Nodes.limit c.args.nodes.now - body_header) in
     let there = c.requires.fits in
-    record {
-      new_root =
-          file_result capacity (g.N.Nodes.node old) (g.N.Nodes.node mid) (g.N.Nodes.node new) (g.N.Nodes.kept old) (g.N.Nodes.kept mid) (g.N.Nodes.kept new) c.args.root c.args.path.now there.0 c.in_ok-new.new
-          c.args.bytes.now c.put_body.result c.write_body.ensures.keeps c.put_body.ensures.keeps c.requires.held c.requires.rooted c.requires.lawful there.1 there.2 c.in_ok-new.ensures.written
-          (λ root block names reached. inr (c.in_ok-new.ensures.fresh root block names reached)) c.put_body.ensures.rewritten c.put_body.ensures.reaches;
-      why =
-          IfErr-weaker c.put_body.result _ (λ (fault : Fault). g.N.Nodes.causes c.args.nodes.now c.put_body.new.nodes fault)
-          (λ fault why. g.met.N.Nodes.causes_on c.args.nodes.now c.write_body.new.nodes c.put_body.new.nodes fault c.write_body.ensures.works.came why) c.put_body.ensures.why;
-      faults = c.put_body.ensures.faults;
-      came = g.met.N.Nodes.follows_on c.args.nodes.now c.write_body.new.nodes c.put_body.new.nodes c.write_body.ensures.works.came c.put_body.ensures.follows;
-    }
+    let same = path_nodes-later (g.N.Nodes.node c.args.nodes.now) (g.N.Nodes.node c.write_body.new.nodes) (g.N.Nodes.kept c.args.nodes.now) (g.N.Nodes.kept c.write_body.new.nodes) c.args.path.now c.args.trail.now true
+    (record { root = c.args.root; trail_of = c.requires.looked.way; held = c.requires.looked.held }) c.write_body.ensures.keeps in
+    is_applied
+    (file_result capacity (g.N.Nodes.node old) (g.N.Nodes.node mid) (g.N.Nodes.node new) (g.N.Nodes.kept old) (g.N.Nodes.kept mid) (g.N.Nodes.kept new) c.args.root c.args.path.now there.0 c.in_ok-new.new
+    c.args.bytes.now c.put_body.result c.write_body.ensures.keeps c.put_body.ensures.keeps c.requires.looked.held c.requires.looked.rooted c.requires.looked.lawful there.1 there.2 c.in_ok-new.ensures.written
+    (λ root block names reached. inr (c.in_ok-new.ensures.fresh root block names reached)) c.put_body.ensures.rewritten c.put_body.ensures.reaches)
+    (keeps_on (g.N.Nodes.node old) (g.N.Nodes.node mid) (g.N.Nodes.node new) (g.N.Nodes.kept old) (g.N.Nodes.kept mid) (g.N.Nodes.kept new) c.write_body.ensures.keeps c.put_body.ensures.keeps)
+    (works_both g.met.N.Nodes.works_on g.met.N.Nodes.causes_on old mid new c.in_ok-new.ensures.calls c.put_body.ensures.calls) (omega (arith, same))
 
 pub put_body-requires-clause-sought : goal.put_body-requires-clause-sought
 put_body-requires-clause-sought g c =
@@ -35,8 +34,8 @@ put_body-requires-clause-sought g c =
     let there = c.requires.fits in
     record {
       below = file_below (g.N.Nodes.node old) c.args.root c.args.path.now there.0 there.1 there.2;
-      held = held_later (g.N.Nodes.node old) (g.N.Nodes.node mid) (g.N.Nodes.kept old) (g.N.Nodes.kept mid) c.write_body.ensures.keeps c.args.root c.requires.held;
-      way = trail_later (g.N.Nodes.node old) (g.N.Nodes.node mid) (g.N.Nodes.kept old) (g.N.Nodes.kept mid) c.write_body.ensures.keeps c.args.path.now c.args.root c.args.trail.now c.requires.held c.requires.way;
+      held = held_later (g.N.Nodes.node old) (g.N.Nodes.node mid) (g.N.Nodes.kept old) (g.N.Nodes.kept mid) c.write_body.ensures.keeps c.args.root c.requires.looked.held;
+      way = trail_later (g.N.Nodes.node old) (g.N.Nodes.node mid) (g.N.Nodes.kept old) (g.N.Nodes.kept mid) c.write_body.ensures.keeps c.args.path.now c.args.root c.args.trail.now c.requires.looked.held c.requires.looked.way;
     }
 
 pub put_body-requires-clause-fits : goal.put_body-requires-clause-fits
@@ -44,31 +43,28 @@ put_body-requires-clause-fits g c =
     let old = c.args.nodes.now in
     let mid = c.write_body.new.nodes in
     let there = c.requires.fits in
-    (there.0, look_later (g.N.Nodes.node old) (g.N.Nodes.node mid) (g.N.Nodes.kept old) (g.N.Nodes.kept mid) c.write_body.ensures.keeps c.args.path.now c.args.root c.requires.held ∙ there.1, there.2)
+    (there.0, look_later (g.N.Nodes.node old) (g.N.Nodes.node mid) (g.N.Nodes.kept old) (g.N.Nodes.kept mid) c.write_body.ensures.keeps c.args.path.now c.args.root c.requires.looked.held ∙ there.1, there.2)
 
 pub put_body-requires-clause-sound : goal.put_body-requires-clause-sound
-put_body-requires-clause-sound g c = c.write_body.ensures.works.sound
+put_body-requires-clause-sound g c = c.write_body.ensures.calls.works.sound
 
 pub returns-in_err-new-clause-applied : goal.returns-in_err-new-clause-applied
 returns-in_err-new-clause-applied g c =
     let p = err_from_is_err_and c.from_residual.result c.from_residual.ensures.1 in
-    let refused = c.in_err-new.ensures.refused in
+    let calls = c.in_err-new.ensures.calls in
     rw (p.1, p.2) (record {
       new_root = tt;
-      why = refused.1;
-      faults = body_fault c.in_err-new.field-0.0 refused.0;
-      came = c.write_body.ensures.works.came;
+      keeps = c.write_body.ensures.keeps;
+      works = calls.works;
+      writes = omega (arith, calls.writes);
+      why = calls.why;
+      faults = body_fault c.in_err-new.field-0.0 calls.faults;
     })
 
 -- the directories of the path have as many nodes after the body was written
-pub returns-clause-writes : goal.returns-clause-writes
-returns-clause-writes g c =
-    let same = path_nodes-later (g.N.Nodes.node c.args.nodes.now) (g.N.Nodes.node c.write_body.new.nodes) (g.N.Nodes.kept c.args.nodes.now) (g.N.Nodes.kept c.write_body.new.nodes) c.args.path.now c.args.trail.now true
-    (record { root = c.args.root; trail_of = c.requires.way; held = c.requires.held }) c.write_body.ensures.keeps in
-    omega (arith, c.write_body.ensures.writes, c.put_body.ensures.writes)
 
 pub returns-clause-reads : goal.returns-clause-reads
 returns-clause-reads g c =
     let same = path_nodes-later (g.N.Nodes.node c.args.nodes.now) (g.N.Nodes.node c.write_body.new.nodes) (g.N.Nodes.kept c.args.nodes.now) (g.N.Nodes.kept c.write_body.new.nodes) c.args.path.now c.args.trail.now false
-    (record { root = c.args.root; trail_of = c.requires.way; held = c.requires.held }) c.write_body.ensures.keeps in
-    omega (arith, c.write_body.ensures.reads, c.put_body.ensures.reads)
+    (record { root = c.args.root; trail_of = c.requires.looked.way; held = c.requires.looked.held }) c.write_body.ensures.keeps in
+    omega (arith, same, c.write_body.ensures.calls.reads, c.put_body.ensures.calls.reads)

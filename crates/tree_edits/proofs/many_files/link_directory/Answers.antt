@@ -2,6 +2,7 @@ use Rattle.std.proofs.Common.{◌<◌, length, ap, sym, ◌∙◌, arith}
 use Rattle.std.proofs.lemmas.Bool.{eqb-true, eqb-false}
 use Rattle.std.specs.Option.{is_some}
 use Rattle.directory.specs.Trails.{has_room}
+use Rattle.node_store.specs.WordLaws.{works_wider, works_idle}
 use Rattle.tree_edits.proofs.ManyFiles.{linked_root, linked_below, path_nodes-stands}
 use Rattle.tree_edits.proofs.NewBytes.{keeps_itself}
 use Rattle.tree_edits.proofs.many_files.link_directory.Goals as goal
@@ -31,7 +32,10 @@ returns-clause-linked g c =
     let some : 0 < length c.args.directory.now = omega arith in
     linked_below (g.N.Nodes.node old) (g.N.Nodes.node new) (g.N.Nodes.kept old) (g.N.Nodes.kept new) c.args.root c.args.block c.args.directory.now c.put_entry.result some c.put_entry.ensures.rewritten
 
-pub returns-clause-writes : goal.returns-clause-writes
-returns-clause-writes g c =
+pub returns-clause-calls : goal.returns-clause-calls
+returns-clause-calls g c =
     let few = path_nodes-stands (g.N.Nodes.node c.args.nodes.now) c.args.root c.args.directory.now c.args.trail.now c.requires.way (ap is_some c.requires.led.2) in
-    omega (arith, few, c.put_entry.ensures.writes)
+    works_wider c.put_entry.ensures.calls (omega arith) (omega (arith, few))
+
+pub returns-then-is_root-clause-calls : goal.returns-then-is_root-clause-calls
+returns-then-is_root-clause-calls g c = works_wider (works_idle g.met.N.Nodes.follows_itself c.args.nodes.now c.requires.sound) (omega arith) (omega arith)

@@ -1,6 +1,7 @@
-use Rattle.std.proofs.Common.{◌+◌, ◌-◌, ◌≤◌, length, take}
+use Rattle.std.proofs.Common.{◌-◌, Ok, length, take}
 use Rattle.node_format.specs.Headers.{body_header}
-use Rattle.node_store.specs.Words.{Works}
+use Rattle.node_store.specs.Words.{WorksWithin}
+use Rattle.skip_list_file.specs.Writing.{IsWritingFault}
 use Rattle.plain_trees.specs.Files.{bodies_need}
 use Rattle.tree_edits.specs.Edits.{chosen}
 use Rattle.tree_edits.specs.Roots.{AreNewFiles}
@@ -10,7 +11,5 @@ use Rattle.tree_edits.proofs.many_files.write_bodies.Given as goal
 abbrev pub invariant-loop-i : goal.invariant-loop-i
 invariant-loop-i g l = record {
   written : AreNewFiles (g.N.Nodes.limit l.fn.nodes - body_header) (g.N.Nodes.kept l.fn.nodes) (g.N.Nodes.node l.nodes) (g.N.Nodes.kept l.nodes) (chosen (take l.i l.files) (take l.i l.changes)) l.puts.items;
-  reads : g.N.Nodes.reads l.nodes ≤ g.N.Nodes.reads l.fn.nodes + length (chosen (take l.i l.files) (take l.i l.changes));
-  writes : g.N.Nodes.writes l.nodes ≤ g.N.Nodes.writes l.fn.nodes + bodies_need (g.N.Nodes.limit l.fn.nodes - body_header) (chosen (take l.i l.files) (take l.i l.changes));
-  works : Works g.N.Nodes l.fn.nodes l.nodes;
+  calls : WorksWithin g.N.Nodes IsWritingFault (length (chosen (take l.i l.files) (take l.i l.changes))) (bodies_need (g.N.Nodes.limit l.fn.nodes - body_header) (chosen (take l.i l.files) (take l.i l.changes))) l.fn.nodes (Ok l.i) l.nodes;
 }

@@ -1,10 +1,13 @@
+use Rattle.commit_pair.proofs.ReadParts.{reads_none}
+use Rattle.std.proofs.Common.{◌*◌}
+use Rattle.fs_types.specs.declared.limits.TheConstants.{ANCHORS}
 use Rattle.commit_pair.proofs.anchors.Anchors.greatest.Goals as goal
+
+pub returns-in-Some-clause-reads : goal.returns-in-Some-clause-reads
+returns-in-Some-clause-reads g c = reads_none (g.F.Flash.device c.args.flash.now) (ANCHORS * c.args.geometry.pages) _
 
 pub returns-in-None-clause-greatest : goal.returns-in-None-clause-greatest
 returns-in-None-clause-greatest g c = c.find_greatest.ensures.greatest
 
-pub returns-in-None-clause-only_reads : goal.returns-in-None-clause-only_reads
-returns-in-None-clause-only_reads g c = c.find_greatest.ensures.only_reads
-
-pub returns-in-None-clause-why : goal.returns-in-None-clause-why
-returns-in-None-clause-why g c = c.find_greatest.ensures.why
+pub returns-in-None-clause-reads : goal.returns-in-None-clause-reads
+returns-in-None-clause-reads g c = c.find_greatest.ensures.reads

@@ -1,7 +1,6 @@
-use Rattle.std.specs.Prelude.{IfOk}
 use Rattle.std.specs.FinSet as set
 use Rattle.std.specs.Ordering.{nat_cmp}
-use Rattle.std.proofs.Common.{◌≡◌, ◌≢◌, ℕ, ◌/◌, Option, Some, None, refl, sym, ap, subst, ◌∙◌, arith}
+use Rattle.std.proofs.Common.{◌≡◌, ◌≢◌, ℕ, ◌/◌, Option, Some, None, refl, sym, ap, subst, ◌∙◌, arith, rules}
 use Rattle.std.proofs.lemmas.Result.{err_from_is_err_and}
 use Rattle.flash_model.specs.declared.geometry.Geometry.{Geometry}
 use Rattle.flash_model.specs.Geometry.{IsGeometry}
@@ -32,21 +31,9 @@ ready_found old mid new g anchors newest bad same first next at is end some = on
     on None none = absurd (some (none_committed mid g anchors.newest newest (first.geometry ∙ same) at none is))
     on (Some found) here = ready_at old new bad anchors found (OnlyReads_on old mid new first next) here (remembers_at old mid g anchors.newest same first at) (knows_end old g anchors same end)
 
-pub find_best-requires-clause-same : goal.find_best-requires-clause-same
-find_best-requires-clause-same g c = sym c.geometry-geometry.ensures
-
-pub find_best-requires-clause-lawful : goal.find_best-requires-clause-lawful
-find_best-requires-clause-lawful g c = subst IsGeometry (sym c.geometry-geometry.ensures) c.requires
-
-pub read_best-requires-clause-same : goal.read_best-requires-clause-same
-read_best-requires-clause-same g c = c.in_ok-best.ensures.only_reads.geometry ∙ sym c.geometry-geometry.ensures
-
-pub read_best-requires-clause-lawful : goal.read_best-requires-clause-lawful
-read_best-requires-clause-lawful g c = subst IsGeometry (sym c.geometry-geometry.ensures) c.requires
-
 pub read_best-requires-clause-best : goal.read_best-requires-clause-best
 read_best-requires-clause-best g c =
-    c.in_ok-best.ensures.best ∙ ap (λ (pages : ℕ → Page). best_on c.geometry-geometry.result (parts_on c.geometry-geometry.result pages)) (sym (same_pages c.in_ok-best.ensures.only_reads))
+    c.in_ok-best.ensures.best ∙ ap (λ (pages : ℕ → Page). best_on c.geometry-geometry.result (parts_on c.geometry-geometry.result pages)) (sym (same_pages c.in_ok-best.ensures.reads.only_reads))
 
 pub returns-in_err-page-clause-newest : goal.returns-in_err-page-clause-newest
 returns-in_err-page-clause-newest g c = rw (err_from_is_err_and c.from_residual.result c.from_residual.ensures.1).1 tt
@@ -109,33 +96,33 @@ pub returns-in_err-page-clause-operations : goal.returns-in_err-page-clause-oper
 returns-in_err-page-clause-operations g c = omega arith
 
 pub returns-in_err-best-clause-only_reads : goal.returns-in_err-best-clause-only_reads
-returns-in_err-best-clause-only_reads g c = c.in_err-best.ensures.only_reads
+returns-in_err-best-clause-only_reads g c = c.in_err-best.ensures.reads.only_reads
 
 pub returns-in_err-best-clause-operations : goal.returns-in_err-best-clause-operations
 returns-in_err-best-clause-operations g c =
-    newest_asks (g.F.Flash.device c.args.flash.now) (g.F.Flash.device c.find_best.new.flash) (g.F.Flash.device c.find_best.new.flash) c.geometry-geometry.result (sym c.geometry-geometry.ensures) c.in_err-best.ensures.only_reads c.in_err-best.ensures.operations (omega arith)
+    newest_asks (g.F.Flash.device c.args.flash.now) (g.F.Flash.device c.find_best.new.flash) (g.F.Flash.device c.find_best.new.flash) c.geometry-geometry.result (sym c.geometry-geometry.ensures) c.in_err-best.ensures.reads.only_reads c.in_err-best.ensures.reads.operations (omega arith)
 
 pub returns-in_err-best-clause-why : goal.returns-in_err-best-clause-why
 returns-in_err-best-clause-why g c =
     let p = err_from_is_err_and c.from_residual-in_err-best.result c.from_residual-in_err-best.ensures.1 in
-    rw (p.1, p.2) (read_cause (g.F.Flash.device c.args.flash.now) (g.F.Flash.device c.find_best.new.flash) c.in_err-best.field-0.0 c.in_err-best.ensures.why)
+    rw (p.1, p.2) (read_cause (g.F.Flash.device c.args.flash.now) (g.F.Flash.device c.find_best.new.flash) c.in_err-best.field-0.0 c.in_err-best.ensures.reads.why)
 
 pub returns-in_err-newest-clause-only_reads : goal.returns-in_err-newest-clause-only_reads
-returns-in_err-newest-clause-only_reads g c = OnlyReads_on (g.F.Flash.device c.args.flash.now) (g.F.Flash.device c.find_best.new.flash) (g.F.Flash.device c.read_best.new.flash) c.in_ok-best.ensures.only_reads c.in_err-newest.ensures.only_reads
+returns-in_err-newest-clause-only_reads g c = OnlyReads_on (g.F.Flash.device c.args.flash.now) (g.F.Flash.device c.find_best.new.flash) (g.F.Flash.device c.read_best.new.flash) c.in_ok-best.ensures.reads.only_reads c.in_err-newest.ensures.only_reads
 
 pub returns-in_err-newest-clause-operations : goal.returns-in_err-newest-clause-operations
-returns-in_err-newest-clause-operations g c = newest_asks (g.F.Flash.device c.args.flash.now) (g.F.Flash.device c.find_best.new.flash) (g.F.Flash.device c.read_best.new.flash) c.geometry-geometry.result (sym c.geometry-geometry.ensures) c.in_ok-best.ensures.only_reads c.in_ok-best.ensures.operations c.in_err-newest.ensures.operations
+returns-in_err-newest-clause-operations g c = newest_asks (g.F.Flash.device c.args.flash.now) (g.F.Flash.device c.find_best.new.flash) (g.F.Flash.device c.read_best.new.flash) c.geometry-geometry.result (sym c.geometry-geometry.ensures) c.in_ok-best.ensures.reads.only_reads c.in_ok-best.ensures.reads.operations c.in_err-newest.ensures.operations
 
 pub returns-in_err-newest-clause-why : goal.returns-in_err-newest-clause-why
 returns-in_err-newest-clause-why g c =
     let p = err_from_is_err_and c.from_residual-in_err-newest.result c.from_residual-in_err-newest.ensures.1 in
-    rw (p.1, p.2) (cause_stays (g.F.Flash.device c.args.flash.now) (g.F.Flash.device c.find_best.new.flash) (g.F.Flash.device c.read_best.new.flash) c.in_err-newest.field-0.0 c.in_ok-best.ensures.only_reads c.in_err-newest.ensures.why)
+    rw (p.1, p.2) (cause_stays (g.F.Flash.device c.args.flash.now) (g.F.Flash.device c.find_best.new.flash) (g.F.Flash.device c.read_best.new.flash) c.in_err-newest.field-0.0 c.in_ok-best.ensures.reads.only_reads c.in_err-newest.ensures.why)
 
 pub returns-clause-newest : goal.returns-clause-newest
-returns-clause-newest g c = newest_stays (g.F.Flash.device c.args.flash.now) (g.F.Flash.device c.find_best.new.flash) c.in_ok-newest.newest c.in_ok-best.ensures.only_reads c.in_ok-newest.ensures.newest
+returns-clause-newest g c = newest_stays (g.F.Flash.device c.args.flash.now) (g.F.Flash.device c.find_best.new.flash) c.in_ok-newest.newest c.in_ok-best.ensures.reads.only_reads c.in_ok-newest.ensures.newest
 
 pub returns-clause-remembers : goal.returns-clause-remembers
-returns-clause-remembers g c = remembers_at (g.F.Flash.device c.args.flash.now) (g.F.Flash.device c.find_best.new.flash) c.geometry-geometry.result c.in_ok-best.best.found (sym c.geometry-geometry.ensures) c.in_ok-best.ensures.only_reads c.in_ok-newest.ensures.found
+returns-clause-remembers g c = remembers_at (g.F.Flash.device c.args.flash.now) (g.F.Flash.device c.find_best.new.flash) c.geometry-geometry.result c.in_ok-best.best.found (sym c.geometry-geometry.ensures) c.in_ok-best.ensures.reads.only_reads c.in_ok-newest.ensures.found
 
 pub returns-clause-end : goal.returns-clause-end
 returns-clause-end g c =
@@ -145,13 +132,19 @@ returns-clause-end g c =
 pub returns-clause-ready : goal.returns-clause-ready
 returns-clause-ready g c = λ some bad.
     let anchors : Anchors = record c.new.result { newest = c.in_ok-best.best.found; end = c.in_ok-best.end } in
-    ready_found (g.F.Flash.device c.args.flash.now) (g.F.Flash.device c.find_best.new.flash) (g.F.Flash.device c.read_best.new.flash) c.geometry-geometry.result anchors c.in_ok-newest.newest bad (sym c.geometry-geometry.ensures) c.in_ok-best.ensures.only_reads c.in_ok-newest.ensures.only_reads c.in_ok-newest.ensures.found c.in_ok-newest.ensures.newest c.in_ok-best.ensures.end some
+    ready_found (g.F.Flash.device c.args.flash.now) (g.F.Flash.device c.find_best.new.flash) (g.F.Flash.device c.read_best.new.flash) c.geometry-geometry.result anchors c.in_ok-newest.newest bad (sym c.geometry-geometry.ensures) c.in_ok-best.ensures.reads.only_reads c.in_ok-newest.ensures.only_reads c.in_ok-newest.ensures.found c.in_ok-newest.ensures.newest c.in_ok-best.ensures.end some
 
 pub returns-clause-uncleared : goal.returns-clause-uncleared
 returns-clause-uncleared g c = c.new.ensures.uncleared
 
 pub returns-clause-only_reads : goal.returns-clause-only_reads
-returns-clause-only_reads g c = OnlyReads_on (g.F.Flash.device c.args.flash.now) (g.F.Flash.device c.find_best.new.flash) (g.F.Flash.device c.read_best.new.flash) c.in_ok-best.ensures.only_reads c.in_ok-newest.ensures.only_reads
+returns-clause-only_reads g c = OnlyReads_on (g.F.Flash.device c.args.flash.now) (g.F.Flash.device c.find_best.new.flash) (g.F.Flash.device c.read_best.new.flash) c.in_ok-best.ensures.reads.only_reads c.in_ok-newest.ensures.only_reads
 
 pub returns-clause-operations : goal.returns-clause-operations
-returns-clause-operations g c = newest_asks (g.F.Flash.device c.args.flash.now) (g.F.Flash.device c.find_best.new.flash) (g.F.Flash.device c.read_best.new.flash) c.geometry-geometry.result (sym c.geometry-geometry.ensures) c.in_ok-best.ensures.only_reads c.in_ok-best.ensures.operations c.in_ok-newest.ensures.operations
+returns-clause-operations g c = newest_asks (g.F.Flash.device c.args.flash.now) (g.F.Flash.device c.find_best.new.flash) (g.F.Flash.device c.read_best.new.flash) c.geometry-geometry.result (sym c.geometry-geometry.ensures) c.in_ok-best.ensures.reads.only_reads c.in_ok-best.ensures.reads.operations c.in_ok-newest.ensures.operations
+
+pub find_best-requires : goal.find_best-requires
+find_best-requires g c = record { may = record { same = sym c.geometry-geometry.ensures; lawful = subst IsGeometry (sym c.geometry-geometry.ensures) c.requires; whole = search rules } }
+
+pub read_best-requires-clause-may : goal.read_best-requires-clause-may
+read_best-requires-clause-may g c = record { same = c.in_ok-best.ensures.reads.only_reads.geometry ∙ sym c.geometry-geometry.ensures; lawful = subst IsGeometry (sym c.geometry-geometry.ensures) c.requires; whole = search rules }

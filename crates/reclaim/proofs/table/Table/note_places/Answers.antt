@@ -1,4 +1,5 @@
 use Rattle.std.proofs.Common.{ℕ, sym, ap, subst}
+use Rattle.std.proofs.lemmas.Bool.{true≢false}
 use Rattle.node_format.specs.declared.place.Place.TheVariants.{Dir}
 use Rattle.reclaim.specs.Tables.{IsSized}
 use Rattle.reclaim.specs.declared.table.Table.{Table}
@@ -21,17 +22,22 @@ loop-place-preserved c = record {
   same = links_on c.args.self.now c.loop-place.self c.note_place.new.self c.loop-place.invariant.same c.note_place.ensures.same;
   told = λ most seen told keeps.
       told_so_far c.args.capacity most seen told c.args.places.now c.note_place.new.self c.loop-place.place-index (Dir 0) c.loop-place-test.true
-      (c.note_place.ensures.told most seen _ (c.loop-place.invariant.told most seen told keeps) c.if-not-note_place.false);
+      (c.note_place.ensures.heads.kept most seen _ (c.loop-place.invariant.told most seen told keeps) c.if-not-note_place.false);
 }
 
 pub returns-then-not-note_place-clause-same : goal.returns-then-not-note_place-clause-same
 returns-then-not-note_place-clause-same c = links_on c.args.self.now c.loop-place.self c.note_place.new.self c.loop-place.invariant.same c.note_place.ensures.same
 
-pub returns-then-not-note_place-clause-bad : goal.returns-then-not-note_place-clause-bad
-returns-then-not-note_place-clause-bad c most seen told keeps _ fit =
-    c.note_place.ensures.bad most seen _ (c.loop-place.invariant.told most seen told keeps) c.if-not-note_place.true
-    (fit_so_far c.args.capacity most told c.args.places.now c.loop-place.place-index (Dir 0) c.loop-place-test.true fit)
+pub returns-then-not-note_place-clause-heads : goal.returns-then-not-note_place-clause-heads
+returns-then-not-note_place-clause-heads c = record {
+  kept = λ most seen told keeps is. absurd (true≢false (sym is));
+  bad = λ most seen told keeps _ fit.
+      c.note_place.ensures.heads.bad most seen _ (c.loop-place.invariant.told most seen told keeps) c.if-not-note_place.true
+      (fit_so_far c.args.capacity most told c.args.places.now c.loop-place.place-index (Dir 0) c.loop-place-test.true fit);
+}
 
-pub returns-clause-told : goal.returns-clause-told
-returns-clause-told c most seen told keeps _ =
-    told_all c.args.capacity most seen told c.args.places.now c.loop-place.self c.loop-place.place-index c.loop-place-test.false (c.loop-place.invariant.told most seen told keeps)
+pub returns-clause-heads : goal.returns-clause-heads
+returns-clause-heads c = record {
+  kept = λ most seen told keeps _. told_all c.args.capacity most seen told c.args.places.now c.loop-place.self c.loop-place.place-index c.loop-place-test.false (c.loop-place.invariant.told most seen told keeps);
+  bad = λ most seen told keeps is. absurd (true≢false is);
+}

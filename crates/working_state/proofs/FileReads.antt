@@ -25,7 +25,7 @@ use Rattle.directory.specs.declared.lookups.Found.{Found}
 use Rattle.directory.specs.declared.lookups.Found.TheVariants as found
 use Rattle.directory.specs.Lookups.{look_up, found_entry, is_path_fault, IsLookupFault}
 use Rattle.directory.proofs.LookupLaws.{found_is, found_leads_file, rooted_leads}
-use Rattle.skip_list_file.specs.Reading.{is_body_fault}
+use Rattle.node_store.specs.Faults.{is_look_fault}
 use Rattle.working_state.specs.Moments.{Moment, machine_at, seen_at, IsMountedAt, IsStep, version_tree}
 use Rattle.working_state.specs.Reading.{refuse_directory, file_refusal, IsRead}
 use Rattle.working_state.specs.Seen.{Seen}
@@ -42,7 +42,7 @@ not_so : IsTrue false → ⊥
 not_so h = true≢false (sym h)
 
 -- a look up's refusal that comes of no read
-path_fault : (fault : Fault) → IsLookupFault fault → is_body_fault fault ≡ false → is_path_fault fault ≡ true
+path_fault : (fault : Fault) → IsLookupFault fault → is_look_fault fault ≡ false → is_path_fault fault ≡ true
 path_fault NoEntry is other = refl
 path_fault NotDirectory is other = refl
 path_fault Damaged is other = refl
@@ -54,9 +54,9 @@ path_fault _ is other = absurd (not_so is)
 module _ (capacity : ℕ) (f : Blocks) (root : ℕ) (path : Path) (is : IsRoot capacity f root) where
   -- a look up that was refused
   pub look_up_refuses : (result : Result (List ℕ) Fault) (fault : Fault) → result ≡ Err fault → (is_path_fault fault ≡ true → look_up f root path ≡ Err fault) → IsLookupFault fault
-      → IfErr result (λ x. is_body_fault x ≡ false → file_refusal (root_tree capacity f root) path ≡ Some x)
+      → IfErr result (λ x. is_look_fault x ≡ false → file_refusal (root_tree capacity f root) path ≡ Some x)
   look_up_refuses result fault e refused faults =
-      subst (λ r. IfErr r (λ x. is_body_fault x ≡ false → file_refusal (root_tree capacity f root) path ≡ Some x)) (sym e)
+      subst (λ r. IfErr r (λ x. is_look_fault x ≡ false → file_refusal (root_tree capacity f root) path ≡ Some x)) (sym e)
       (λ other. refused_tells capacity f root path refuse_directory is fault (refused (path_fault fault faults other)))
 
   module _ (x y : Found) (led : look_up f root path ≡ Ok x) (called : x ≡ y) where
@@ -91,7 +91,7 @@ module _ (capacity : ℕ) (f : Blocks) (root : ℕ) (path : Path) (is : IsRoot c
 
 -- Steps.
 
-body_refuses : (old new : Seen) (m : Machine) (call : Call) (fault : Fault) → begins_work m call ≡ true → is_body_fault fault ≡ true → WorkCause old fault new → MayRefuse old m call fault new
+body_refuses : (old new : Seen) (m : Machine) (call : Call) (fault : Fault) → begins_work m call ≡ true → is_look_fault fault ≡ true → WorkCause old fault new → MayRefuse old m call fault new
 body_refuses old new m call ReadFailed begins is why = (begins, why)
 body_refuses old new m call PowerCut begins is why = (begins, why)
 body_refuses old new m call NoMemory begins is why = begins
@@ -106,13 +106,13 @@ pub record ReadsFile (a : Moment) (call : Call) (root : ℕ) (path : Path) (offs
 
 pub read_step : (a b : Moment) (call : Call) (root : ℕ) (path : Path) (offset count : ℕ) (result : Result (List ℕ) Fault) → IsMountedAt a → IsLooked a b → ReadsFile a call root path offset count
     → IfOk result (IsRead (version_tree a root) path offset count)
-    → IfErr result (λ fault. is_body_fault fault ≡ false → file_refusal (version_tree a root) path ≡ Some fault)
-    → IfErr result (λ fault. is_body_fault fault ≡ true → WorkCause (seen_at a) fault (seen_at b))
+    → IfErr result (λ fault. is_look_fault fault ≡ false → file_refusal (version_tree a root) path ≡ Some fault)
+    → IfErr result (λ fault. is_look_fault fault ≡ true → WorkCause (seen_at a) fault (seen_at b))
     → IsStep a call (replied Reply.Bytes result) b (is_cut_answer (replied Reply.Bytes result))
 read_step a b call root path offset count (Ok bytes) m l reads read refused why =
     read_done a b call (Reply.Bytes bytes) m l reads.only (reads.by_path ∙ read.accepted) (λ space. reads.replies space ∙ ap Reply.Bytes (sym read.read))
 read_step a b call root path offset count (Err fault) m l reads read refused why =
-    refused_step a b call fault m (looked_worked a b l) (elim (cases_Bool (is_body_fault fault)) [
+    refused_step a b call fault m (looked_worked a b l) (elim (cases_Bool (is_look_fault fault)) [
       | inl is ↦ inr (body_refuses (seen_at a) (seen_at b) (machine_at a) call fault reads.begins is (why is))
       | inr other ↦ inl (reads.by_path ∙ refused other)
     ])

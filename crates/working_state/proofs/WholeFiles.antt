@@ -26,7 +26,7 @@ use Rattle.directory.specs.declared.lookups.Found.TheVariants as found
 use Rattle.directory.specs.Lookups.{look_up, found_entry, is_path_fault, IsLookupFault}
 use Rattle.directory.proofs.LookupLaws.{found_is, missing_parent, refused_is, rooted_leads}
 use Rattle.directory.proofs.TrailEdits.{look_later, trail_later}
-use Rattle.skip_list_file.specs.Reading.{is_body_fault}
+use Rattle.node_store.specs.Faults.{is_look_fault}
 use Rattle.tree_edits.specs.Edits.{TakesFile}
 use Rattle.working_state.specs.Moments.{Moment, machine_at, seen_at, IsMountedAt, IsRefused, nodes_at, capacity_at, version_tree}
 use Rattle.working_state.specs.WholeFiles.{place_refusal, is_as_long, file_bytes, IsWholeFile}
@@ -206,7 +206,7 @@ same_changes b root path bytes (found.File head size) same m is led long compare
     ∙ ap (λ xs. not (same_bytes xs bytes)) shown.shown ∙ ap not (sym compared)
 
 -- a file that is there is refused to be compared only for what reads are
-pub body_cause : (old new : Seen) (fault : Fault) → is_body_fault fault ≡ true → WorkCause old fault new → ReadCause old fault new
+pub body_cause : (old new : Seen) (fault : Fault) → is_look_fault fault ≡ true → WorkCause old fault new → ReadCause old fault new
 body_cause old new ReadFailed is why = why
 body_cause old new PowerCut is why = why
 body_cause old new NoMemory is why = tt

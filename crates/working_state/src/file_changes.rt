@@ -21,7 +21,6 @@ ghost use Rattle.working_state.specs.Steps.{replied, empty};
 ghost use Rattle.working_state.specs.Worked.{ReadCause};
 ghost use Rattle.working_state.specs.Moments.{IsAnswered, moment};
 
-use crate::changes::change;
 use crate::lookups::find_path;
 use crate::state::State;
 use bitflags::Flags;
@@ -63,14 +62,7 @@ impl State {
             offset: offset as u32,
             bytes,
         };
-        change(
-            alloc,
-            flash,
-            &mut self.history,
-            &mut self.group,
-            &mut self.storage,
-            edit,
-        )?;
+        self.change(alloc, flash, edit)?;
         Ok(bytes.len() as u64)
     }
 
@@ -97,14 +89,7 @@ impl State {
             body,
             length: size as u32,
         };
-        change(
-            alloc,
-            flash,
-            &mut self.history,
-            &mut self.group,
-            &mut self.storage,
-            edit,
-        )
+        self.change(alloc, flash, edit)
     }
 }
 

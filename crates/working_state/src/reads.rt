@@ -9,7 +9,7 @@ ghost use Rattle.fs_types.specs.declared.fault.Fault.TheVariants.{BadDescriptor}
 ghost use Rattle.node_format.specs.Headers.{body_header};
 ghost use Rattle.node_store.specs.NodePages.{node_of};
 ghost use Rattle.block_trees.specs.Trees.{root_tree, IsRoot};
-ghost use Rattle.skip_list_file.specs.Reading.{is_body_fault};
+ghost use Rattle.node_store.specs.Faults.{is_look_fault};
 ghost use Rattle.working_state.specs.Changes.{IsReady};
 ghost use Rattle.working_state.specs.Leaves.{HasLooked};
 ghost use Rattle.working_state.specs.Looking.{AsksForRange, IsReadOf, look_nodes};
@@ -92,8 +92,8 @@ pub(crate) fn read_below<F: Flash>(
     ensures looked { HasLooked (F.device flash.old) storage.old (F.device flash.new) storage.new }
     ensures asks { AsksForRange (F.device flash.old) (look_nodes (tree_on (F.device flash.old) root) path.now) (bytes_of_file (tree_on (F.device flash.old) root) path.now) offset count (F.device flash.new) }
     ensures read { IfOk result (IsRead (tree_on (F.device flash.old) root) path.now offset count) }
-    ensures refused { IfErr result (λ fault. is_body_fault fault ≡ false → file_refusal (tree_on (F.device flash.old) root) path.now ≡ Some fault) }
-    ensures why { IfErr result (λ fault. is_body_fault fault ≡ true → WorkCause (seen_of (F.device flash.old) storage.old) fault (seen_of (F.device flash.new) storage.new)) }
+    ensures refused { IfErr result (λ fault. is_look_fault fault ≡ false → file_refusal (tree_on (F.device flash.old) root) path.now ≡ Some fault) }
+    ensures why { IfErr result (λ fault. is_look_fault fault ≡ true → WorkCause (seen_of (F.device flash.old) storage.old) fault (seen_of (F.device flash.new) storage.new)) }
 {
     let mut store = Store::new(flash, storage);
     read_file(alloc, &mut store, root, path, offset, count)
@@ -113,8 +113,8 @@ fn read_file<N: Nodes>(
 
     // What was read, and why not.
     ensures read { IfOk result (IsRead (root_tree (N.limit nodes.old - body_header) (N.node nodes.old) root) path.now offset count) }
-    ensures refused { IfErr result (λ fault. is_body_fault fault ≡ false → file_refusal (root_tree (N.limit nodes.old - body_header) (N.node nodes.old) root) path.now ≡ Some fault) }
-    ensures why { IfErr result (λ fault. is_body_fault fault ≡ true → N.causes nodes.old nodes.new fault) }
+    ensures refused { IfErr result (λ fault. is_look_fault fault ≡ false → file_refusal (root_tree (N.limit nodes.old - body_header) (N.node nodes.old) root) path.now ≡ Some fault) }
+    ensures why { IfErr result (λ fault. is_look_fault fault ≡ true → N.causes nodes.old nodes.new fault) }
 
     // What was asked of the nodes.
     ensures reads { (most : ℕ) → IsReadOf (N.limit nodes.old - body_header) (look_nodes (root_tree (N.limit nodes.old - body_header) (N.node nodes.old) root) path.now) (bytes_of_file (root_tree (N.limit nodes.old - body_header) (N.node nodes.old) root) path.now) offset count most → N.reads nodes.new ≤ N.reads nodes.old + most }

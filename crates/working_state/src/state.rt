@@ -43,11 +43,14 @@ pub struct State {
 }
 
 impl State {
-    /// The root of the tree that calls work on.
+    /// The root of the tree that calls work on: the group's, where one is open, else the present one.
     pub(crate) fn root(&self) -> u32
         ensures { working_root self.now.history self.now.group ≡ Some result }
     {
-        root_of(&self.history, &self.group)
+        match &self.group {
+            Some(group) => group.root,
+            None => *self.history.root(),
+        }
     }
 
     /// The working state of a fresh system on a flash of lawful sizes, of which these anchors are bad
@@ -85,16 +88,6 @@ impl State {
             files: OpenFiles::new(),
             is_off: false,
         })
-    }
-}
-
-/// The root of the tree that calls work on: the group's, where one is open, else the present one.
-pub(crate) fn root_of(history: &History<u32>, group: &Option<Group<u32>>) -> u32
-    ensures { working_root history.now group.now ≡ Some result }
-{
-    match group {
-        Some(group) => group.root,
-        None => *history.root(),
     }
 }
 

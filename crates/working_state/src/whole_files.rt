@@ -14,7 +14,7 @@ ghost use Rattle.tree_edits.specs.Edits.{TakesFile};
 ghost use Rattle.working_state.specs.Mounted.{IsMounted};
 ghost use Rattle.working_state.specs.Moments.{IsAnswered, IsRefused, moment, machine_at, seen_at};
 ghost use Rattle.plain_trees.specs.Contents.{same_bytes};
-ghost use Rattle.skip_list_file.specs.Reading.{IsBodyFault};
+ghost use Rattle.node_store.specs.Faults.{IsLookFault};
 ghost use Rattle.working_state.specs.Changes.{IsReady};
 ghost use Rattle.working_state.specs.Leaves.{HasLooked};
 ghost use Rattle.working_state.specs.Seen.{capacity_of, seen_of};
@@ -22,7 +22,6 @@ ghost use Rattle.working_state.specs.WholeFiles.{place_refusal, is_as_long, file
 ghost use Rattle.working_state.specs.Steps.{replied, empty};
 ghost use Rattle.working_state.specs.Worked.{IsLooked, ReadCause, WorkCause};
 
-use crate::changes::change;
 use crate::lookups::find_path;
 use crate::state::State;
 use directory::{Found, Trail};
@@ -57,14 +56,7 @@ impl State {
             trail: &trail,
             bytes,
         };
-        change(
-            alloc,
-            flash,
-            &mut self.history,
-            &mut self.group,
-            &mut self.storage,
-            edit,
-        )
+        self.change(alloc, flash, edit)
     }
 
     /// Refuses a path where no whole file is written, and too many bytes. Answers what stands there, and
@@ -149,7 +141,7 @@ fn is_same<F: Flash>(
     requires whole { IsWholeFile (capacity_of (F.device flash.old)) (node_of (F.device flash.old)) found (length bytes.now) }
     ensures looked { HasLooked (F.device flash.old) storage.old (F.device flash.new) storage.new }
     ensures same { IfOk result (λ same. same ≡ same_bytes (file_bytes (capacity_of (F.device flash.old)) (node_of (F.device flash.old)) found) bytes.now) }
-    ensures refused { IfErr result (λ fault. IsBodyFault fault × WorkCause (seen_of (F.device flash.old) storage.old) fault (seen_of (F.device flash.new) storage.new)) }
+    ensures refused { IfErr result (λ fault. IsLookFault fault × WorkCause (seen_of (F.device flash.old) storage.old) fault (seen_of (F.device flash.new) storage.new)) }
 {
     let Found::File { head, length } = found else {
         unreachable!()

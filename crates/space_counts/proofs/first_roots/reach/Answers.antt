@@ -32,8 +32,9 @@ returns-in_err-read_all-clause-why g c =
     let f = g.N.Nodes.node c.args.nodes.now in
     let limit = g.N.Nodes.limit c.args.nodes.now in
     rw (p.1, p.2)
-    (c.in_err-read_all.ensures.why
-    (not_damaged limit f c.add_root.new.self c.in_err-read_all.field-0.0 (c.in_ok-add_root.ensures.known limit f c.requires.tree c.requires.walked.known) (λ is. c.in_err-read_all.ensures.damaged (ap Err is))))
+    (c.in_err-read_all.ensures.calls.why
+    (look_fault c.in_err-read_all.field-0.0 c.in_err-read_all.ensures.calls.faults
+    (not_damaged limit f c.add_root.new.self c.in_err-read_all.field-0.0 (c.in_ok-add_root.ensures.known limit f c.requires.tree c.requires.walked.known) (λ is. c.in_err-read_all.ensures.damaged (ap Err is)))))
 
 pub returns-in_err-read_all-clause-faults : goal.returns-in_err-read_all-clause-faults
 returns-in_err-read_all-clause-faults g c =
@@ -41,7 +42,7 @@ returns-in_err-read_all-clause-faults g c =
     let f = g.N.Nodes.node c.args.nodes.now in
     let limit = g.N.Nodes.limit c.args.nodes.now in
     rw (p.1, p.2)
-    (look_fault c.in_err-read_all.field-0.0 c.in_err-read_all.ensures.faults
+    (look_fault c.in_err-read_all.field-0.0 c.in_err-read_all.ensures.calls.faults
     (not_damaged limit f c.add_root.new.self c.in_err-read_all.field-0.0 (c.in_ok-add_root.ensures.known limit f c.requires.tree c.requires.walked.known) (λ is. c.in_err-read_all.ensures.damaged (ap Err is))))
 
 pub set_numbers-requires : goal.set_numbers-requires
@@ -55,18 +56,20 @@ returns-clause-walked g c =
     let f = g.N.Nodes.node c.args.nodes.now in
     let p = c.args.pass.now in
     let q = c.read_all.new.self in
-    let looks = c.read_all.ensures.looks in
+    let looks = c.read_all.ensures.calls.looks in
     let numbers = c.set_numbers.new.numbers in
     let adds = c.in_ok-add_root.ensures.added in
     let on = c.read_all.ensures.on in
-    let ended = c.in_ok-read_all.ensures.pass in
+    let ended = c.in_ok-read_all.ensures.read.0 in
+    let marks = c.in_ok-read_all.ensures.read.1 in
+    let pass = marks.pass (c.in_ok-add_root.ensures.pass f c.requires.walked.pass) in
     let rest = rest_is c.marked.result.now c.marked-seen.result.now p.order q.order c.marked.ensures.listed c.marked-seen.ensures.listed in
     record {
-      pass = ended.0;
-      finished = ended.1;
-      known = c.in_ok-read_all.ensures.read.2;
+      pass = pass;
+      finished = ended;
+      known = marks.known;
       numbered = subst (λ (h : Blocks). AreFirstRoots h q.roots numbers) (sym looks.same_nodes)
-          (first_on f p q c.args.root c.requires.walked.pass c.requires.walked.finished (subst (λ (h : Blocks). IsPass h q) looks.same_nodes ended.0) ended.1 (on.roots ∙ adds.roots)
+          (first_on f p q c.args.root c.requires.walked.pass c.requires.walked.finished (subst (λ (h : Blocks). IsPass h q) looks.same_nodes pass) ended (on.roots ∙ adds.roots)
           (begins_on p.order c.add_root.new.self.order q.order adds.begins on.begins) c.args.firsts.now numbers c.requires.walked.numbered
           (λ b has. c.set_numbers.ensures.given b (subst (λ (l : List ℕ). Contains l b) (sym rest) has) ∙ c.requires.number)
           (λ b none. c.set_numbers.ensures.others b (λ has. none (subst (λ (l : List ℕ). Contains l b) rest has))));

@@ -10,13 +10,15 @@ use Rattle.node_format.specs.Items.{Item}
 use Rattle.block_trees.specs.Trees.{entries_in}
 use Rattle.std.specs.Option.{option_copied}
 use Rattle.directory.specs.Places.{places_after}
+use Rattle.working_state.proofs.StoreReads.{path_causes, read_looks}
+use Rattle.node_store.specs.Stores.{Causes}
 use Rattle.working_state.proofs.state.State.places_in.Goals as goal
 
 pub returns-clause-asks : goal.returns-clause-asks
 returns-clause-asks g c =
     on_devices (λ d e. AsksBlocks d (length (chain (node_of d) c.args.block)) e) _ (g.F.Flash.device c.new-store.result.flash.now) _ (g.F.Flash.device c.places_after.new.nodes.flash.now)
     (ap (λ b. g.F.Flash.device b.now) c.new-store.ensures.flash) (search rules)
-    (store_asks g.F.Flash.device c.new-store.result c.places_after.new.nodes (length (chain (node_of (g.F.Flash.device c.new-store.result.flash.now)) c.args.block)) c.places_after.ensures.looks.came c.places_after.ensures.looks.same_writes c.places_after.ensures.reads)
+    (store_asks g.F.Flash.device c.new-store.result c.places_after.new.nodes (length (chain (node_of (g.F.Flash.device c.new-store.result.flash.now)) c.args.block)) c.places_after.ensures.calls.looks.came c.places_after.ensures.calls.looks.same_writes c.places_after.ensures.calls.reads)
 
 pub returns-clause-places : goal.returns-clause-places
 returns-clause-places g c =
@@ -27,3 +29,9 @@ pub returns-clause-damaged : goal.returns-clause-damaged
 returns-clause-damaged g c =
     subst (λ (d : Device). IsErrOf c.places_after.result Damaged → entries_in (node_of d) c.args.block ≡ None)
     (ap (λ b. g.F.Flash.device b.now) c.new-store.ensures.flash) c.places_after.ensures.damaged
+
+pub returns-clause-why : goal.returns-clause-why
+returns-clause-why g c = let why = path_causes (Causes g.F.Flash.device c.new-store.result c.places_after.new.nodes) c.places_after.result read_looks c.places_after.ensures.calls.why c.places_after.ensures.calls.faults in search rules
+
+pub returns-clause-faults : goal.returns-clause-faults
+returns-clause-faults g c = c.places_after.ensures.calls.faults

@@ -183,11 +183,7 @@ fn mount_from<'f, F: Planned, S: Start>(
 
 /// Makes an empty file system on a flash, as [`format`] does. The plan goes on by what that asks of the
 /// flash, so that where no fault is planned none comes.
-pub fn format_as_planned<F: Planned>(
-    alloc: Global,
-    flash: &mut F,
-    limit: u32,
-) -> Result<(), Fault>
+pub fn format_as_planned<F: Planned>(alloc: Global, flash: &mut F, limit: u32) -> Result<(), Fault>
     ensures ok { OnOk result (IsFormatted limit (F.device flash.new)) }
     ensures stay { OnOk result ((F.device flash.new).geometry ≡ (F.device flash.old).geometry) }
     ensures listed { OnOk result (ListsFailed (F.device flash.old) (F.device flash.new)) }

@@ -23,10 +23,10 @@ module _ (g : Over) (c : After-peek_data g) where
 
   order : c.saturating_sub-from.result ≤ c.min-to.result
   order = (
-    let some = least in
-    let begins = begins_before (length c.args.room.now) c.loop-place.place (80 + length c.args.bytes.now) (omega arith) below in
-    omega (arith, begins, c.min-to.ensures, c.saturating_sub-from.ensures)
-  )
+      let some = least in
+      let begins = begins_before (length c.args.room.now) c.loop-place.place (80 + length c.args.bytes.now) (omega arith) below in
+      omega (arith, begins, c.min-to.ensures, c.saturating_sub-from.ensures)
+      )
 
   long : length (take (c.min-to.result - c.saturating_sub-from.result) c.loop-place.room) ≡ c.min-to.result - c.saturating_sub-from.result
   long = length-take-le (c.min-to.result - c.saturating_sub-from.result) c.loop-place.room (omega (arith, c.loop-place.auto.room, c.min-to.ensures, c.saturating_sub-from.ensures))

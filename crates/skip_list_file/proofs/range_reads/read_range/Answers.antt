@@ -21,10 +21,10 @@ module _ (g : Over) (c : After-find g) where
   -- there is a byte to read
   some : nodes_of_range (g.N.Nodes.limit c.args.nodes.now - body_header) c.args.body.length c.args.offset c.args.count ≡ 0 → ⊥
   some none = (
-    let capacity = c.capacity_in-capacity.ensures in
-    let least = some_nodes (g.N.Nodes.limit c.args.nodes.now - body_header) c.args.body.length c.args.offset c.args.count (omega (arith, capacity.capacity, capacity.some)) (omega (arith, c.min-end.ensures, c.saturating_add.ensures, c.from.ensures)) in
-    omega (arith, least, none)
-  )
+      let capacity = c.capacity_in-capacity.ensures in
+      let least = some_nodes (g.N.Nodes.limit c.args.nodes.now - body_header) c.args.body.length c.args.offset c.args.count (omega (arith, capacity.capacity, capacity.some)) (omega (arith, c.min-end.ensures, c.saturating_add.ensures, c.from.ensures)) in
+      omega (arith, least, none)
+      )
 
 module _ (g : Over) (c : After-fill g) where
   nodes : nodes_between c.capacity_in-capacity.result c.args.offset c.min-end.result ≡ nodes_of_range (g.N.Nodes.limit c.args.nodes.now - body_header) c.args.body.length c.args.offset c.args.count

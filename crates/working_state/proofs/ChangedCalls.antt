@@ -25,7 +25,7 @@ use Rattle.tree_edits.specs.Edits.{edit_need, source}
 use Rattle.tree_edits.specs.Roots.{IsNewRoot}
 use Rattle.directory.specs.Trails.{IsChangeFault}
 use Rattle.working_state.specs.Moments.{Moment, machine_at, seen_at, IsMountedAt, nodes_at, capacity_at, version_tree, moment}
-use Rattle.working_state.specs.Changes.{IsReady, edited_tree, ReachesFrom, WorkRefuses, IsPushed, ChangeCause, IsChanged, KeepsRest, work, work_at}
+use Rattle.working_state.specs.Changes.{IsReady, edited_tree, ReachesFrom, WorkRefuses, IsPushed, ChangeCause, IsChanged, work, work_at}
 use Rattle.working_state.specs.Leaves.{HasWritten, is_still, Leaves}
 use Rattle.working_state.specs.Looking.{only_looks}
 use Rattle.working_state.specs.Mounted.{IsStanding}
@@ -247,8 +247,7 @@ pub pushed_by : (a b : Moment) (f : Device) (st : Storage) (h : Past ℕ) (k : O
     → IsAnswered a call (Ok reply) (moment f (record b.state { storage = st; history = h; group = k; files = files }))
 pushed_by a b f st h k files call {edit} reply pushed by few written m l opens own = pushed_answer a b f st h k files call edit reply m l by few written pushed opens own
 
-pub change_by : (a b : Moment) (f : Device) (new : State) (root : ℕ) (call : Call) {edit : Edit} (result : Result (Unit {0}) Fault) → IsChanged (work_at b) edit result (work_at (moment f new)) → KeepsRest b.state new
+pub change_by : (a b : Moment) (f : Device) (st : Storage) (h : Past ℕ) (k : Option (Group ℕ)) (root : ℕ) (call : Call) {edit : Edit} (result : Result (Unit {0}) Fault) → IsChanged (work_at b) edit result (work f h k st)
     → IsChangeBy a call (edited_tree b.device edit) Reply.Empty → NeedsFew b edit a call → IsMountedAt a → working_root a.state.history a.state.group ≡ Some root → IsLooked a b → descriptors_after (machine_at a) call ≡ a.state.files → IsOfTree edit
-    → IsAnswered a call (replied empty result) (moment f new)
-change_by a b f new root call {edit} result changes rest by few m is l files own =
-    subst (λ s. IsAnswered a call (replied empty result) (moment f s)) (sym rest) (change_answer a b f new.storage new.history new.group root call edit result m is l by few files own changes)
+    → IsAnswered a call (replied empty result) (moment f (record b.state { storage = st; history = h; group = k }))
+change_by a b f st h k root call {edit} result changes by few m is l files own = change_answer a b f st h k root call edit result m is l by few files own changes

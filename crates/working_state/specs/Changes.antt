@@ -19,7 +19,6 @@ use Rattle.tree_edits.specs.Edits.{IsEditable, source, effect, edit_need}
 use Rattle.tree_edits.specs.Roots.{IsWrittenNode}
 use Rattle.working_state.specs.Leaves.{HasWritten}
 use Rattle.working_state.specs.Moments.{Moment}
-use Rattle.working_state.specs.declared.state.State.{State}
 use Rattle.working_state.specs.Mounted.{IsStanding}
 use Rattle.working_state.specs.Seen.{capacity_of, tree_on, seen_of}
 use Rattle.bad_blocks.specs.Mode.{is_read_only}
@@ -145,10 +144,6 @@ abbrev pub ChangeEnds : Work → Edit → Result (Unit {0}) Fault → Work → T
 ChangeEnds old edit (Ok x) new = IsPushed old edit new
 ChangeEnds old edit (Err fault) new =
     (new.history ≡ old.history) × (new.group ≡ old.group) × ChangeCause old edit fault new.device new.storage
-
--- the history, the group and the storage may be others; the open files and the power are as they were
-abbrev pub KeepsRest : State → State → Type 0
-KeepsRest old new = new ≡ record old { storage = new.storage; history = new.history; group = new.group }
 
 -- what a change leaves, whatever it answers; one that needs no node leaves flash and storage as they were
 pub record IsChanged (old : Work) (edit : Edit) (result : Result (Unit {0}) Fault) (new : Work) : Type 0 where

@@ -4,12 +4,11 @@
 //! version.
 ghost use Rattle.std.specs.Prelude.{◌≡◌, ℕ, Some};
 ghost use Rattle.history_machine.specs.History.{working_root, history_with, group_with};
-ghost use Rattle.working_state.specs.Changes.{IsReady, CanApply, storage_moment, IsTried, IsChanged, KeepsRest, LeavesSerial, work_at};
-ghost use Rattle.working_state.specs.Moments.{moment};
+ghost use Rattle.working_state.specs.Changes.{IsReady, CanApply, storage_moment, IsTried, IsChanged, LeavesSerial, work};
 ghost use Rattle.working_state.specs.Mounted.{IsStanding};
 
 use crate::checks::{check_change, check_writable};
-use crate::state::State;
+use crate::state::root_of;
 use flash_model::Flash;
 use fs_types::{Fault, Group};
 use history::History;
@@ -17,28 +16,27 @@ use node_store::{Storage, Store};
 use std::alloc::Global;
 use tree_edits::{Edit, apply};
 
-impl State {
-    /// Makes an edit of the tree that calls work on: in a group that of the group, else a version, which
-    /// is the present one then.
-    pub(crate) fn change<F: Flash>(
-        &mut self,
-        alloc: Global,
-        flash: &mut F,
-        edit: Edit<'_, '_>,
-    ) -> Result<(), Fault>
-        requires ready { IsReady (F.device flash.old) self.old.storage }
-        requires stands { (root : ℕ) → working_root self.old.history self.old.group ≡ Some root → IsStanding (F.device flash.old) self.old.storage.ring root }
-        requires editable { (root : ℕ) → working_root self.old.history self.old.group ≡ Some root → CanApply (F.device flash.old) self.old.storage root edit }
-        ensures changed { IsChanged (work_at (moment (F.device flash.old) self.old)) edit.entry result (work_at (moment (F.device flash.new) self.new)) }
-        ensures rest { KeepsRest self.old self.new }
-    {
-        check_change(&self.history, &self.group, &self.storage)?;
-        let root = self.root();
-        let root = try_change(alloc, flash, &mut self.storage, root, edit)?;
-        check_writable(&self.storage)?;
-        adopt(&mut self.history, &mut self.group, root);
-        Ok(())
-    }
+/// Makes an edit of the tree that calls work on: in a group that of the group, else a version, which is
+/// the present one then.
+pub(crate) fn change<F: Flash>(
+    alloc: Global,
+    flash: &mut F,
+    history: &mut History<u32>,
+    group: &mut Option<Group<u32>>,
+    storage: &mut Storage,
+    edit: Edit<'_, '_>,
+) -> Result<(), Fault>
+    requires ready { IsReady (F.device flash.old) storage.old }
+    requires stands { (root : ℕ) → working_root history.old group.old ≡ Some root → IsStanding (F.device flash.old) storage.old.ring root }
+    requires editable { (root : ℕ) → working_root history.old group.old ≡ Some root → CanApply (F.device flash.old) storage.old root edit }
+    ensures { IsChanged (work (F.device flash.old) history.old group.old storage.old) edit.entry result (work (F.device flash.new) history.new group.new storage.new) }
+{
+    check_change(history, group, storage)?;
+    let root = root_of(history, group);
+    let root = try_change(alloc, flash, storage, root, edit)?;
+    check_writable(storage)?;
+    adopt(history, group, root);
+    Ok(())
 }
 
 /// Gives the root of a change to the group, for which a version is due then, or else to a new version.

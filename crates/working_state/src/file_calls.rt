@@ -17,6 +17,7 @@ ghost use Rattle.working_state.specs.Steps.{replied, empty, Refuses};
 ghost use Rattle.working_state.specs.Worked.{IsLooked};
 ghost use Rattle.working_state.specs.Moments.{IsAnswered, IsRefused, moment, machine_at};
 
+use crate::changes::change;
 use crate::lookups::find_path;
 use crate::state::State;
 use bitflags::Flags;
@@ -63,7 +64,14 @@ impl State {
             path,
             trail: &trail,
         };
-        self.change(alloc, flash, edit)?;
+        change(
+            alloc,
+            flash,
+            &mut self.history,
+            &mut self.group,
+            &mut self.storage,
+            edit,
+        )?;
         self.files.open(descriptor, file);
         Ok(descriptor)
     }

@@ -21,6 +21,7 @@ ghost use Rattle.working_state.specs.Steps.{replied, empty};
 ghost use Rattle.working_state.specs.Worked.{ReadCause};
 ghost use Rattle.working_state.specs.Moments.{IsAnswered, moment};
 
+use crate::changes::change;
 use crate::lookups::find_path;
 use crate::state::State;
 use bitflags::Flags;
@@ -62,7 +63,14 @@ impl State {
             offset: offset as u32,
             bytes,
         };
-        self.change(alloc, flash, edit)?;
+        change(
+            alloc,
+            flash,
+            &mut self.history,
+            &mut self.group,
+            &mut self.storage,
+            edit,
+        )?;
         Ok(bytes.len() as u64)
     }
 
@@ -89,7 +97,14 @@ impl State {
             body,
             length: size as u32,
         };
-        self.change(alloc, flash, edit)
+        change(
+            alloc,
+            flash,
+            &mut self.history,
+            &mut self.group,
+            &mut self.storage,
+            edit,
+        )
     }
 }
 

@@ -9,6 +9,7 @@ ghost use Rattle.working_state.specs.Moments.{IsAnswered, moment};
 ghost use Rattle.working_state.specs.Mounted.{IsMounted, StateStep};
 ghost use Rattle.working_state.specs.Steps.{replied, empty};
 
+use crate::changes::change;
 use crate::checks::check_writable;
 use crate::state::State;
 use flash_model::Flash;
@@ -58,7 +59,14 @@ impl State {
     {
         let root = *self.history.checkpoint_root(name)?;
         let edit = Edit::Restore { root };
-        self.change(alloc, flash, edit)
+        change(
+            alloc,
+            flash,
+            &mut self.history,
+            &mut self.group,
+            &mut self.storage,
+            edit,
+        )
     }
 
     /// The oldest versions before the present one are dropped.

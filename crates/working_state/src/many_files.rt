@@ -25,6 +25,7 @@ ghost use Rattle.working_state.specs.Moments.{IsAnswered, moment, machine_at};
 ghost use Rattle.working_state.specs.Steps.{replied, empty};
 ghost use Rattle.working_state.specs.Worked.{IsLooked};
 
+use crate::changes::change;
 use crate::lookups::{find_in, find_path};
 use crate::state::State;
 use directory::{Found, Trail};
@@ -87,7 +88,14 @@ impl State {
             files,
             changes: changes.as_slice(),
         };
-        self.change(alloc, flash, edit)
+        change(
+            alloc,
+            flash,
+            &mut self.history,
+            &mut self.group,
+            &mut self.storage,
+            edit,
+        )
     }
 
     /// The directory at a path, in which files are written.

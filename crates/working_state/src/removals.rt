@@ -16,6 +16,7 @@ ghost use Rattle.working_state.specs.Steps.{replied, empty, Refuses};
 ghost use Rattle.working_state.specs.Worked.{IsLooked};
 ghost use Rattle.working_state.specs.Moments.{IsAnswered, IsRefused, moment, machine_at};
 
+use crate::changes::change;
 use crate::lookups::find_path;
 use crate::state::State;
 use directory::{Found, Trail};
@@ -41,7 +42,14 @@ impl State {
             path,
             trail: &trail,
         };
-        self.change(alloc, flash, edit)
+        change(
+            alloc,
+            flash,
+            &mut self.history,
+            &mut self.group,
+            &mut self.storage,
+            edit,
+        )
     }
 
     /// Refuses the root, a path where no directory stands, and that of a directory with entries.
@@ -101,7 +109,14 @@ impl State {
             path,
             trail: &trail,
         };
-        self.change(alloc, flash, edit)
+        change(
+            alloc,
+            flash,
+            &mut self.history,
+            &mut self.group,
+            &mut self.storage,
+            edit,
+        )
     }
 
     /// Refuses a path where no file stands, and that of an open file. Answers the directories that the

@@ -25,6 +25,7 @@ ghost use Rattle.working_state.specs.Steps.{replied, empty, Refuses};
 ghost use Rattle.working_state.specs.Worked.{IsLooked, WorkCause, ReadCause};
 ghost use Rattle.working_state.specs.Moments.{IsAnswered, IsRefused, moment, seen_at, machine_at};
 
+use crate::changes::change;
 use crate::lookups::{find_path, find_path_beside};
 use crate::state::State;
 use directory::{Found, Trail, is_deeper};
@@ -67,7 +68,14 @@ impl State {
             new_trail: &moves.new_trail,
             place: moves.place,
         };
-        self.change(alloc, flash, edit)
+        change(
+            alloc,
+            flash,
+            &mut self.history,
+            &mut self.group,
+            &mut self.storage,
+            edit,
+        )
     }
 
     /// What is to be moved, or nothing where both paths are the same.

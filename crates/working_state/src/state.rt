@@ -43,14 +43,11 @@ pub struct State {
 }
 
 impl State {
-    /// The root of the tree that calls work on: the group's, where one is open, else the present one.
+    /// The root of the tree that calls work on.
     pub(crate) fn root(&self) -> u32
         ensures { working_root self.now.history self.now.group ≡ Some result }
     {
-        match &self.group {
-            Some(group) => group.root,
-            None => *self.history.root(),
-        }
+        root_of(&self.history, &self.group)
     }
 
     /// The working state of a fresh system on a flash of lawful sizes, of which these anchors are bad
@@ -88,6 +85,16 @@ impl State {
             files: OpenFiles::new(),
             is_off: false,
         })
+    }
+}
+
+/// The root of the tree that calls work on: the group's, where one is open, else the present one.
+pub(crate) fn root_of(history: &History<u32>, group: &Option<Group<u32>>) -> u32
+    ensures { working_root history.now group.now ≡ Some result }
+{
+    match group {
+        Some(group) => group.root,
+        None => *history.root(),
     }
 }
 

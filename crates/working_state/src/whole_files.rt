@@ -22,6 +22,7 @@ ghost use Rattle.working_state.specs.WholeFiles.{place_refusal, is_as_long, file
 ghost use Rattle.working_state.specs.Steps.{replied, empty};
 ghost use Rattle.working_state.specs.Worked.{IsLooked, ReadCause, WorkCause};
 
+use crate::changes::change;
 use crate::lookups::find_path;
 use crate::state::State;
 use directory::{Found, Trail};
@@ -56,7 +57,14 @@ impl State {
             trail: &trail,
             bytes,
         };
-        self.change(alloc, flash, edit)
+        change(
+            alloc,
+            flash,
+            &mut self.history,
+            &mut self.group,
+            &mut self.storage,
+            edit,
+        )
     }
 
     /// Refuses a path where no whole file is written, and too many bytes. Answers what stands there, and

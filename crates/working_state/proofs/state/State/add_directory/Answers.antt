@@ -44,5 +44,5 @@ returns g c =
     let looked = c.check_missing.ensures.looked in
     let by = mkdir_change a b c.args.path.now c.requires looked c.in_ok-trail.ensures.accepted c.in_ok-trail.ensures.lawful in
     let few = put_way a b (Call.Mkdir c.args.path.now) (λ _. Entry.Dir) Reply.Empty c.root-root.result c.args.path.now c.in_ok-trail.trail c.requires c.root-root.ensures looked by c.in_ok-trail.ensures.way in
-    change_by a b (g.F.Flash.device c.change.new.flash) c.change.new.self c.root-root.result (Call.Mkdir c.args.path.now) c.change.result c.change.ensures.changed c.change.ensures.rest
+    change_by a b (g.F.Flash.device c.change.new.flash) c.change.new.storage c.change.new.history c.change.new.group c.root-root.result (Call.Mkdir c.args.path.now) c.change.result c.change.ensures
     by (omega arith) c.requires c.root-root.ensures looked refl (λ _. refl)

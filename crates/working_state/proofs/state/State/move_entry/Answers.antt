@@ -47,7 +47,7 @@ returns g c =
     let by = rename_change a b c.args.old.now c.args.new.now c.requires looked c.in_ok-moves.ensures.accepted movable.0 movable.1.lawful in
     let apart = rename_apart a c.args.old.now c.args.new.now c.requires c.in_ok-moves.ensures.accepted movable.0 in
     let few = move_way a b (Call.Rename c.args.old.now c.args.new.now) Reply.Empty c.root-root.result c.args.old.now it.old_trail c.args.new.now it.new_trail it.place c.requires c.root-root.ensures looked by apart movable.1 in
-    change_by a b (g.F.Flash.device c.change.new.flash) c.change.new.self c.root-root.result (Call.Rename c.args.old.now c.args.new.now) c.change.result c.change.ensures.changed c.change.ensures.rest
+    change_by a b (g.F.Flash.device c.change.new.flash) c.change.new.storage c.change.new.history c.change.new.group c.root-root.result (Call.Rename c.args.old.now c.args.new.now) c.change.result c.change.ensures
     by few c.requires c.root-root.ensures looked refl (λ _. refl)
 
 pub returns-in_default : goal.returns-in_default

@@ -12,7 +12,7 @@ use Rattle.directory.specs.Lookups.{look_up}
 use Rattle.directory.specs.Trails.{IsTrail}
 use Rattle.directory.specs.declared.lookups.Found.{Found}
 use Rattle.tree_edits.specs.Edits.{TakesFile}
-use Rattle.working_state.specs.Moments.{Moment, moment, machine_at, nodes_at, IsAnswered}
+use Rattle.working_state.specs.Moments.{Moment, moment, machine_at, nodes_at}
 use Rattle.working_state.proofs.ChangedCalls.{looked_ready, looked_stands, at_working, pushed_by, refused_change}
 use Rattle.working_state.proofs.Needs.{put_way}
 use Rattle.working_state.proofs.OpenCalls.{changes_is, found_below, at_answer, refused_answer, opened_answer}
@@ -84,10 +84,8 @@ returns-in_err-change g c =
     let way : IsTrail (nodes_at b) c.root-root.result path c.in_ok-found.trail = subst (λ (n : Blocks). IsTrail n c.root-root.result path c.in_ok-found.trail) (sym c.check_open.ensures.nodes) ok.way in
     let few = put_way a b call (λ _. Entry.File []) (Reply.Fd descriptor) c.root-root.result path c.in_ok-found.trail c.requires c.root-root.ensures looked by way in
     let fault = c.in_err-change.field-0.0 in
-    let new = c.change.new.self in
-    at_answer Reply.Fd a (moment f new) call fault c.from_residual-in_err-change.result (p.1 ∙ ap Err p.2)
-    (subst (λ t. IsAnswered a call (Err fault) (moment f t)) (sym c.change.ensures.rest)
-    (refused_change a b f new.storage new.history new.group c.root-root.result call _ (Reply.Fd descriptor) fault c.requires c.root-root.ensures looked by few c.in_err-change.ensures.changed.written c.in_err-change.ensures.changed.ends))
+    at_answer Reply.Fd a (moment f (record b.state { storage = c.change.new.storage; history = c.change.new.history; group = c.change.new.group })) call fault c.from_residual-in_err-change.result (p.1 ∙ ap Err p.2)
+    (refused_change a b f c.change.new.storage c.change.new.history c.change.new.group c.root-root.result call _ (Reply.Fd descriptor) fault c.requires c.root-root.ensures looked by few c.in_err-change.ensures.written c.in_err-change.ensures.ends)
 
 pub returns : goal.returns
 returns g c =
@@ -107,7 +105,5 @@ returns g c =
     let few = put_way a b call (λ _. Entry.File []) (Reply.Fd descriptor) c.root-root.result path c.in_ok-found.trail c.requires c.root-root.ensures looked by way in
     let opens : c.open-2.new.self ≡ opened b.state.files descriptor (record { path = path; flags = flags }) =
     c.open-2.ensures ∙ ap (λ (f : Descriptor). opened b.state.files descriptor f) (c.new-file.ensures ∙ ap (λ p. record { path = p; flags = flags }) c.in_ok-clone.ensures) in
-    let new = c.change.new.self in
-    subst (λ t. IsAnswered a call (Ok (Reply.Fd descriptor)) (moment f (record t { files = c.open-2.new.self }))) (sym c.change.ensures.rest)
-    (pushed_by a b f new.storage new.history new.group c.open-2.new.self call (Reply.Fd descriptor) c.in_ok-change.ensures.changed.ends by few c.in_ok-change.ensures.changed.written c.requires looked
-    (open_descriptors a b path flags descriptor c.open-2.new.self looked ok.descriptor opens) (λ _. refl))
+    pushed_by a b f c.change.new.storage c.change.new.history c.change.new.group c.open-2.new.self call (Reply.Fd descriptor) c.in_ok-change.ensures.ends by few c.in_ok-change.ensures.written c.requires looked
+    (open_descriptors a b path flags descriptor c.open-2.new.self looked ok.descriptor opens) (λ _. refl)

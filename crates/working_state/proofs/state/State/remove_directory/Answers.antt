@@ -46,5 +46,5 @@ returns g c =
     let looked = c.check_empty.ensures.looked in
     let by = rmdir_change a b c.args.path.now c.requires looked c.in_ok-trail.ensures.accepted c.in_ok-trail.ensures.lawful c.in_ok-trail.ensures.below in
     let few = taken_way a b (Call.Rmdir c.args.path.now) Reply.Empty c.root-root.result c.args.path.now c.in_ok-trail.trail c.requires c.root-root.ensures looked by c.in_ok-trail.ensures.way in
-    change_by a b (g.F.Flash.device c.change.new.flash) c.change.new.self c.root-root.result (Call.Rmdir c.args.path.now) c.change.result c.change.ensures.changed c.change.ensures.rest
+    change_by a b (g.F.Flash.device c.change.new.flash) c.change.new.storage c.change.new.history c.change.new.group c.root-root.result (Call.Rmdir c.args.path.now) c.change.result c.change.ensures
     by few c.requires c.root-root.ensures looked refl (λ _. refl)

@@ -48,5 +48,5 @@ returns g c =
     let by = unlink_change a b c.args.path.now c.requires looked c.in_ok-trail.ensures.accepted c.in_ok-trail.ensures.lawful
     (file_below (node_of (g.F.Flash.device c.check_file.new.flash)) c.root-root.result c.args.path.now c.in_ok-trail.ensures.found.0 c.in_ok-trail.ensures.found.1 c.in_ok-trail.ensures.found.2) in
     let few = taken_way a b (Call.Unlink c.args.path.now) Reply.Empty c.root-root.result c.args.path.now c.in_ok-trail.trail c.requires c.root-root.ensures looked by c.in_ok-trail.ensures.way in
-    change_by a b (g.F.Flash.device c.change.new.flash) c.change.new.self c.root-root.result (Call.Unlink c.args.path.now) c.change.result c.change.ensures.changed c.change.ensures.rest
+    change_by a b (g.F.Flash.device c.change.new.flash) c.change.new.storage c.change.new.history c.change.new.group c.root-root.result (Call.Unlink c.args.path.now) c.change.result c.change.ensures
     by few c.requires c.root-root.ensures looked refl (λ _. refl)

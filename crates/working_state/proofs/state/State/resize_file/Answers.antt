@@ -95,6 +95,6 @@ returns g c =
     let call = Call.Ftruncate c.args.descriptor c.args.size in
     let f = g.F.Flash.device c.change.new.flash in
     let by = changes.file_change a b call path (λ old. resized old c.args.size) Reply.Empty c.requires looked change (λ space. refl) in
-    change_by a b f c.change.new.self c.root-root.result call c.change.result c.change.ensures.changed c.change.ensures.rest by
+    change_by a b f c.change.new.storage c.change.new.history c.change.new.group c.root-root.result call c.change.result c.change.ensures by
     (changes.ftruncate_few a b c.root-root.result c.args.descriptor c.args.size path c.in_ok-body.trail c.in_ok-body.body.head c.in_ok-body.body.length (λ r. Entry.File (resized (bytes_of_file (version_tree b r) path) c.args.size)) Reply.Empty
     c.requires c.root-root.ensures looked c.in_ok-path.ensures.path there by (c.in_ok-body.ensures.way (stands_lead a c.root-root.result c.requires c.root-root.ensures))) c.requires c.root-root.ensures looked refl (λ _. refl)

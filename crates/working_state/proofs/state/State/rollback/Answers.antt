@@ -1,13 +1,12 @@
 -- A name that is not there is refused as the machine refuses it; a change to its root is the machine's change to its tree.
-use Rattle.std.proofs.Common.{◌∙◌, inl, subst, sym}
+use Rattle.std.proofs.Common.{◌∙◌, inl}
 use Rattle.std.proofs.lemmas.Result.{err_from_is_err_and}
 use Rattle.std.specs.Option.{is_some}
 use Rattle.history_machine.specs.History.{name_refusal}
 use Rattle.history_machine.specs.HistoryMaps.{name_refusal-map}
 use Rattle.fs_types.specs.declared.call.Call.{Call}
 use Rattle.fs_types.specs.declared.fault.Fault.{Fault}
-use Rattle.working_state.specs.Moments.{Moment, moment, IsAnswered}
-use Rattle.working_state.specs.Steps.{replied, empty}
+use Rattle.working_state.specs.Moments.{Moment, moment}
 use Rattle.working_state.specs.Mounted.{IsStanding}
 use Rattle.working_state.specs.Seen.{tree_on}
 use Rattle.working_state.proofs.ChangedCalls.{mounted_ready}
@@ -44,8 +43,5 @@ change-requires-clause-editable g c = λ root working.
 pub returns : goal.returns
 returns g c =
     let s = c.args.self.now in
-    let f = g.F.Flash.device c.change.new.flash in
-    let new = c.change.new.self in
-    subst (λ t. IsAnswered (moment (g.F.Flash.device c.args.flash.now) s) (Call.Rollback c.args.name.now) (replied empty c.change.result) (moment f t)) (sym c.change.ensures.rest)
-    (rollback_answer (moment (g.F.Flash.device c.args.flash.now) s) f new.storage new.history new.group c.args.name.now c.in_ok-root.field-0.now c.change.result
-    c.requires.mounted c.requires.on (outside_of s.group _ c.requires.allowed) (closed_of (is_some s.group) Fault.InGroup s.files c.requires.allowed) c.in_ok-root.ensures c.change.ensures.changed)
+    rollback_answer (moment (g.F.Flash.device c.args.flash.now) s) (g.F.Flash.device c.change.new.flash) c.change.new.storage c.change.new.history c.change.new.group c.args.name.now c.in_ok-root.field-0.now c.change.result
+    c.requires.mounted c.requires.on (outside_of s.group _ c.requires.allowed) (closed_of (is_some s.group) Fault.InGroup s.files c.requires.allowed) c.in_ok-root.ensures c.change.ensures

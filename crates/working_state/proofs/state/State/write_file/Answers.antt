@@ -109,5 +109,5 @@ returns g c =
     ap (λ n. write_file_changes (working_tree n) path bytes) (sym (worked_machine a b c.requires (looked_worked a b c.check_whole.ensures.looked))) ∙ c.in_ok-same.ensures.same ∙ ap not c.if-same.false in
     let by = write_change a d path bytes c.requires looked ok.accepted ok.lawful changes (file_below (nodes_at b) root path x ok.found ok.takes) in
     let few = write_few a d root path bytes c.in_ok-found.trail c.requires c.root-root.ensures looked by later.1 in
-    change_by a d (g.F.Flash.device c.change.new.flash) c.change.new.self root (Call.WriteFile path bytes) c.change.result c.change.ensures.changed c.change.ensures.rest
+    change_by a d (g.F.Flash.device c.change.new.flash) c.change.new.storage c.change.new.history c.change.new.group root (Call.WriteFile path bytes) c.change.result c.change.ensures
     by few c.requires c.root-root.ensures looked refl (λ _. refl)

@@ -162,5 +162,5 @@ returns g c =
     let by = writes_change a e directory files changes c.requires looked accepted c.names-names.ensures.lawful c.in_ok-changes.ensures.lawful some are any in
     let there = later_target b e root directory target.block mid working l c.in_ok-target.ensures.led in
     let few = writes_few a e root directory target.trail target.block files changes c.requires last c.root-root.ensures worked looked by are (later_way b e root directory target.trail mid working l c.in_ok-target.ensures.way) there.0 in
-    change_by a e (g.F.Flash.device c.change.new.flash) c.change.new.self root call c.change.result c.change.ensures.changed c.change.ensures.rest
+    change_by a e (g.F.Flash.device c.change.new.flash) c.change.new.storage c.change.new.history c.change.new.group root call c.change.result c.change.ensures
     by few c.requires c.root-root.ensures looked refl (λ _. refl)

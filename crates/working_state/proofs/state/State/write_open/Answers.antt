@@ -8,7 +8,7 @@ use Rattle.fs_types.specs.declared.call.Reply.{Reply}
 use Rattle.directory.specs.declared.lookups.Found.TheVariants as found
 use Rattle.directory.specs.Lookups.{look_up}
 use Rattle.directory.specs.Trails.{IsTrail}
-use Rattle.working_state.specs.Moments.{Moment, moment, machine_at, seen_at, nodes_at, version_tree, IsAnswered}
+use Rattle.working_state.specs.Moments.{Moment, moment, machine_at, seen_at, nodes_at, version_tree}
 use Rattle.working_state.proofs.LookNodes.{stands_lead}
 use Rattle.working_state.proofs.ChangedCalls.{looked_ready, looked_stands, same_root, refused_change, pushed_by}
 use Rattle.working_state.proofs.FileChanges as changes
@@ -93,10 +93,8 @@ returns-in_err-change g c =
     let there = changes.later_body a b c.root-root.result path body.head body.length c.requires c.root-root.ensures (looked_worked a b looked) c.in_ok-body.ensures.found in
     let few = changes.pwrite_few a b c.root-root.result c.args.descriptor c.args.offset c.args.bytes.now path c.in_ok-body.trail body.head body.length (λ r. Entry.File (overwritten (bytes_of_file (version_tree b r) path) c.args.offset c.args.bytes.now)) (Reply.Count (length c.args.bytes.now))
     c.requires c.root-root.ensures looked c.in_ok-path.ensures.path there by (c.in_ok-body.ensures.way (stands_lead a c.root-root.result c.requires c.root-root.ensures)) in
-    let new = c.change.new.self in
-    at_answer Reply.Count a (moment f new) call c.in_err-change.field-0.0 c.from_residual-in_err-change.result (p.1 ∙ ap Err p.2)
-    (subst (λ t. IsAnswered a call (Err c.in_err-change.field-0.0) (moment f t)) (sym c.change.ensures.rest)
-    (refused_change a b f new.storage new.history new.group c.root-root.result call _ (Reply.Count (length c.args.bytes.now)) c.in_err-change.field-0.0 c.requires c.root-root.ensures looked by few c.in_err-change.ensures.changed.written c.in_err-change.ensures.changed.ends))
+    at_answer Reply.Count a (moment f (record b.state { storage = c.change.new.storage; history = c.change.new.history; group = c.change.new.group })) call c.in_err-change.field-0.0 c.from_residual-in_err-change.result (p.1 ∙ ap Err p.2)
+    (refused_change a b f c.change.new.storage c.change.new.history c.change.new.group c.root-root.result call _ (Reply.Count (length c.args.bytes.now)) c.in_err-change.field-0.0 c.requires c.root-root.ensures looked by few c.in_err-change.ensures.written c.in_err-change.ensures.ends)
 
 pub returns : goal.returns
 returns g c =
@@ -113,6 +111,4 @@ returns g c =
     let there = changes.later_body a b c.root-root.result path body.head body.length c.requires c.root-root.ensures (looked_worked a b looked) c.in_ok-body.ensures.found in
     let few = changes.pwrite_few a b c.root-root.result c.args.descriptor c.args.offset c.args.bytes.now path c.in_ok-body.trail body.head body.length (λ r. Entry.File (overwritten (bytes_of_file (version_tree b r) path) c.args.offset c.args.bytes.now)) (Reply.Count (length c.args.bytes.now))
     c.requires c.root-root.ensures looked c.in_ok-path.ensures.path there by (c.in_ok-body.ensures.way (stands_lead a c.root-root.result c.requires c.root-root.ensures)) in
-    let new = c.change.new.self in
-    subst (λ t. IsAnswered a call (Ok (Reply.Count (length c.args.bytes.now))) (moment f t)) (sym c.change.ensures.rest)
-    (pushed_by a b f new.storage new.history new.group b.state.files call (Reply.Count (length c.args.bytes.now)) c.in_ok-change.ensures.changed.ends by few c.in_ok-change.ensures.changed.written c.requires looked looked.rest.files (λ _. refl))
+    pushed_by a b f c.change.new.storage c.change.new.history c.change.new.group b.state.files call (Reply.Count (length c.args.bytes.now)) c.in_ok-change.ensures.ends by few c.in_ok-change.ensures.written c.requires looked looked.rest.files (λ _. refl)

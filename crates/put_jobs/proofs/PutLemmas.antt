@@ -390,7 +390,7 @@ unlisted_front : (held : Held) (name bytes : List ℕ) → AreBytesRead (held na
     → UnlistedBy (IsDecoded bytes) (DecodeCause bytes) kept failure → UnlistedBy (IsSpelledFlash (held name)) (LoadCause (held name)) kept failure
 unlisted_front held name bytes front None failure cause = absurd cause
 unlisted_front held name bytes front (Some kept) failure (inl cause) = inl (cause_front (held name) bytes front failure cause)
-unlisted_front held name bytes front (Some kept) failure (inr (start, end, fault, there, asked, why)) = inr (start, end, fault, loaded_front (held name) bytes front start there, asked, why)
+unlisted_front held name bytes front (Some kept) failure (inr (start, end, fault, there, asked, planned, why)) = inr (start, end, fault, loaded_front (held name) bytes front start there, asked, planned, why)
 
 -- sources are put so whatever the files hold that were claimed, since a claim changes none
 once_claimed : (name : List ℕ) (IsClaimed : List ℕ → Type 0) (base : Path) (kept : Option (List Kept)) (all : List Found) (held claimed saved : Held) (result : Result (Unit {0}) Failure) → claimed ≡ held

@@ -17,10 +17,9 @@ use flash_model::{Flash, Geometry, SimFlash};
 use fs_types::Fault;
 use host_files::ImageFiles;
 use image_jobs::{Failure, claim, formatted_flash, load, save_image, spare};
-use script_runs::Refusal;
+use script_runs::{Refusal, mount_as_planned};
 use std::alloc::Global;
 use std::io::Write;
-use undofs::mount;
 
 /// Makes an image that holds a copy of what an image holds, in the place of what has a name, which is
 /// claimed then: each kept version for which there is room, each checkpoint, and the place of the present
@@ -114,7 +113,7 @@ fn copy_of<E: Write>(
     ensures ok { IfOk result (IsAskedCopy asked first.old) }
     ensures err { IfErr result (UncopiedCause asked first.old) }
 {
-    let system = match mount(alloc, first) {
+    let system = match mount_as_planned(alloc, first) {
         Ok(system) => system,
         Err(fault) => {
             let failure = Failure::of_system(fault);

@@ -44,6 +44,7 @@ fn add_named<N: Nodes>(nodes: &mut N, block: u32, found: &mut BlockSet) -> Resul
 
     // Why not, and what is read.
     ensures calls { LooksWithin N.Nodes IsLookFault 1 nodes.old result nodes.new }
+    ensures reads { N.reads nodes.new ≡ N.reads nodes.old + 1 }
 {
     let brought = brings(nodes, block)?;
     if !brought {
@@ -77,6 +78,7 @@ fn add_unknown<N: Nodes>(
 
     // Why not, and what is read.
     ensures calls { LooksWithin N.Nodes IsLookFault (if set.contains quiet.now.members block then 0 else 1) nodes.old result nodes.new }
+    ensures reads { N.reads nodes.new ≡ N.reads nodes.old + (if set.contains quiet.now.members block then 0 else 1) }
 {
     if quiet.contains(block) {
         return Ok(nexts[block as usize]);
@@ -113,6 +115,7 @@ fn add_chain<N: Nodes>(
 
     // Each read is of a block that was not seen, and whose node is not known.
     ensures calls { LooksWithin N.Nodes IsLookFault (spec.count_below (spec.is_loud quiet.now.members seen.new.members) seen.old.blocks - spec.count_below (spec.is_loud quiet.now.members seen.old.members) seen.old.blocks) nodes.old result nodes.new }
+    ensures reads { N.reads nodes.new + spec.count_below (spec.is_loud quiet.now.members seen.old.members) seen.old.blocks ≡ N.reads nodes.old + spec.count_below (spec.is_loud quiet.now.members seen.new.members) seen.old.blocks }
 {
     let mut at = block;
     'chain: while is_left(seen, at) {
@@ -127,6 +130,7 @@ fn has_entries<N: Nodes>(nodes: &mut N, block: u32) -> Result<bool, Fault>
     requires { N.is_sound nodes.old }
     ensures value { IfOk result (λ some. some ≡ nat_lt 0 (length (link_items (N.node nodes.old block)))) }
     ensures calls { LooksWithin N.Nodes IsLookFault 1 nodes.old result nodes.new }
+    ensures reads { N.reads nodes.new ≡ N.reads nodes.old + 1 }
 {
     let brought = brings(nodes, block)?;
     if !brought {

@@ -6,7 +6,7 @@ ghost use Rattle.node_format.specs.Items.{is_place};
 ghost use Rattle.node_format.specs.declared.place.Place.TheVariants.{Dir};
 ghost use Rattle.block_trees.specs.Trees.{leads, entries_in, items_in};
 ghost use Rattle.block_trees.specs.Rewritten.{IsDirectoryEdit, IsFreshChain, IsRewritten};
-ghost use Rattle.directory.specs.Counts.{edit_nodes, read_nodes, path_nodes};
+ghost use Rattle.directory.specs.Counts.{edit_nodes, read_nodes, path_nodes, written_nodes};
 ghost use Rattle.directory.specs.Lookups.{look_up};
 ghost use Rattle.directory.specs.declared.lookups.Found.TheVariants.{Missing};
 ghost use Rattle.directory.specs.Edits.{OnlyReaches};
@@ -42,6 +42,7 @@ pub(crate) fn edit_directory<N: Nodes>(
 
     // What it is refused with, and what it asks for.
     ensures calls { WorksWithin N.Nodes spec.IsChangeFault (read_nodes (items_in (N.node nodes.old) block) name.now (is_some place)) (edit_nodes (items_in (N.node nodes.old) block) name.now (is_some place)) nodes.old result nodes.new }
+    ensures written { IfOk result (λ _. N.writes nodes.new ≡ N.writes nodes.old + written_nodes (items_in (N.node nodes.old) block) name.now place) }
 {
     let (read, tail) = read_list(alloc, nodes, block, name, place)?;
     let edited = edit_list(alloc, &read.list(), name, place)?;

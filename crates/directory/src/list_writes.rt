@@ -26,6 +26,8 @@ fn write_group<N: Nodes>(
     requires full { (next ≡ 0) ⊎ (NODE_ENTRIES * group + NODE_ENTRIES ≤ length list.now) }
     ensures one { IfOk result (λ to. spec.IsOneMore (N.kept nodes.old) (N.node nodes.new) (N.kept nodes.new) next to (take NODE_ENTRIES (drop (NODE_ENTRIES * group) list.now))) }
     ensures calls { WorksWithin N.Nodes IsWriteFault 0 1 nodes.old result nodes.new }
+    ensures reads { N.reads nodes.new ≡ N.reads nodes.old }
+    ensures written { IfOk result (λ _. N.writes nodes.new ≡ N.writes nodes.old + 1) }
 {
     let from = NODE_ENTRIES * group;
     let held = (list.len() - from).min(NODE_ENTRIES);
@@ -51,6 +53,8 @@ pub(crate) fn write_list<N: Nodes>(
 
     ensures put { IfOk result (λ to. spec.PutsDirectory (N.node nodes.old) (N.kept nodes.old) (N.node nodes.new) (N.kept nodes.new) tail to list.now) }
     ensures calls { WorksWithin N.Nodes IsWriteFault 0 (nodes_for (length list.now)) nodes.old result nodes.new }
+    ensures reads { N.reads nodes.new ≡ N.reads nodes.old }
+    ensures written { IfOk result (λ _. N.writes nodes.new ≡ N.writes nodes.old + nodes_for (length list.now)) }
 {
     let groups = list.len().div_ceil(NODE_ENTRIES).max(1);
     let mut to = tail;

@@ -47,6 +47,7 @@ fn add_names<N: Nodes>(
     // Why not, and what is read.
     ensures damaged { IsErrOf result Damaged → link_of (N.node nodes.old block) ≡ None }
     ensures calls { LooksWithin N.Nodes IsReadFault 1 nodes.old result nodes.new }
+    ensures reads { N.reads nodes.new ≡ N.reads nodes.old + 1 }
 {
     nodes.read(block)?;
     let Some(node) = Entries::of(nodes.lent()) else {
@@ -100,6 +101,7 @@ fn count_at<N: Nodes>(nodes: &mut N, block: u32) -> Result<(usize, u32), Fault>
     // Why not, and what is read.
     ensures damaged { IsErrOf result Damaged → link_of (N.node nodes.old block) ≡ None }
     ensures calls { LooksWithin N.Nodes IsReadFault 1 nodes.old result nodes.new }
+    ensures reads { N.reads nodes.new ≡ N.reads nodes.old + 1 }
 {
     nodes.read(block)?;
     let Some(node) = Entries::of(nodes.lent()) else {
@@ -149,6 +151,7 @@ pub fn is_empty<N: Nodes>(nodes: &mut N, block: u32) -> Result<bool, Fault>
     // Why not, and what is read.
     ensures damaged { IsErrOf result Damaged → entries_in (N.node nodes.old) block ≡ None }
     ensures calls { LooksWithin N.Nodes IsReadFault 1 nodes.old result nodes.new }
+    ensures reads { N.reads nodes.new ≡ N.reads nodes.old + 1 }
 {
     let (count, _next) = count_at(nodes, block)?;
     Ok(count == 0)

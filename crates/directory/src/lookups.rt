@@ -60,6 +60,7 @@ fn look_at<N: Nodes>(nodes: &mut N, block: u32, name: &Name) -> Result<Sight, Fa
     // Why not, and what is read.
     ensures damaged { IsErrOf result Damaged → link_of (N.node nodes.old block) ≡ None }
     ensures calls { LooksWithin N.Nodes IsReadFault 1 nodes.old result nodes.new }
+    ensures reads { N.reads nodes.new ≡ N.reads nodes.old + 1 }
 {
     nodes.read(block)?;
     let Some((node, split)) = Entries::split(nodes.lent(), name.as_bytes()) else {

@@ -1,6 +1,7 @@
 //! What stands at one path moved to another, by the directories that a look up of each went through.
 ghost use Rattle.std.specs.Prelude.{◌≡◌, ◌+◌, ◌<◌, true, false, length, drop, slice_index, slice_index_or, [], Some, None, IfOk, IfSome};
 ghost use Rattle.std.specs.Option.{is_some};
+ghost use Rattle.plain_trees.specs.Trees.{nodes_for};
 ghost use Rattle.node_format.specs.Items.{is_place};
 ghost use Rattle.node_format.specs.declared.place.Place.TheVariants.{Dir};
 ghost use Rattle.block_trees.specs.Trees.{items_in};
@@ -54,6 +55,7 @@ fn edit_directory_twice<N: Nodes>(
 
     // What it is refused with, and what it asks for.
     ensures calls { WorksWithin N.Nodes IsChangeFault (nodes_in (N.node nodes.old) block) (edit_nodes (items_in (N.node nodes.old) block) other.now (is_some gone)) nodes.old result nodes.new }
+    ensures written { IfOk result (λ _. N.writes nodes.new ≡ N.writes nodes.old + nodes_for (spec.edited_twice_count (items_in (N.node nodes.old) block) name.now gone other.now here)) }
 {
     let (read, tail) = read_list(alloc, nodes, block, name, None)?;
     let edited = edit_list_twice(alloc, &read.list(), name, gone, other, here)?;

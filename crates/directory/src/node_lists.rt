@@ -1,5 +1,5 @@
 //! The entries of a directory as a list: read as far as an edit wants them, and edited.
-ghost use Rattle.std.specs.Prelude.{◌≡◌, ℕ, ◌≤◌, true, false, length, Some, None, IsSome, IfOk, IfSome};
+ghost use Rattle.std.specs.Prelude.{◌≡◌, ℕ, ◌+◌, ◌≤◌, true, false, length, Some, None, IsSome, IfOk, IfSome};
 ghost use Rattle.std.specs.Option.{is_some};
 ghost use Rattle.fs_types.specs.declared.limits.TheConstants.{MAX_ENTRIES};
 ghost use Rattle.fs_types.specs.Names.{same_name};
@@ -37,6 +37,7 @@ fn append_node<N: Nodes>(
     requires there { spec.MayAppend (link_of (N.node nodes.old block)) list.old }
     ensures appended { IfOk result (λ seen. spec.IsAppended (link_of (N.node nodes.old block)) name.now list.old list.new seen.has_name seen.next) }
     ensures calls { LooksWithin N.Nodes IsLookFault 1 nodes.old result nodes.new }
+    ensures reads { N.reads nodes.new ≡ N.reads nodes.old + 1 }
 {
     nodes.read(block)?;
     let Some((node, split)) = Entries::split(nodes.lent(), name.as_bytes()) else {

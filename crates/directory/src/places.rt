@@ -53,6 +53,7 @@ fn add_places<N: Nodes>(
     // Why not, and what is read.
     ensures damaged { IsErrOf result Damaged → link_of (N.node nodes.old block) ≡ None }
     ensures calls { LooksWithin N.Nodes IsReadFault 1 nodes.old result nodes.new }
+    ensures reads { N.reads nodes.new ≡ N.reads nodes.old + 1 }
 {
     nodes.read(block)?;
     let Some(node) = Entries::of(nodes.lent()) else {

@@ -47,6 +47,7 @@ pub fn read_facts<N: Examines>(alloc: Global, nodes: &mut N, block: u32) -> Resu
     // Why not, and what is read.
     ensures damaged { IsErrOf result Fault.Damaged → N.node nodes.old block ≡ None }
     ensures calls { LooksWithin N.Nodes IsReadFault 1 nodes.old result nodes.new }
+    ensures reads { N.reads nodes.new ≡ N.reads nodes.old + 1 }
     ensures asks { N.asked nodes.new ≤ N.asked nodes.old + most_pages (N.page nodes.old) (N.limit nodes.old) (N.node nodes.old block) }
 {
     let mut header = [0; BODY_HEADER as usize];

@@ -19,6 +19,7 @@ pub fn brings_front<N: Nodes>(nodes: &mut N, block: u32) -> Result<bool, Fault>
 
     // Why not, and what is read.
     ensures calls { LooksWithin N.Nodes IsLookFault 1 nodes.old result nodes.new }
+    ensures reads { N.reads nodes.new ≡ N.reads nodes.old + 1 }
     ensures asks { N.asked nodes.new + N.reads nodes.old ≤ N.asked nodes.old + N.reads nodes.new }
 {
     match nodes.front(block) {

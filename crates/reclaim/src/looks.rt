@@ -44,6 +44,7 @@ fn body_at<N: Nodes>(
 
     // Why not, and what is read.
     ensures calls { LooksWithin N.Nodes IsLookFault 1 nodes.old result nodes.new }
+    ensures reads { N.reads nodes.new ≡ N.reads nodes.old + 1 }
     ensures asks { N.asked nodes.new + N.reads nodes.old ≤ N.asked nodes.old + N.reads nodes.new }
 {
     let brought = brings_front(nodes, block)?;
@@ -104,6 +105,7 @@ fn holds_slot<N: Nodes>(nodes: &mut N, block: u32, slot: usize, next: u32) -> Re
 
     // Why not, and what is read.
     ensures calls { LooksWithin N.Nodes IsLookFault 1 nodes.old result nodes.new }
+    ensures reads { N.reads nodes.new ≡ N.reads nodes.old + 1 }
     ensures asks { N.asked nodes.new + N.reads nodes.old ≤ N.asked nodes.old + N.reads nodes.new }
 {
     let brought = brings_front(nodes, block)?;

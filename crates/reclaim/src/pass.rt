@@ -211,6 +211,7 @@ impl Pass {
         // Why not.
         ensures damaged { IsPass (N.node nodes.old) self.old → IsErrOf result Fault.Damaged → LacksNode (N.node nodes.old) self.old.roots }
         ensures calls { LooksWithin N.Nodes IsReadFault 1 nodes.old result nodes.new }
+        ensures reads { N.reads nodes.new ≡ N.reads nodes.old + 1 }
     {
         let block = self.order[self.next];
         let is_body = self.has_front(block);

@@ -43,14 +43,14 @@ few_none capacity size end first now = record {
 
 -- one node more
 pub few_on : (capacity size offset end first index count before now now' blocks : ℕ) → 0 < capacity → first ≡ min offset size / capacity → first ≤ index → count ≤ capacity → blocks ≡ nodes_between capacity end size
-    → (KeepsNone size offset end (index * capacity) (index * capacity + count) → now' ≤ now) → (head_index capacity size - index < blocks → now' ≤ now + 1) → ((digits : ℕ) → HasDigits (head_index capacity size) digits → now' ≤ now + (1 + 2 * digits))
+    → (KeepsNone size offset end (index * capacity) (index * capacity + count) → now' ≡ now) → (head_index capacity size - index < blocks → now' ≤ now + 1) → ((digits : ℕ) → HasDigits (head_index capacity size) digits → now' ≤ now + (1 + 2 * digits))
     → AreFew capacity size end first index before now → AreFew capacity size end first (index + 1) before now'
 few_on capacity size offset end first index count before now now' blocks least is from fits counted unread listed any few = record {
   all = λ digits small. all digits small (cases_lt (index * capacity) size) (cases_lt first index);
   none = λ at. absurd (omega arith);
 }
   where
-    same : (digits : ℕ) → HasDigits (head_index capacity size) digits → now' ≤ now → now' ≤ before + ((nodes_between capacity end size - (head_index capacity size + 1 - (index + 1))) + (1 + 2 * digits))
+    same : (digits : ℕ) → HasDigits (head_index capacity size) digits → now' ≡ now → now' ≤ before + ((nodes_between capacity end size - (head_index capacity size + 1 - (index + 1))) + (1 + 2 * digits))
     same digits small e = (let most = few.all digits small in omega arith)
 
     one : (digits : ℕ) → HasDigits (head_index capacity size) digits → index ≤ head_index capacity size → head_index capacity size - index < nodes_between capacity end size → now' ≤ now + 1
@@ -117,9 +117,9 @@ few_both capacity size end before middle now a b digits small =
     let rest = b digits small in
     omega arith
 
--- at most a node was written for each index from the first on
-pub written_count : (capacity from size first index before now : ℕ) → 0 < capacity → first ≡ from / capacity → from < size → (size - 1) / capacity + 1 ≤ index → (first ≤ (size - 1) / capacity + 1 → index ≤ (size - 1) / capacity + 1) → now ≤ before + (index - first)
-    → now ≤ before + nodes_from capacity from size
+-- a node was written for each index from the first on
+pub written_count : (capacity from size first index before now : ℕ) → 0 < capacity → first ≡ from / capacity → from < size → (size - 1) / capacity + 1 ≤ index → (first ≤ (size - 1) / capacity + 1 → index ≤ (size - 1) / capacity + 1) → now ≡ before + (index - first)
+    → now ≡ before + nodes_from capacity from size
 written_count capacity from size first index before now least first_is lt ended most is =
     let order : from / capacity ≤ (size - 1) / capacity = div_mono capacity from (size - 1) least (omega arith) in
     let last : index ≡ (size - 1) / capacity + 1 = (let le = most (omega arith) in omega arith) in

@@ -1,5 +1,5 @@
 -- Calls along a chain, one after another.
-use Rattle.std.specs.Prelude.{◌≡◌, ◌≢◌, ℕ, ◌+◌, ◌≤◌, Result, Ok, Err, IfErr, IsErrOf}
+use Rattle.std.specs.Prelude.{◌≡◌, ◌≢◌, ℕ, ◌+◌, ◌≤◌, Result, Ok, Err, OnOk, IfErr, IsErrOf}
 use Rattle.std.proofs.Common.{refl, ap, arith}
 use Rattle.std.proofs.lemmas.Result.{IfErr-weaker}
 use Rattle.fs_types.specs.declared.fault.Fault.{Fault}
@@ -58,29 +58,31 @@ module _ {S : Type 0} {N : Ghosts S} where
   pub along_refused : {T U : Type 0} {index : ℕ} {r : ℕ → ℕ} {s t : S} {fault : Fault} → LooksAlong {T = T} N index r s (Err fault) t → LooksAlong {T = U} N index r s (Err fault) t
   along_refused along = record { looks = along.looks; reads = along.reads; why = along.why; faults = along.faults }
 
-  -- nothing is written
-  pub along_looking : {T : Type 0} {index w : ℕ} {r : ℕ → ℕ} {x : Result T Fault} (looks_works : (s t : S) → Looks N s t → Works N s t) (s t : S) → LooksAlong N index r s x t → WorksAlong N index r w s x t
+  -- a refusal before anything is written
+  pub along_looking : {T U : Type 0} {index w : ℕ} {r : ℕ → ℕ} {fault : Fault} (looks_works : (s t : S) → Looks N s t → Works N s t) (s t : S) → LooksAlong {T = T} N index r s (Err fault) t → WorksAlong {T = U} N index r w s (Err fault) t
   along_looking looks_works s t along = record {
     works = looks_works s t along.looks;
     reads = along.reads;
     writes = omega (arith, along.looks.same_writes);
+    written = tt;
     why = along.why;
-    faults = IfErr-weaker _ IsLookFault IsWritingFault read_refused along.faults;
+    faults = read_refused _ along.faults;
   }
 
-  pub writes_within : {T : Type 0} {r w : ℕ} {s t : S} {x : Result T Fault} (index : ℕ) → WorksWithin N IsWritingFault r w s x t → WorksAlong N index (λ digits. r) w s x t
-  writes_within index within = record { works = within.works; reads = λ digits has. within.reads; writes = within.writes; why = within.why; faults = within.faults }
+  pub writes_within : {T : Type 0} {r w : ℕ} {s t : S} {x : Result T Fault} (index : ℕ) → WorksWithin N IsWritingFault r w s x t → OnOk x (N.writes t ≡ N.writes s + w) → WorksAlong N index (λ digits. r) w s x t
+  writes_within index within written = record { works = within.works; reads = λ digits has. within.reads; writes = within.writes; written = written; why = within.why; faults = within.faults }
 
   pub writes_after : {T : Type 0} {i index w writes : ℕ} {r reads : ℕ → ℕ} {y : Result T Fault}
       (works_on : (s t u : S) → Works N s t → Works N t u → Works N s u) (causes_on : (s t u : S) (fault : Fault) → N.follows s t → N.causes t u fault → N.causes s u fault)
-      (s t u : S) → Works N s t → WorksAlong N i r w t y u → ((digits : ℕ) → HasDigits index digits → N.reads u ≤ N.reads s + reads digits) → N.writes u ≤ N.writes s + writes → WorksAlong N index reads writes s y u
-  writes_after works_on causes_on s t u first then few_reads few_writes = record {
+      (s t u : S) → Works N s t → WorksAlong N i r w t y u → ((digits : ℕ) → HasDigits index digits → N.reads u ≤ N.reads s + reads digits) → N.writes u ≤ N.writes s + writes → OnOk y (N.writes u ≡ N.writes s + writes) → WorksAlong N index reads writes s y u
+  writes_after works_on causes_on s t u first then few_reads few_writes written = record {
     works = works_on s t u first then.works;
     reads = few_reads;
     writes = few_writes;
+    written = written;
     why = IfErr-weaker _ (λ (fault : Fault). N.causes t u fault) (λ (fault : Fault). N.causes s u fault) (λ fault why. causes_on s t u fault first.came why) then.why;
     faults = then.faults;
   }
 
   pub writes_refused : {T U : Type 0} {index w : ℕ} {r : ℕ → ℕ} {s t : S} {fault : Fault} → WorksAlong {T = T} N index r w s (Err fault) t → WorksAlong {T = U} N index r w s (Err fault) t
-  writes_refused along = record { works = along.works; reads = along.reads; writes = along.writes; why = along.why; faults = along.faults }
+  writes_refused along = record { works = along.works; reads = along.reads; writes = along.writes; written = tt; why = along.why; faults = along.faults }

@@ -92,7 +92,7 @@ pub record IsChangeOf (limit : ℕ) (f : Blocks) (change : Change) (blocks : Lis
 -- the reads of the old node of an index, of which a change whose bytes end at `end` keeps some of the first bytes: none where it
 -- keeps none, and one where the block is listed
 pub record ReadsKept (change : Change) (end index count listed before now : ℕ) : Type 0 where
-  pub unread : KeepsNone change.body.length change.offset end (index * change.capacity) (index * change.capacity + count) → now ≤ before
+  pub unread : KeepsNone change.body.length change.offset end (index * change.capacity) (index * change.capacity + count) → now ≡ before
   pub one : head_index change.capacity change.body.length - index < listed → now ≤ before + 1
 
 -- the byte at a place after an edit, where the old bytes are given from `start` on

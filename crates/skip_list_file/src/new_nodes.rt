@@ -105,9 +105,11 @@ fn write_new<N: Nodes>(nodes: &mut N, node: Vec<u8>, is_last: bool) -> Result<u3
     ensures fresh { IfOk result (λ block. N.kept nodes.old block ≡ false) }
     ensures kept { IfOk result (λ block. N.kept nodes.new block ≡ true) }
     ensures written { IfOk result (λ block. N.node nodes.new block ≡ Some node.items) }
-    ensures calls { WorksWithin N.Nodes IsWriteFault 0 1 nodes.old result nodes.new }
 
-// One write, and no read.
+    // One write, and no read.
+    ensures calls { WorksWithin N.Nodes IsWriteFault 0 1 nodes.old result nodes.new }
+    ensures reads { N.reads nodes.new ≡ N.reads nodes.old }
+    ensures writes { N.writes nodes.new ≡ N.writes nodes.old + 1 }
 {
     let block = nodes.write_owned(node)?;
     if !is_last {
@@ -140,6 +142,8 @@ fn append<N: Nodes>(
 
     // One write, and no read.
     ensures calls { WorksWithin N.Nodes IsWritingFault 0 1 nodes.old result nodes.new }
+    ensures reads { N.reads nodes.new ≡ N.reads nodes.old }
+    ensures written { OnOk result (N.writes nodes.new ≡ N.writes nodes.old + 1) }
 {
     let block = write_new(nodes, node, is_last)?;
     table.move_on(index, block);

@@ -39,6 +39,7 @@ pub(crate) fn pointer_at<N: Nodes>(nodes: &mut N, block: u32, slot: u32) -> Resu
     // The pointer, by one read, of a page.
     ensures found { IfOk result (λ next. next ≡ pointer_of (N.node nodes.old block) slot) }
     ensures calls { LooksWithin N.Nodes IsLookFault 1 nodes.old result nodes.new }
+    ensures reads { N.reads nodes.new ≡ N.reads nodes.old + 1 }
     ensures asks { spec.AsksPageEach N.asked N.reads nodes.old nodes.new }
     ensures partly { N.partly nodes.new ≡ N.partly nodes.old }
 {
@@ -99,6 +100,7 @@ pub(crate) fn copy_data<N: Nodes>(
 
     // One read, of a block's pages at most, and nothing is written.
     ensures calls { LooksWithin N.Nodes IsLookFault 1 nodes.old result nodes.new }
+    ensures reads { N.reads nodes.new ≡ N.reads nodes.old + 1 }
     ensures asks { N.asked nodes.new ≤ N.asked nodes.old + pages_for (N.page nodes.old) (N.limit nodes.old) }
 {
     nodes.read(block)?;
@@ -126,6 +128,7 @@ pub(crate) fn copy_part<N: Nodes>(
 
     // One read, of the pages that hold the data unless a part of the node was read last, and nothing is written.
     ensures calls { LooksWithin N.Nodes IsLookFault 1 nodes.old result nodes.new }
+    ensures reads { N.reads nodes.new ≡ N.reads nodes.old + 1 }
     ensures asks { N.partly nodes.old ≢ block → N.asked nodes.new ≤ N.asked nodes.old + pages_of_range (N.page nodes.old) (body_header + from) (length out.old) }
     ensures asks_most { N.asked nodes.new ≤ N.asked nodes.old + pages_for (N.page nodes.old) (N.limit nodes.old) }
 {
@@ -154,6 +157,7 @@ fn copy_piece<N: Nodes>(
 
     // One read, of the pages that hold the data or of a block's, and nothing is written.
     ensures calls { LooksWithin N.Nodes IsLookFault 1 nodes.old result nodes.new }
+    ensures reads { N.reads nodes.new ≡ N.reads nodes.old + 1 }
     ensures asks { N.asked nodes.new ≤ N.asked nodes.old + pages_for (N.page nodes.old) (N.limit nodes.old) }
     ensures asks_part { whole ≡ false → N.partly nodes.old ≢ block → N.asked nodes.new ≤ N.asked nodes.old + pages_of_range (N.page nodes.old) (body_header + from) (length out.old) }
 {

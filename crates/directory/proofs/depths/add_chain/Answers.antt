@@ -14,6 +14,7 @@ chain-init g c = record {
   seen_size = refl;
   found_size = refl;
   calls = looks_wider (looks_idle g.met.N.Nodes.follows_itself c.args.nodes.now c.requires.sound) (omega arith);
+  reads = refl;
 }
 
 pub chain-preserved : goal.chain-preserved
@@ -30,6 +31,7 @@ chain-preserved g c =
       seen_size = ap (λ (s : BlockSet). s.blocks) c.insert.ensures ∙ c.chain.invariant.seen_size;
       found_size = c.add_unknown.ensures.size ∙ c.chain.invariant.found_size;
       calls = looks_after g.met.N.Nodes.looks_on g.met.N.Nodes.causes_on c.args.nodes.now c.chain.nodes c.add_unknown.new.nodes (λ fault is. is) c.chain.invariant.calls c.in_ok-at.ensures.calls (omega (arith, more, most));
+      reads = omega (arith, more, c.chain.invariant.reads, c.in_ok-at.ensures.reads);
     }
 
 pub chain-smaller : goal.chain-smaller
@@ -86,3 +88,13 @@ returns-in_err-at-clause-calls g c =
     let most = loud_le c.args.quiet.now.members c.args.seen.now.members c.chain.seen.members c.chain.invariant.way.stays c.args.seen.now.blocks in
     let p = err_from_is_err_and c.from_residual.result c.from_residual.ensures.1 in
     rw (p.1, p.2) (looks_refused (looks_after g.met.N.Nodes.looks_on g.met.N.Nodes.causes_on c.args.nodes.now c.chain.nodes c.add_unknown.new.nodes (λ fault is. is) c.chain.invariant.calls c.in_err-at.ensures.calls (omega (arith, more, most))))
+
+pub returns-clause-reads : goal.returns-clause-reads
+returns-clause-reads g c = c.chain.invariant.reads
+
+pub returns-in_err-at-clause-reads : goal.returns-in_err-at-clause-reads
+returns-in_err-at-clause-reads g c =
+    let blocks = g.N.Nodes.blocks c.args.nodes.now in
+    let left = left_here blocks c.chain.at c.chain.seen c.is_left.result (c.chain.invariant.seen_size ∙ c.requires.size.0) c.is_left.ensures c.chain-test.true in
+    let more = loud_step c.args.quiet.now.members blocks c.chain.at c.args.seen.now.blocks c.chain.seen c.insert.new.self c.requires.size.0 left c.insert.ensures in
+    omega (arith, more, c.chain.invariant.reads, c.in_err-at.ensures.reads)

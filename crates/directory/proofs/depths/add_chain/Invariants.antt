@@ -1,4 +1,4 @@
-use Rattle.std.proofs.Common.{◌≡◌, ◌-◌, Ok}
+use Rattle.std.proofs.Common.{◌≡◌, ◌+◌, ◌-◌, Ok}
 use Rattle.std.specs.FinSet as set
 use Rattle.node_store.specs.Faults.{IsLookFault}
 use Rattle.node_store.specs.Words.{LooksWithin}
@@ -13,6 +13,7 @@ invariant-chain g l = record {
   seen_size : l.seen.blocks ≡ l.fn.seen.blocks;
   found_size : l.found.blocks ≡ l.fn.found.blocks;
   calls : LooksWithin g.N.Nodes IsLookFault (count_below (is_loud l.quiet.members l.seen.members) l.fn.seen.blocks - count_below (is_loud l.quiet.members l.fn.seen.members) l.fn.seen.blocks) l.fn.nodes (Ok l.at) l.nodes;
+  reads : g.N.Nodes.reads l.nodes + count_below (is_loud l.quiet.members l.fn.seen.members) l.fn.seen.blocks ≡ g.N.Nodes.reads l.fn.nodes + count_below (is_loud l.quiet.members l.seen.members) l.fn.seen.blocks;
 }
 
 abbrev pub decreases-chain : goal.decreases-chain

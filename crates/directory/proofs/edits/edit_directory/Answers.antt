@@ -1,5 +1,5 @@
-use Rattle.std.proofs.Common.{◌≡◌, ◌⊎◌, ◌%◌, ◌<◌, true, List, Some, length, ap, sym, subst, ◌∙◌, arith, refl}
-use Rattle.std.proofs.lemmas.Result.{err_from_is_err_and}
+use Rattle.std.proofs.Common.{◌≡◌, ◌+◌, ◌⊎◌, ◌%◌, ◌<◌, true, List, Some, length, ap, sym, subst, ◌∙◌, arith, refl}
+use Rattle.std.proofs.lemmas.Result.{IfOk-weaker, err_from_is_err_and}
 use Rattle.fs_types.specs.declared.limits.TheConstants.{NODE_ENTRIES}
 use Rattle.plain_trees.specs.Trees.{nodes_for}
 use Rattle.node_format.specs.Items.{Item}
@@ -70,3 +70,15 @@ returns-clause-calls g c =
     let most = written_most (items_in (g.N.Nodes.node old) c.args.block) c.args.name.now c.args.place in
     let read = works_looking {IsOther = IsChangeFault} g.met.N.Nodes.looks_works c.args.nodes.now c.read_list.new.nodes (λ fault is. is) look_refused c.in_ok-read.ensures.calls in
     works_after g.met.N.Nodes.works_on g.met.N.Nodes.causes_on old c.read_list.new.nodes c.write_list.new.nodes write_refused read c.write_list.ensures.calls (omega arith) (omega (arith, nodes, most))
+
+pub returns-clause-written : goal.returns-clause-written
+returns-clause-written g c =
+    let old = c.args.nodes.now in
+    let new = c.write_list.new.nodes in
+    let r = c.in_ok-read.ensures.read in
+    let edited : IsEdited c.in_ok-read.read c.args.name.now c.args.place c.in_ok-edited.edited = subst (λ (items : List Item). IsEdited items c.args.name.now c.args.place c.in_ok-edited.edited) c.list.ensures c.in_ok-edited.ensures in
+    let nodes : nodes_for (length c.list-2.result) ≡ written_nodes (items_in (g.N.Nodes.node old) c.args.block) c.args.name.now c.args.place =
+    ap (λ (items : List Item). nodes_for (length items)) c.list-2.ensures ∙ nodes_written (g.N.Nodes.node old) c.args.block r.0 c.in_ok-read.read c.in_ok-edited.edited c.in_ok-read.tail c.args.name.now c.args.place r.1 c.in_ok-read.ensures.enough edited in
+    let same = c.read_list.ensures.calls.looks.same_writes in
+    IfOk-weaker c.write_list.result (λ _. g.N.Nodes.writes new ≡ g.N.Nodes.writes c.read_list.new.nodes + nodes_for (length c.list-2.result))
+    (λ _. g.N.Nodes.writes new ≡ g.N.Nodes.writes old + written_nodes (items_in (g.N.Nodes.node old) c.args.block) c.args.name.now c.args.place) (λ to wrote. omega (arith, wrote, same, nodes)) c.write_list.ensures.written

@@ -1,4 +1,5 @@
-use Rattle.std.proofs.Common.{◌≡◌, ◌-◌, ◌*◌, ◌<◌, length, inl, inr, arith}
+use Rattle.std.proofs.Common.{◌≡◌, ◌+◌, ◌-◌, ◌*◌, ◌<◌, length, inl, inr, refl, arith}
+use Rattle.std.proofs.lemmas.Result.{IfOk-weaker}
 use Rattle.fs_types.specs.declared.limits.TheConstants.{NODE_ENTRIES}
 use Rattle.plain_trees.specs.Trees.{nodes_for}
 use Rattle.node_store.specs.WordLaws.{works_after, works_idle, works_wider}
@@ -17,6 +18,8 @@ loop-group-init g c =
       within = omega (arith, groups);
       put = no_group (g.N.Nodes.node c.args.nodes.now) (g.N.Nodes.kept c.args.nodes.now) (nodes_for (length c.args.list.now)) c.max-groups.result c.args.tail c.args.list.now groups (omega (arith, groups));
       calls = works_wider (works_idle g.met.N.Nodes.follows_itself c.args.nodes.now c.requires.sound) (omega arith) (omega arith);
+      reads = refl;
+      written = omega (arith, groups);
     }
 
 pub loop-group-preserved : goal.loop-group-preserved
@@ -38,6 +41,8 @@ loop-group-preserved g c =
           (λ b free. g.met.N.Nodes.was_fresh c.args.nodes.now c.loop-group.nodes b wrote.came free)
           (omega (arith, more)) within less c.in_ok-to.ensures.one (c.loop-group.invariant.put n after was);
       calls = works_after g.met.N.Nodes.works_on g.met.N.Nodes.causes_on c.args.nodes.now c.loop-group.nodes c.write_group.new.nodes (λ fault is. is) c.loop-group.invariant.calls c.in_ok-to.ensures.calls (omega arith) (omega (arith, more, within));
+      reads = omega (arith, c.loop-group.invariant.reads, c.in_ok-to.ensures.reads);
+      written = omega (arith, more, c.loop-group.invariant.written, c.in_ok-to.ensures.written);
     }
 
 pub write_group-requires-2-clause-full : goal.write_group-requires-2-clause-full
@@ -64,3 +69,10 @@ returns-clause-calls g c =
     let over = c.loop-group-test.false in
     let least = c.loop-group.invariant.from in
     works_after g.met.N.Nodes.works_on g.met.N.Nodes.causes_on c.args.nodes.now c.loop-group.nodes c.write_group-2.new.nodes (λ fault is. is) c.loop-group.invariant.calls c.write_group-2.ensures.calls (omega arith) (omega (arith, over, least))
+
+pub returns-clause-written : goal.returns-clause-written
+returns-clause-written g c =
+    let over = c.loop-group-test.false in
+    let least = c.loop-group.invariant.from in
+    IfOk-weaker c.write_group-2.result (λ _. g.N.Nodes.writes c.write_group-2.new.nodes ≡ g.N.Nodes.writes c.loop-group.nodes + 1)
+    (λ _. g.N.Nodes.writes c.write_group-2.new.nodes ≡ g.N.Nodes.writes c.args.nodes.now + nodes_for (length c.args.list.now)) (λ to wrote. omega (arith, wrote, c.loop-group.invariant.written, over, least)) c.write_group-2.ensures.written

@@ -1,4 +1,4 @@
-use Rattle.std.proofs.Common.{◌≡◌, ◌-◌, ◌*◌, ◌≤◌, ◌⊎◌, Ok, length, drop}
+use Rattle.std.proofs.Common.{◌≡◌, ◌+◌, ◌-◌, ◌*◌, ◌≤◌, ◌⊎◌, Ok, length, drop}
 use Rattle.fs_types.specs.declared.limits.TheConstants.{NODE_ENTRIES}
 use Rattle.plain_trees.specs.Trees.{nodes_for}
 use Rattle.node_store.specs.Faults.{IsWriteFault}
@@ -14,4 +14,6 @@ invariant-loop-group g l = record {
   within : l.group ≤ nodes_for (length l.list);
   put : PutsBefore (g.N.Nodes.node l.fn.nodes) (g.N.Nodes.kept l.fn.nodes) (g.N.Nodes.node l.nodes) (g.N.Nodes.kept l.nodes) (nodes_for (length l.list) - l.group) l.fn.tail l.to (drop (NODE_ENTRIES * l.group) l.list);
   calls : WorksWithin g.N.Nodes IsWriteFault 0 (nodes_for (length l.list) - l.group) l.fn.nodes (Ok l.to) l.nodes;
+  reads : g.N.Nodes.reads l.nodes ≡ g.N.Nodes.reads l.fn.nodes;
+  written : g.N.Nodes.writes l.nodes + l.group ≡ g.N.Nodes.writes l.fn.nodes + nodes_for (length l.list);
 }

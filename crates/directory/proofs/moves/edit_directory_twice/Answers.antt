@@ -1,7 +1,7 @@
 use Rattle.std.proofs.Common.{◌≡◌, ℕ, ◌+◌, ◌≤◌, Bool, true, cond, ◌&&◌, Option, Some, None, unwrap_or, Result, Ok, Err, List, [], length, ap, sym, subst, ◌∙◌, arith, refl}
 use Rattle.std.specs.Prelude.{IsSome, IfOk}
 use Rattle.std.specs.Option.{is_some, is_none}
-use Rattle.std.proofs.lemmas.Result.{err_from_is_err_and}
+use Rattle.std.proofs.lemmas.Result.{IfOk-weaker, err_from_is_err_and}
 use Rattle.fs_types.specs.declared.fault.Fault.{Fault}
 use Rattle.fs_types.specs.Names.{Name}
 use Rattle.plain_trees.specs.Trees.{nodes_for}
@@ -115,3 +115,20 @@ returns-clause-calls g c =
     ap (λ (entries : Option (List Item)). edit_nodes (unwrap_or entries []) c.args.other.now (is_some c.args.gone)) all in
     let read = works_looking {IsOther = IsChangeFault} g.met.N.Nodes.looks_works c.args.nodes.now c.read_list.new.nodes (λ fault is. is) look_refused c.in_ok-read.ensures.calls in
     works_after g.met.N.Nodes.works_on g.met.N.Nodes.causes_on old c.read_list.new.nodes c.write_list.new.nodes write_refused read c.write_list.ensures.calls (omega arith) (omega (arith, count, most, same))
+
+pub returns-clause-written : goal.returns-clause-written
+returns-clause-written g c =
+    let old = c.args.nodes.now in
+    let new = c.write_list.new.nodes in
+    let f = g.N.Nodes.node old in
+    let r = c.in_ok-read.ensures.read in
+    let last = last_read c.in_ok-read.read c.in_ok-read.tail c.args.name.now c.in_ok-read.ensures.enough in
+    let all : entries_in f c.args.block ≡ Some c.in_ok-read.read = all_read f c.args.block r.0 c.in_ok-read.read c.in_ok-read.tail r.1 last in
+    let edited : IsEditedTwice c.in_ok-read.read c.args.name.now c.args.gone c.args.other.now c.args.here c.in_ok-edited.edited =
+    subst (λ (items : List Item). IsEditedTwice items c.args.name.now c.args.gone c.args.other.now c.args.here c.in_ok-edited.edited) c.list.ensures c.in_ok-edited.ensures in
+    let count : nodes_for (length c.list-2.result) ≡ nodes_for (edited_twice_count (items_in f c.args.block) c.args.name.now c.args.gone c.args.other.now c.args.here) =
+    ap (λ (items : List Item). nodes_for (length items)) c.list-2.ensures ∙ ap nodes_for edited.counted
+    ∙ ap (λ (entries : Option (List Item)). nodes_for (edited_twice_count (unwrap_or entries []) c.args.name.now c.args.gone c.args.other.now c.args.here)) (sym all) in
+    let same = c.read_list.ensures.calls.looks.same_writes in
+    IfOk-weaker c.write_list.result (λ _. g.N.Nodes.writes new ≡ g.N.Nodes.writes c.read_list.new.nodes + nodes_for (length c.list-2.result))
+    (λ _. g.N.Nodes.writes new ≡ g.N.Nodes.writes old + nodes_for (edited_twice_count (items_in f c.args.block) c.args.name.now c.args.gone c.args.other.now c.args.here)) (λ to wrote. omega (arith, wrote, same, count)) c.write_list.ensures.written

@@ -1,11 +1,11 @@
-use Rattle.std.proofs.Common.{Bool, ℕ, ◌+◌, ◌-◌, min, length, sym, ap, subst, arith}
+use Rattle.std.proofs.Common.{◌≡◌, Bool, ℕ, ◌+◌, ◌-◌, min, length, sym, ap, subst, arith}
 use Rattle.std.proofs.lemmas.Result.{err_from_is_err_and, IfOk-weaker}
 use Rattle.block_trees.specs.Bodies.{Blocks, body, IsBody}
 use Rattle.plain_trees.specs.Contents.{nodes_from}
 use Rattle.skip_list_file.specs.Reading.{HoldsBody}
 use Rattle.skip_list_file.specs.Writing.{edited, IsStored, IsWritten, BodyOnlyReaches}
 use Rattle.skip_list_file.proofs.Counted.{AreAll, few_both, few_begun_all}
-use Rattle.skip_list_file.proofs.NodeCalls.{along_looking, along_refused, along_wider, writes_after}
+use Rattle.skip_list_file.proofs.NodeCalls.{along_looking, along_wider, writes_after}
 use Rattle.skip_list_file.proofs.Growth.{holds_later, start_later, stored_later}
 use Rattle.skip_list_file.proofs.changes.change_body.Goals as goal
 
@@ -76,7 +76,7 @@ returns-in_err-start-clause-calls g c =
     let few = subst (AreAll c.args.body.length end (g.N.Nodes.reads old) (g.N.Nodes.reads mid)) (ap (λ (n : ℕ). n - 80) c.block_bytes-capacity.ensures.value)
     (few_begun_all (c.block_bytes-capacity.result - 80) c.args.body.length end (g.N.Nodes.reads old) (g.N.Nodes.reads mid) c.start_at.ensures.calls.reads) in
     let p = err_from_is_err_and c.from_residual.result c.from_residual.ensures.1 in
-    rw (p.1, p.2) (along_looking g.met.N.Nodes.looks_works old mid (along_wider (along_refused c.in_err-start.ensures.calls) few))
+    rw (p.1, p.2) (along_looking g.met.N.Nodes.looks_works old mid (along_wider c.in_err-start.ensures.calls few))
 
 pub returns-clause-calls : goal.returns-clause-calls
 returns-clause-calls g c =
@@ -92,3 +92,5 @@ returns-clause-calls g c =
     (subst (AreAll c.args.body.length end (g.N.Nodes.reads old) (g.N.Nodes.reads new)) same
     (few_both (c.block_bytes-capacity.result - 80) c.args.body.length end (g.N.Nodes.reads old) (g.N.Nodes.reads mid) (g.N.Nodes.reads new) first.reads then.reads))
     (omega (arith, need, then.writes, first.looks.same_writes))
+    (IfOk-weaker c.write_nodes.result (λ _. g.N.Nodes.writes new ≡ g.N.Nodes.writes mid + nodes_from (c.block_bytes-capacity.result - 80) (min c.args.offset c.args.body.length) c.args.size)
+    (λ _. g.N.Nodes.writes new ≡ g.N.Nodes.writes old + nodes_from (g.N.Nodes.limit old - 80) (min c.args.offset c.args.body.length) c.args.size) (λ _ written. omega (arith, need, written, first.looks.same_writes)) then.written)

@@ -1,6 +1,6 @@
 use Rattle.std.proofs.Common.{◌≤◌, ◌≡◌, ℕ, ◌+◌, ◌-◌, ◌*◌, ◌<◌, min, List, length, take, drop, refl, sym, ap, subst, ◌∙◌, arith}
 use Rattle.std.proofs.lemmas.Result.{err_from_is_err_and}
-use Rattle.std.proofs.Math.Nat.{div-mul-le_self}
+use Rattle.std.proofs.Math.Nat.{div-mul-le_self, le_of_eq}
 use Rattle.block_trees.specs.Bodies.{head_index, body, IsBody}
 use Rattle.node_format.specs.declared.place.Place.TheVariants.{File}
 use Rattle.node_store.specs.Words.{IsHeld, Keeps}
@@ -78,7 +78,7 @@ loop-index-preserved g c =
       reads = few_on change.capacity change.body.length change.offset end c.args.start.first i (min change.capacity (change.size - i * change.capacity)) (g.N.Nodes.reads old) (g.N.Nodes.reads at) (g.N.Nodes.reads c.write_node.new.nodes) (length c.args.start.old.items)
           least c.requires.start.first c.loop-index.auto.index (omega arith) c.requires.start.count
           c.write_node.ensures.reads.unread (λ listed. c.write_node.ensures.reads.one (subst (λ (l : List ℕ). head_index c.args.change.capacity c.args.change.body.length - c.loop-index.index < length l) (sym c.as_slice.ensures.value) listed)) c.write_node.ensures.calls.reads c.loop-index.invariant.reads;
-      writes = omega (arith, c.in_ok-head.ensures.calls.writes, c.loop-index.invariant.writes, c.loop-index.auto.index);
+      writes = omega (arith, c.in_ok-head.ensures.calls.written, c.loop-index.invariant.writes, c.loop-index.auto.index);
       works = g.met.N.Nodes.works_on old at c.write_node.new.nodes c.loop-index.invariant.works c.write_node.ensures.calls.works;
     }
 
@@ -116,17 +116,19 @@ returns-in_err-head-clause-calls g c =
     let p = err_from_is_err_and c.from_residual.result c.from_residual.ensures.1 in
     rw (p.1, p.2) (writes_after g.met.N.Nodes.works_on g.met.N.Nodes.causes_on c.args.nodes.now c.loop-index.nodes c.write_node.new.nodes now.works (writes_refused c.in_err-head.ensures.calls)
     (few_all change.capacity change.body.length end c.args.start.first (c.loop-index.index + 1) (g.N.Nodes.reads c.args.nodes.now) (g.N.Nodes.reads c.write_node.new.nodes) few)
-    (omega (arith, done.calls.writes, now.writes, c.loop-index.auto.index, c.loop-index-test.true, c.requires.start.first)))
+    (omega (arith, done.calls.writes, now.writes, c.loop-index.auto.index, c.loop-index-test.true, c.requires.start.first)) tt)
 
 pub returns-clause-calls : goal.returns-clause-calls
 returns-clause-calls g c =
     let change = c.args.change in
     let now = c.loop-index.invariant in
+    let written = written_count change.capacity (min change.offset change.body.length) change.size c.args.start.first c.loop-index.index (g.N.Nodes.writes c.args.nodes.now) (g.N.Nodes.writes c.loop-index.nodes) (omega (arith, change.least)) c.requires.start.first change.changed
+    (omega (arith, c.loop-index-test.false)) c.loop-index.auto.index-end now.writes in
     record {
       works = now.works;
       reads = few_all change.capacity change.body.length (change.offset + length c.args.bytes.now) c.args.start.first c.loop-index.index (g.N.Nodes.reads c.args.nodes.now) (g.N.Nodes.reads c.loop-index.nodes) now.reads;
-      writes = written_count change.capacity (min change.offset change.body.length) change.size c.args.start.first c.loop-index.index (g.N.Nodes.writes c.args.nodes.now) (g.N.Nodes.writes c.loop-index.nodes) (omega (arith, change.least)) c.requires.start.first change.changed
-          (omega (arith, c.loop-index-test.false)) c.loop-index.auto.index-end now.writes;
+      writes = le_of_eq written;
+      written = written;
       why = tt;
       faults = tt;
     }

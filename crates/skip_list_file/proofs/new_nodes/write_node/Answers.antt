@@ -6,7 +6,7 @@ use Rattle.node_format.specs.Headers.{body_header}
 use Rattle.node_format.specs.BodyNodes.{IsBodySpelling}
 use Rattle.block_trees.specs.Bodies.{Blocks}
 use Rattle.skip_list_file.specs.Writing.{IsGrown, IsStored, IsTable, bytes_after, part_after}
-use Rattle.skip_list_file.proofs.NodeCalls.{along_looking, along_refused, writes_after, writes_within}
+use Rattle.skip_list_file.proofs.NodeCalls.{along_looking, writes_after, writes_within}
 use Rattle.skip_list_file.proofs.Marks.{table_slots}
 use Rattle.skip_list_file.proofs.Growth.{grown_from, stored_later}
 use Rattle.skip_list_file.proofs.new_nodes.write_node.Goals as goal
@@ -73,7 +73,7 @@ returns-clause-table g c =
 
 pub returns-clause-reads : goal.returns-clause-reads
 returns-clause-reads g c = record {
-  unread = λ none. omega (arith, c.edited_node.ensures.reads.unread none, c.append.ensures.calls.reads);
+  unread = λ none. omega (arith, c.edited_node.ensures.reads.unread none, c.append.ensures.reads);
   one = λ listed. omega (arith, c.edited_node.ensures.reads.one listed, c.append.ensures.calls.reads);
 }
 
@@ -83,9 +83,10 @@ returns-clause-calls g c =
     let mid = c.edited_node.new.nodes in
     let first = c.edited_node.ensures.calls in
     let then = c.append.ensures.calls in
-    writes_after g.met.N.Nodes.works_on g.met.N.Nodes.causes_on old mid c.append.new.nodes (g.met.N.Nodes.looks_works old mid first.looks) (writes_within 0 then) (λ digits has. omega (arith, first.reads digits has, then.reads)) (omega (arith, first.looks.same_writes, then.writes))
+    writes_after g.met.N.Nodes.works_on g.met.N.Nodes.causes_on old mid c.append.new.nodes (g.met.N.Nodes.looks_works old mid first.looks) (writes_within 0 then c.append.ensures.written) (λ digits has. omega (arith, first.reads digits has, then.reads)) (omega (arith, first.looks.same_writes, then.writes))
+    (IfOk-weaker c.append.result (λ _. g.N.Nodes.writes c.append.new.nodes ≡ g.N.Nodes.writes mid + 1) (λ _. g.N.Nodes.writes c.append.new.nodes ≡ g.N.Nodes.writes old + 1) (λ _ written. omega (arith, written, first.looks.same_writes)) c.append.ensures.written)
 
 pub returns-in_err-node-clause-calls : goal.returns-in_err-node-clause-calls
 returns-in_err-node-clause-calls g c =
     let p = err_from_is_err_and c.from_residual.result c.from_residual.ensures.1 in
-    rw (p.1, p.2) (along_looking g.met.N.Nodes.looks_works c.args.nodes.now c.edited_node.new.nodes (along_refused c.in_err-node.ensures.calls))
+    rw (p.1, p.2) (along_looking g.met.N.Nodes.looks_works c.args.nodes.now c.edited_node.new.nodes c.in_err-node.ensures.calls)

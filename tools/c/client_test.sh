@@ -2,8 +2,8 @@
 # Builds the client with its drivers and runs each demo, under the address and undefined sanitizers:
 #   tools/c/client_test.sh [PROGRAM]
 # PROGRAM is the `uffs` of crates/uffs/out, as `rt run` builds it there, or another one. The last line counts.
+program=$(realpath "${1:-$(dirname "$0")/../../crates/uffs/out/uffs}") || exit 2
 cd "$(dirname "$0")" || exit 2
-program=$(realpath "${1:-../../crates/uffs/out/uffs}")
 made=$(mktemp -d)
 trap 'rm -rf "$made"' EXIT
 passed=0 failed=0
@@ -55,6 +55,10 @@ try demo_raw_nand "raw_nand.c nand_in_memory.c demo_raw_nand.c" "$program" << EN
 raw NAND: 66 operations, 66 runs with a cut, 8 with failures, 0 wrong
 END
 
+try demo_spare_bits "raw_nand.c nand_in_memory.c demo_spare_bits.c" << END
+spare bits: 22569 states of a page, 0 wrong
+END
+
 # A client that waits in a write of lines stands still, since the child waits for the answer to an order.
 sed 's/fcntl(u->lines, F_SETFL, O_NONBLOCK)/fcntl(u->lines, F_SETFL, 0)/' undofs_client.c > "$made/blocking.c"
 name=blocking client="$made/blocking.c undofs_calls.c"
@@ -70,10 +74,18 @@ build -I. "$made/wrong.c" nand_in_memory.c demo_raw_nand.c && ! "$made/$name" "$
 tell "a driver that tells a failed program as done is seen" $?
 
 # Nor one without a sum: a page that a cut tore is taken for its bytes.
-sed 's/memcmp(spare, wanted, NAND_SPARE) == 0/spare[0] == mark[0] || (spare[0] \& 1)/' raw_nand.c > "$made/wrong.c"
+sed 's/are_near(spare, wanted) ?/(are_near(spare, wanted) || spare[0] == mark[0] || (spare[0] \& 1)) ?/' raw_nand.c > "$made/wrong.c"
 name=wrong_sum
 build -I. "$made/wrong.c" nand_in_memory.c demo_raw_nand.c && ! "$made/$name" "$program" > /dev/null 2>&1
 tell "a driver that looks at no sum is seen" $?
+
+# Nor one that allows for no flipped bit in the spare bytes, or for three.
+for flips in 0 3; do
+    sed "s/FLIPS = 2 /FLIPS = $flips /" raw_nand.c > "$made/wrong.c"
+    name=wrong_flips
+    build -I. "$made/wrong.c" nand_in_memory.c demo_spare_bits.c && ! "$made/$name" > /dev/null
+    tell "a driver that allows for $flips flipped bits is seen" $?
+done
 
 python3 ../python/test_undofs.py "$program"
 tell "undofs.py" $?

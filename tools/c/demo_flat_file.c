@@ -31,7 +31,7 @@ int main(int count, char **words) {
     struct flat_file file;
     size_t got;
     uint32_t opened;
-    if (count != 3 || flat_file_open(&file, words[2], &sizes) != 0) return 2;
+    if (count != 3 || flat_file_open(&file, words[2], &sizes, NULL) != 0) return 2;
     struct undofs_driver driver = flat_file_driver(&file);
     want(undofs_start(&handle, words[1], &driver, file.is_new ? 8 : 0), "start");
 

@@ -4,13 +4,15 @@
 #include "flat_file.h"
 #include <errno.h>
 #include <fcntl.h>
+#include <stdlib.h>
 #include <string.h>
 #include <sys/file.h>
+#include <sys/random.h>
 #include <sys/stat.h>
 #include <time.h>
 #include <unistd.h>
 
-enum { HEAD = 4096, ANCHORS = 8, MOST_PAGES = 262144 / 256 };
+enum { HEAD = 4096, IDENTITY_AT = 20, ANCHORS = 8, MOST_PAGES = 262144 / 256 };
 
 static off_t state_at(uint64_t page) { return (off_t)(HEAD + page); }
 
@@ -86,16 +88,30 @@ static void put_number(uint8_t *to, uint32_t number) {
 
 static uint32_t number_at(const uint8_t *from) { return (uint32_t)from[0] | (uint32_t)from[1] << 8 | (uint32_t)from[2] << 16 | (uint32_t)from[3] << 24; }
 
-/* Makes the file so long that all is erased, and then its head, which says that it is one. */
-static int make(struct flat_file *file, const struct undofs_sizes *sizes) {
+/* Brings the name of a file to the disk. */
+static int is_name_synced(const char *name) {
+    const char *slash = strrchr(name, '/');
+    char *folder = slash == NULL ? strdup(".") : strndup(name, (size_t)(slash - name) + 1);
+    int descriptor = folder == NULL ? -1 : open(folder, O_RDONLY | O_DIRECTORY | O_CLOEXEC);
+    int is_synced = descriptor >= 0 && fsync(descriptor) == 0, why = errno;
+    if (descriptor >= 0) close(descriptor);
+    free(folder);
+    errno = why;
+    return is_synced;
+}
+
+/* Makes the file so long that all is erased, and then its head, which says that it is one. All its room is taken now: a write that
+ * found none later would count as power that went. */
+static int make(struct flat_file *file, const char *name, const struct undofs_sizes *sizes) {
     uint8_t head[20] = "UFFSPART";
     file->sizes = *sizes;
     put_number(head + 8, sizes->page);
     put_number(head + 12, sizes->pages);
     put_number(head + 16, sizes->blocks);
-    int is_made = ftruncate(file->descriptor, bytes_at(sizes, (uint64_t)sizes->pages * sizes->blocks)) == 0;
-    is_made = is_made && fsync(file->descriptor) == 0 && is_written(file->descriptor, head, sizeof head, 0);
-    return is_made && fsync(file->descriptor) == 0 ? 0 : errno;
+    int why = posix_fallocate(file->descriptor, 0, bytes_at(sizes, (uint64_t)sizes->pages * sizes->blocks));
+    if (why != 0) return why;
+    int is_made = fsync(file->descriptor) == 0 && is_written(file->descriptor, head, sizeof head, 0);
+    return is_made && fsync(file->descriptor) == 0 && is_name_synced(name) ? 0 : errno;
 }
 
 static int look_at_head(struct flat_file *file, off_t length) {
@@ -107,29 +123,43 @@ static int look_at_head(struct flat_file *file, off_t length) {
     return length == bytes_at(&s, (uint64_t)s.pages * s.blocks) ? 0 : EINVAL;
 }
 
-static int claim(int descriptor) {
-    const struct timespec while_waiting = {0, 100000000};
-    for (int tries = 0; tries < 100; tries++) {
+/* Who had the file may still bring its last changes to it. */
+static int claim(int descriptor, void (*tell_in_use)(void)) {
+    enum { TENTHS = 100, TOLD_AT = 10 };
+    const struct timespec tenth = {0, 100000000};
+    for (int tenths = 0; tenths < TENTHS; tenths++) {
         if (flock(descriptor, LOCK_EX | LOCK_NB) == 0) return 0;
         if (errno != EWOULDBLOCK && errno != EINTR) return errno;
-        nanosleep(&while_waiting, NULL);
+        if (tenths == TOLD_AT && tell_in_use != NULL) tell_in_use();
+        nanosleep(&tenth, NULL);
     }
     return EBUSY;
 }
 
-int flat_file_open(struct flat_file *file, const char *name, const struct undofs_sizes *sizes) {
+int flat_file_open(struct flat_file *file, const char *name, const struct undofs_sizes *sizes, void (*tell_in_use)(void)) {
     struct stat found;
     file->descriptor = open(name, O_RDWR | O_CREAT | O_CLOEXEC, 0600);
     if (file->descriptor < 0) return errno;
-    int why = claim(file->descriptor);
+    int why = claim(file->descriptor, tell_in_use);
     if (why == 0 && fstat(file->descriptor, &found) != 0) why = errno;
     if (why == 0 && !S_ISREG(found.st_mode)) why = EINVAL;
     if (why == 0) {
         file->is_new = found.st_size == 0;
-        why = file->is_new ? make(file, sizes) : look_at_head(file, found.st_size);
+        why = file->is_new ? make(file, name, sizes) : look_at_head(file, found.st_size);
+        if (file->is_new && why != 0) (void)unlink(name);
     }
     if (why != 0) close(file->descriptor);
     return why;
 }
 
 void flat_file_close(struct flat_file *file) { close(file->descriptor); }
+
+int flat_file_identity(struct flat_file *file, int is_new, uint8_t identity[FLAT_FILE_IDENTITY]) {
+    static const uint8_t none[FLAT_FILE_IDENTITY];
+    errno = EIO; /* a file that ends too early sets none */
+    if (!is_read(file->descriptor, identity, FLAT_FILE_IDENTITY, IDENTITY_AT)) return errno;
+    if (!is_new && memcmp(identity, none, sizeof none) != 0) return 0;
+    if (getrandom(identity, FLAT_FILE_IDENTITY, 0) != FLAT_FILE_IDENTITY) return errno;
+    int is_given = is_written(file->descriptor, identity, FLAT_FILE_IDENTITY, IDENTITY_AT) && fdatasync(file->descriptor) == 0;
+    return is_given ? 0 : errno;
+}

@@ -2,6 +2,8 @@
 #include "raw_nand.h"
 #include <string.h>
 
+enum { FLIPS = 2 }; /* so many bits of the spare bytes may be wrong: the chip's correction does not cover these */
+
 static const uint8_t mark[2] = {0x55, 0xaa};
 
 static uint32_t sum_more(uint32_t sum, const uint8_t *bytes, size_t count) {
@@ -27,6 +29,12 @@ static int are_ones(const uint8_t *bytes, size_t count) {
     return count == 0;
 }
 
+static int are_near(const uint8_t *spare, const uint8_t *wanted) {
+    int flips = 0;
+    for (int bit = 0; bit < 8 * NAND_SPARE; bit++) flips += (spare[bit / 8] ^ wanted[bit / 8]) >> bit % 8 & 1;
+    return flips <= FLIPS;
+}
+
 static enum undofs_state read_page(void *part, uint32_t page, uint8_t *bytes) {
     const struct nand_chip *n = part;
     uint8_t spare[NAND_SPARE], wanted[NAND_SPARE];
@@ -36,7 +44,7 @@ static enum undofs_state read_page(void *part, uint32_t page, uint8_t *bytes) {
     if (result == NAND_BROKEN) return UNDOFS_UNREADABLE;
     if (are_ones(spare, NAND_SPARE)) return are_ones(bytes, n->sizes.page) ? UNDOFS_ERASED : UNDOFS_UNREADABLE;
     make_spare(wanted, &n->sizes, page, bytes);
-    return memcmp(spare, wanted, NAND_SPARE) == 0 ? UNDOFS_DATA : UNDOFS_UNREADABLE;
+    return are_near(spare, wanted) ? UNDOFS_DATA : UNDOFS_UNREADABLE;
 }
 
 /* A page whose program failed may hold its bytes all the same. Then it cannot be shown as unreadable, and the part

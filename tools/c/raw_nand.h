@@ -1,5 +1,6 @@
 /* A driver for raw NAND: beside each page stand a mark and a sum in six spare bytes, so that a page is told as erased, as
- * its bytes, or as unreadable. The chip under it corrects errors, or says that it cannot. */
+ * its bytes, or as unreadable. The chip under it corrects errors in the bytes, or says that it cannot; of the spare bytes two bits may be
+ * wrong. */
 #ifndef RAW_NAND_H
 #define RAW_NAND_H
 

@@ -57,15 +57,23 @@ void undofs_put_word(struct undofs_lines *lines, const char *word) {
     lines->length += (size_t)(at - to);
 }
 
+/* The two digits of each byte. */
+static const char *digit_pairs(void) {
+    static char pairs[2 * 256];
+    for (size_t byte = 0; byte < 256 && pairs[511] == 0; byte++) {
+        pairs[2 * byte] = digits_of[byte >> 4];
+        pairs[2 * byte + 1] = digits_of[byte & 15];
+    }
+    return pairs;
+}
+
 void undofs_put_data(struct undofs_lines *lines, const uint8_t *bytes, size_t count) {
+    const char *pairs = digit_pairs();
     char *at = room_for(lines, 2 * count + 1);
     if (at == NULL) return;
     if (count == 0) *at = '-';
     lines->length += count == 0 ? 1 : 2 * count;
-    for (size_t i = 0; i < count; i++) {
-        *at++ = digits_of[bytes[i] >> 4];
-        *at++ = digits_of[bytes[i] & 15];
-    }
+    for (size_t i = 0; i < count; i++, at += 2) memcpy(at, pairs + 2 * (size_t)bytes[i], 2);
 }
 
 void undofs_put_end(struct undofs_lines *lines) { undofs_put_text(lines, "\n"); }
@@ -77,12 +85,18 @@ static unsigned digit_of(char digit) {
     return (unsigned)((digit | 0x20) - 'a') + 10;
 }
 
+/* The value of each digit. */
+static const uint8_t *digit_values(void) {
+    static uint8_t values[256];
+    for (unsigned digit = '0'; digit <= 'f' && values['f'] == 0; digit++) values[digit] = (uint8_t)digit_of((char)digit);
+    return values;
+}
+
 size_t undofs_take_data(const char *reply, uint8_t *bytes, size_t count) {
     if (strncmp(reply, "data ", 5) != 0 || reply[5] == '-') return 0;
-    size_t taken = 0;
-    for (const char *at = reply + 5; taken < count && at[0] != 0 && at[1] != 0; at += 2) {
-        bytes[taken++] = (uint8_t)(digit_of(at[0]) << 4 | digit_of(at[1]));
-    }
+    const uint8_t *values = digit_values(), *at = (const uint8_t *)reply + 5;
+    size_t had = strlen(reply + 5) / 2, taken = had < count ? had : count;
+    for (size_t i = 0; i < taken; i++) bytes[i] = (uint8_t)(values[at[2 * i]] << 4 | values[at[2 * i + 1]]);
     return taken;
 }
 
@@ -138,12 +152,10 @@ int undofs_pread(struct undofs *u, uint32_t file, uint64_t offset, uint8_t *byte
     return why;
 }
 
-enum { DATA_OF_LINE = 32000 }; /* so many bytes fit in a line beside its other words */
-
 /* Adds the lines that write bytes to an open file. */
 static void put_writes(struct undofs_lines *lines, uint32_t file, uint64_t offset, const uint8_t *bytes, size_t count) {
     for (size_t done = 0; done < count || done == 0;) {
-        size_t now = count - done < DATA_OF_LINE ? count - done : DATA_OF_LINE;
+        size_t now = count - done < UNDOFS_MOST_DATA ? count - done : UNDOFS_MOST_DATA;
         undofs_put_text(lines, "pwrite ");
         undofs_put_number(lines, file);
         undofs_put_text(lines, " ");
@@ -178,7 +190,7 @@ static int write_pieces(struct undofs *u, const char *path, const uint8_t *bytes
     int why = undofs_open(u, path, UNDOFS_WRITE | UNDOFS_CREAT | UNDOFS_TRUNC, &file);
     if (why != 0) return why;
     for (size_t done = 0, now; done < count && why == 0; done += now) {
-        now = count - done < DATA_OF_LINE ? count - done : DATA_OF_LINE;
+        now = count - done < UNDOFS_MOST_DATA ? count - done : UNDOFS_MOST_DATA;
         why = undofs_pwrite(u, file, done, bytes + done, now);
     }
     int closed = undofs_close(u, file);

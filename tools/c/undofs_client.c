@@ -10,9 +10,10 @@
 #include <stdlib.h>
 #include <string.h>
 #include <sys/wait.h>
+#include <time.h>
 #include <unistd.h>
 
-enum { MOST_PAGE = 4096, MESSAGE = 512 };
+enum { MOST_PAGE = 4096, MESSAGE = 512, LONG_PIPE = 1 << 20 };
 
 struct undofs {
     const struct undofs_driver *driver;
@@ -21,7 +22,9 @@ struct undofs {
     int errors;
     pid_t child;
     int gone;
-    uint64_t order_count;
+    unsigned wait;     /* so many seconds the child may stand still; 0 for ever */
+    double last_moved; /* when it gave or took a byte */
+    uint64_t order_count, erase_count;
     struct undofs_lines line; /* that of a call */
     char *reply_text;
     size_t reply_length, reply_room;
@@ -39,34 +42,66 @@ static int write_all(int to, const uint8_t *bytes, size_t count) {
     return 0;
 }
 
-static int read_all(int from, uint8_t *bytes, size_t count) {
-    while (count > 0) {
-        ssize_t got = read(from, bytes, count);
-        if (got < 0 && errno == EINTR) continue;
-        if (got <= 0) return -1;
-        bytes += got;
-        count -= (size_t)got;
-    }
+/* ---- waiting ---- */
+
+static double seconds_now(void) {
+    struct timespec now;
+    clock_gettime(CLOCK_MONOTONIC, &now);
+    return (double)now.tv_sec + (double)now.tv_nsec / 1e9;
+}
+
+/* Milliseconds until the child has stood still for too long; -1 for ever. */
+static int wait_left(const struct undofs *u) {
+    if (u->wait == 0) return -1;
+    double left = u->last_moved + u->wait - seconds_now();
+    return left <= 0 ? 0 : left > 1e6 ? 1000000000 : (int)(left * 1000) + 1;
+}
+
+/* Waits until one of the streams is ready. Not 0 where none was for too long, or where that cannot be told. */
+static int wait_for(struct undofs *u, struct pollfd *streams, nfds_t count) {
+    int ready;
+    do ready = poll(streams, count, wait_left(u));
+    while ((ready < 0 && errno == EINTR) || (ready == 0 && wait_left(u) > 0));
+    if (ready <= 0) return -1;
+    u->last_moved = seconds_now();
     return 0;
 }
 
 /* ---- the driver's side ---- */
 
+enum { ORDER_HEAD = 5 };
+
+/* Reads an order up to `wanted` bytes, and no more than `room`: no other one comes before the answer. The first are there. */
+static int read_order(struct undofs *u, uint8_t *order, size_t *had, size_t wanted, size_t room) {
+    while (*had < wanted) {
+        struct pollfd stream = {u->orders, POLLIN, 0};
+        if (*had > 0 && wait_for(u, &stream, 1) != 0) return -1;
+        ssize_t got = read(u->orders, order + *had, room - *had);
+        if (got < 0 && errno == EINTR) continue;
+        if (got <= 0) return -1;
+        *had += (size_t)got;
+    }
+    return 0;
+}
+
 static int carry_out_order(struct undofs *u) {
     const struct undofs_driver *d = u->driver;
-    uint8_t order[5], bytes[MOST_PAGE];
-    if (read_all(u->orders, order, sizeof order) != 0) return -1;
+    uint8_t order[ORDER_HEAD + MOST_PAGE];
+    size_t had = 0, whole = ORDER_HEAD + d->sizes.page;
+    if (read_order(u, order, &had, ORDER_HEAD, whole) != 0) return -1;
     uint32_t number = (uint32_t)order[1] | (uint32_t)order[2] << 8 | (uint32_t)order[3] << 16 | (uint32_t)order[4] << 24;
     enum undofs_answer answer;
     if (order[0] == 'p' && number / d->sizes.pages < d->sizes.blocks) {
-        if (read_all(u->orders, bytes, d->sizes.page) != 0) return -1;
-        answer = d->program_page(d->part, number, bytes);
+        if (read_order(u, order, &had, whole, whole) != 0) return -1;
+        answer = d->program_page(d->part, number, order + ORDER_HEAD);
     } else if (order[0] == 'e' && number < d->sizes.blocks) {
         answer = d->erase_block(d->part, number);
     } else {
         return -1;
     }
     u->order_count++;
+    u->erase_count += order[0] == 'e';
+    u->last_moved = seconds_now(); /* the driver took its time, and not the child */
     uint8_t byte = (uint8_t)answer;
     return write_all(u->answers, &byte, 1);
 }
@@ -155,8 +190,8 @@ static int start_child(struct undofs *u, const char *program, uint32_t history) 
         return UNDOFS_NO_CHILD;
     }
     char answers[32], orders[32], kept[16], serve[] = "serve", option[] = "--history";
-    snprintf(answers, sizeof answers, "/dev/fd/%d", pipes[ANSWERS].read);
-    snprintf(orders, sizeof orders, "/dev/fd/%d", pipes[ORDERS].write);
+    snprintf(answers, sizeof answers, "/proc/self/fd/%d", pipes[ANSWERS].read);
+    snprintf(orders, sizeof orders, "/proc/self/fd/%d", pipes[ORDERS].write);
     snprintf(kept, sizeof kept, "%u", history);
     char *name = strdup(program);
     char *words[] = {name, serve, answers, orders, history != 0 ? option : NULL, kept, NULL};
@@ -174,7 +209,26 @@ static int start_child(struct undofs *u, const char *program, uint32_t history) 
     u->answers = pipes[ANSWERS].write;
     struct ends given[COUNT] = {{pipes[IN].read, -1}, {pipes[OUT].write, -1}, {pipes[ERROR].write, -1}, {pipes[ORDERS].write, -1}, {pipes[ANSWERS].read, -1}};
     close_pipes(given, COUNT);
+    (void)fcntl(u->replies, F_SETPIPE_SZ, LONG_PIPE); /* fewer ways to and fro, where the host allows it */
     return fcntl(u->lines, F_SETFL, O_NONBLOCK) == 0 ? 0 : UNDOFS_NO_CHILD;
+}
+
+/* Keeps what the child told on standard error, up to its end. One that stands still is killed. */
+static void read_message(struct undofs *u) {
+    size_t told = 0;
+    u->last_moved = seconds_now();
+    while (told < MESSAGE - 1) {
+        struct pollfd stream = {u->errors, POLLIN, 0};
+        if (wait_for(u, &stream, 1) != 0) {
+            (void)kill(u->child, SIGKILL);
+            break;
+        }
+        ssize_t got = read(u->errors, u->message + told, MESSAGE - 1 - told);
+        if (got < 0 && errno == EINTR) continue;
+        if (got <= 0) break;
+        told += (size_t)got;
+    }
+    if (told > 0) u->message[told] = 0;
 }
 
 /* Closes the child's streams, waits for it and keeps what it told. */
@@ -184,14 +238,7 @@ static void end_child(struct undofs *u) {
     close(u->answers);
     close(u->orders);
     close(u->replies);
-    size_t told = 0;
-    while (told < MESSAGE - 1) {
-        ssize_t got = read(u->errors, u->message + told, MESSAGE - 1 - told);
-        if (got < 0 && errno == EINTR) continue;
-        if (got <= 0) break;
-        told += (size_t)got;
-    }
-    if (told > 0) u->message[told] = 0;
+    if (u->message[0] == 0) read_message(u); /* else it tells already why the child was not begun with */
     close(u->errors);
     while (waitpid(u->child, NULL, 0) < 0 && errno == EINTR) {
     }
@@ -199,6 +246,7 @@ static void end_child(struct undofs *u) {
 }
 
 static int is_gone(struct undofs *u) {
+    if (u->child > 0 && wait_left(u) == 0) (void)kill(u->child, SIGKILL);
     end_child(u);
     u->gone = 1;
     return UNDOFS_GONE;
@@ -233,6 +281,8 @@ int undofs_start(struct undofs **handle, const char *program, const struct undof
     return why;
 }
 
+void undofs_set_wait(struct undofs *u, unsigned seconds) { u->wait = seconds; }
+
 void undofs_end(struct undofs *u) {
     if (u == NULL) return;
     end_child(u);
@@ -241,9 +291,17 @@ void undofs_end(struct undofs *u) {
     free(u);
 }
 
+int undofs_is_there(const struct undofs *u) {
+    siginfo_t ended = {0};
+    if (u->gone || u->child <= 0) return 0;
+    return waitid(P_PID, (id_t)u->child, &ended, WEXITED | WNOHANG | WNOWAIT) == 0 && ended.si_pid == 0;
+}
+
 const char *undofs_message(const struct undofs *u) { return u->message; }
 
 uint64_t undofs_orders(const struct undofs *u) { return u->order_count; }
+
+uint64_t undofs_erases(const struct undofs *u) { return u->erase_count; }
 
 /* ---- lines and replies ---- */
 
@@ -265,17 +323,16 @@ static int has_reply_room(struct undofs *u, size_t more) {
 
 /* Reads what there is of replies, and ends each by NUL. How many ended, or -1. */
 static int take_replies(struct undofs *u) {
-    enum { SOME = 1 << 16 };
+    enum { SOME = 1 << 18 };
     if (!has_reply_room(u, SOME)) return -1;
     ssize_t got = read(u->replies, u->reply_text + u->reply_length, SOME);
     if (got < 0 && errno == EINTR) return 0;
     if (got <= 0) return -1;
     int ended = 0;
-    for (char *at = u->reply_text + u->reply_length, *end = at + got; at < end; at++) {
-        if (*at == '\n') {
-            *at = 0;
-            ended++;
-        }
+    char *end = u->reply_text + u->reply_length + got;
+    for (char *at = u->reply_text + u->reply_length; (at = memchr(at, '\n', (size_t)(end - at))) != NULL;) {
+        *at++ = 0;
+        ended++;
     }
     u->reply_length += (size_t)got;
     return ended;
@@ -305,14 +362,13 @@ int undofs_exchange(struct undofs *u, const struct undofs_lines *lines) {
     u->reply_length = 0;
     if (lines->failed) return UNDOFS_NO_MEMORY;
     if (u->gone) return UNDOFS_GONE;
-    for (size_t i = 0; i < lines->length; i++) wanted += lines->text[i] == '\n';
+    const char *end = lines->text + lines->length;
+    for (const char *at = lines->text; at < end && (at = memchr(at, '\n', (size_t)(end - at))) != NULL; at++) wanted++;
+    u->last_moved = seconds_now();
     while (had < wanted) {
         int to = sent < lines->length ? u->lines : -1;
         struct pollfd ends[3] = {{u->replies, POLLIN, 0}, {orders, POLLIN, 0}, {to, POLLOUT, 0}};
-        if (poll(ends, 3, -1) < 0) {
-            if (errno != EINTR) return is_gone(u);
-            continue;
-        }
+        if (wait_for(u, ends, 3) != 0) return is_gone(u);
         if (ends[1].revents & POLLIN) {
             if (carry_out_order(u) != 0) return is_gone(u);
             continue;

@@ -48,8 +48,11 @@ struct undofs_driver {
 
 enum undofs_fault {
     UNDOFS_ENOENT = 1,
+    UNDOFS_ENOTDIR = 2,
     UNDOFS_EEXIST = 4,
     UNDOFS_ENOSPC = 15,
+    UNDOFS_TOOOLD = 18,
+    UNDOFS_NOSUCHVERSION = 20,
     UNDOFS_POWERCUT = 24,
     UNDOFS_NORECORD = 27,
     UNDOFS_INGROUP = 31,
@@ -64,7 +67,10 @@ enum undofs_fault {
 
 enum undofs_flags { UNDOFS_READ = 1, UNDOFS_WRITE = 2, UNDOFS_CREAT = 4, UNDOFS_EXCL = 8, UNDOFS_TRUNC = 16 };
 
-enum { UNDOFS_LINE = 65536 }; /* the most bytes of a line */
+enum {
+    UNDOFS_LINE = 65536, /* the most bytes of a line */
+    UNDOFS_MOST_DATA = 32748, /* so many bytes of a file fit in a `pwrite`; a node of a block of 128 KiB has four times as many */
+};
 
 struct undofs;
 
@@ -72,12 +78,19 @@ struct undofs;
  * history that is not 0 an empty file system that keeps so many versions is made first, whatever the part holds. Where
  * the start is refused `*handle` is null or only tells its message; `undofs_end` takes both. */
 int undofs_start(struct undofs **handle, const char *program, const struct undofs_driver *driver, uint32_t history);
-/* Ends the child and waits for it. What was not synced is lost. */
+/* From now on a child that gave and took no byte for so many seconds while it was waited for is killed: the call answers UNDOFS_GONE,
+ * and so does each later one. 0, as from the start on, waits for ever. Time in the driver does not count. */
+void undofs_set_wait(struct undofs *handle, unsigned seconds);
+/* Ends the child and waits for it, no longer than that. What was not synced is lost. */
 void undofs_end(struct undofs *handle);
+/* Whether the child has not ended, as far as can be told with no line. */
+int undofs_is_there(const struct undofs *handle);
 /* What the child wrote on standard error, once it is gone; before, no bytes. */
 const char *undofs_message(const struct undofs *handle);
 /* How many orders the driver was asked. */
 uint64_t undofs_orders(const struct undofs *handle);
+/* How many of these were erases. A block is erased when it is taken, so that no more blocks were taken. */
+uint64_t undofs_erases(const struct undofs *handle);
 
 /* Files. A read may have fewer bytes than were asked, at the end of the file. A write of more than a line holds is
  * several lines, and outside a group several versions; `undofs_write_file` is one version whatever its length. */

@@ -14,7 +14,7 @@ struct place {
 struct place place_of(const char *path);
 
 /* Does what was written to `.undofs`. An errno below 0, or 0. */
-int control_write(const char *text, size_t length, int writers);
+int control_write(const char *text, size_t length);
 /* What `.undofs` reads as; to be freed. */
 char *control_text(void);
 

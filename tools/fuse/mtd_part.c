@@ -92,9 +92,10 @@ static enum undofs_answer nor_erase_block(void *part, uint32_t block) {
 
 /* ---- open ---- */
 
-static int find_sizes(struct mtd_part *m, const struct mtd_info_user *info) {
-    m->is_nor = info->type == MTD_NORFLASH;
-    if (!m->is_nor && info->type != MTD_NANDFLASH && info->type != MTD_MLCNANDFLASH) return ENODEV;
+static int find_sizes(struct mtd_part *m, const struct mtd_info_user *info, int is_nor) {
+    int is_nand = info->type == MTD_NANDFLASH || info->type == MTD_MLCNANDFLASH;
+    m->is_nor = info->type == MTD_NORFLASH || (is_nor && info->type == MTD_RAM);
+    if (!m->is_nor && (is_nor || !is_nand)) return ENODEV;
     if (!m->is_nor && info->oobsize < LEAST_SPARE) return ERANGE; /* six bytes have to be free beside the correction's */
     uint32_t page = m->is_nor ? NOR_PAGE : info->writesize, block = info->erasesize;
     if (page < 256 || page > 4096 || (page & (page - 1)) != 0 || block < 4096 || block > 262144 || block % page != 0) return ERANGE;
@@ -106,12 +107,12 @@ static int find_sizes(struct mtd_part *m, const struct mtd_info_user *info) {
     return blocks < 16 ? ERANGE : 0;
 }
 
-int mtd_part_open(struct mtd_part *m, const char *name) {
+int mtd_part_open(struct mtd_part *m, const char *name, int is_nor) {
     struct mtd_info_user info;
     m->descriptor = open(name, O_RDWR | O_CLOEXEC);
     if (m->descriptor < 0) return errno;
     int why = flock(m->descriptor, LOCK_EX | LOCK_NB) != 0 ? EBUSY : 0;
-    if (why == 0) why = ioctl(m->descriptor, MEMGETINFO, &info) != 0 ? errno : find_sizes(m, &info);
+    if (why == 0) why = ioctl(m->descriptor, MEMGETINFO, &info) != 0 ? errno : find_sizes(m, &info, is_nor);
     m->chip = (struct nand_chip){m->sizes, m, nand_read, nand_program, nand_erase, nand_is_bad};
     if (why != 0) close(m->descriptor);
     return why;

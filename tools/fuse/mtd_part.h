@@ -13,8 +13,9 @@ struct mtd_part {
 };
 
 /* Opens a part, and claims it. Of one that is larger the first 64 MiB are used. 0, or an errno: ENODEV where it is neither NOR nor
- * NAND, ERANGE where its sizes are not those of docs/format.md. NAND wants Linux 6.1 for reads of spare bytes. */
-int mtd_part_open(struct mtd_part *part, const char *name);
+ * NAND, ERANGE where its sizes are not those of docs/format.md. NAND wants Linux 6.1 for reads of spare bytes.
+ * `is_nor`: it has to be NOR, or of type RAM, as mtdram and block2mtd are, which is used as NOR then. */
+int mtd_part_open(struct mtd_part *part, const char *name, int is_nor);
 struct undofs_driver mtd_part_driver(struct mtd_part *part);
 
 #endif

@@ -1,20 +1,27 @@
 #include "part.h"
 #include <errno.h>
+#include <string.h>
 #include <sys/stat.h>
 
-int part_open(struct part *part, const char *name, const struct undofs_sizes *sizes) {
+int part_open(struct part *part, const char *name, const struct undofs_sizes *sizes, int is_nor, void (*tell_in_use)(void)) {
     struct stat found;
     int is_device = stat(name, &found) == 0 && S_ISCHR(found.st_mode);
     part->is_new = 0;
+    part->is_device = is_device;
     if (is_device) {
-        int why = mtd_part_open(&part->mtd, name);
+        int why = mtd_part_open(&part->mtd, name, is_nor);
         if (why == 0) part->driver = mtd_part_driver(&part->mtd);
         return why;
     }
-    int why = flat_file_open(&part->file, name, sizes);
+    int why = is_nor ? ENODEV : flat_file_open(&part->file, name, sizes, tell_in_use);
     if (why == 0) {
         part->is_new = part->file.is_new;
         part->driver = flat_file_driver(&part->file);
     }
     return why;
+}
+
+int part_identity(struct part *part, int is_made, uint8_t identity[FLAT_FILE_IDENTITY]) {
+    memset(identity, 0, FLAT_FILE_IDENTITY);
+    return part->is_device ? 0 : flat_file_identity(&part->file, is_made, identity);
 }

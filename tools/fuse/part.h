@@ -8,11 +8,16 @@
 struct part {
     struct undofs_driver driver;
     int is_new; /* a flat file that was made now */
+    int is_device;
     struct flat_file file;
     struct mtd_part mtd;
 };
 
-/* 0, or an errno. `sizes` are those of a flat file that is made. */
-int part_open(struct part *part, const char *name, const struct undofs_sizes *sizes);
+/* 0, or an errno. `sizes` are those of a flat file that is made. `is_nor` as for mtd_part_open; a flat file is none. `tell_in_use` as
+ * for flat_file_open. */
+int part_open(struct part *part, const char *name, const struct undofs_sizes *sizes, int is_nor, void (*tell_in_use)(void));
+/* Gives 16 bytes that tell this part from others: those of a flat file, or zeroes for a device, which has none. A file system that is
+ * made has new ones. 0, or an errno. */
+int part_identity(struct part *part, int is_made, uint8_t identity[FLAT_FILE_IDENTITY]);
 
 #endif

@@ -1,6 +1,14 @@
 #define _GNU_SOURCE
 #include "saves.h"
+#include "clock_checkpoints.h"
+#include "group_writes.h"
+#include "kept_pages.h"
+#include "kept_reads.h"
+#include "same_tree.h"
+#include "space.h"
 #include "times.h"
+#include "touched.h"
+#include "version_times.h"
 #include <errno.h>
 #include <stdio.h>
 #include <stdlib.h>
@@ -10,13 +18,14 @@
 
 enum {
     READ_ONLY = 16,
-    IDLE = 1,         /* a group ends so many seconds after its last change, where no close comes */
-    LONGEST = 6,      /* and after so many times `commit`, where changes never pause */
-    KEPT_MOST = 192 << 20, /* so many bytes of lines are kept to be sent again */
+    IDLE = 1,         /* with no time to settle, a group ends so many seconds after its last change, where no close comes */
+    LEAST_LINES = 2 << 20, /* at least so many bytes of lines are kept to be sent again, */
+    SMALL = 1 << 16,       /* and room of more than so many is given back once the group is over */
 };
 
 struct saves saves;
 static struct undofs_lines lines, kept; /* kept: what the open group was given, where versions may be forgotten */
+static int is_cut;                      /* a group by hand was given more than may be kept: it cannot be sent again */
 
 double seconds_now(void) {
     struct timespec now;
@@ -49,30 +58,43 @@ void put_path_line(struct undofs_lines *to, const char *verb, const char *path, 
     undofs_put_end(to);
 }
 
+/* The open group is gone. Where the child is there it mounts what was synced last, which is in its memory, for reading. */
+static void fall_back(int why) {
+    writes_drop("/");
+    reads_forget();
+    pages_forget("/");
+    saves.in_group = saves.is_held = saves.is_unsynced = 0;
+    times_dropped(saves.next);
+    times_leapt();
+    if (why == UNDOFS_POWERCUT && undofs_restart(saves.child) == 0) (void)saves_look();
+}
+
 /* A child that is gone, and power that went, are told once: nothing changes any more until the folder is mounted anew. */
-static int told(int why) {
-    static int is_told;
-    if ((why == UNDOFS_GONE || why == UNDOFS_POWERCUT) && !is_told) {
-        is_told = 1;
+int saves_told(int why) {
+    if ((why == UNDOFS_GONE || why == UNDOFS_POWERCUT) && !saves.is_failed) {
+        saves.is_failed = 1;
         syslog(LOG_ERR, "the part failed, or the file system ended (%d): unmount the folder and mount it again %s", why, undofs_message(saves.child));
+        fall_back(why);
     }
     return why;
 }
 
-int saves_ask(const struct undofs_lines *asked) { return told(undofs_exchange(saves.child, asked)); }
+int saves_ask(const struct undofs_lines *asked) { return saves_told(undofs_exchange(saves.child, asked)); }
 
 /* ---- where the versions stand ---- */
 
 int saves_look(void) {
     const char *log;
+    uint64_t present = saves.present, next = saves.next;
     int why = undofs_log(saves.child, &log);
-    if (why != 0) return told(why);
+    if (why != 0) return saves_told(why);
     const char *versions = strstr(log, " versions "), *star = strchr(log, '*');
     saves.next = strtoull(log + strlen("log next "), NULL, 10);
     if (versions == NULL || star == NULL) return UNDOFS_SYNTAX;
     versions += strlen(" versions ");
     saves.first = strtoull(*versions == '*' ? versions + 1 : versions, NULL, 10);
     saves.present = strtoull(star + 1, NULL, 10);
+    version_times_follow(present, next);
     times_kept(saves.first);
     return 0;
 }
@@ -81,8 +103,7 @@ int saves_start(void) { return saves_look(); }
 
 uint64_t saves_serial(void) { return saves.in_group ? saves.next : saves.present; }
 
-/* After a change outside a group: whether it made a version, and of what. */
-static int look_for_version(void) {
+int saves_look_for_version(void) {
     uint64_t present = saves.present, next = saves.next;
     int why = saves_look();
     if (why == 0 && saves.next != next) times_discarded(present, next);
@@ -91,44 +112,55 @@ static int look_for_version(void) {
 
 /* ---- a full flash ---- */
 
-/* Forgets half of the versions before the present one. 0 where none was left. */
-static int is_room_made(void) {
-    const char *log;
-    unsigned before = 0;
-    if (undofs_log(saves.child, &log) != 0) return 0;
-    const char *at = strstr(log, " versions ");
-    for (at = at == NULL ? "" : at + strlen(" versions "); *at != 0 && *at != '*'; at++) before += *at == ' ';
-    if (before == 0 || undofs_forget(saves.child, (before + 1) / 2) != 0) return 0;
-    syslog(LOG_NOTICE, "the flash is full: %u old versions were forgotten", (before + 1) / 2);
-    return 1;
-}
-
 /* Gives the group up, makes room, and sends all of it again, so that it stays one version. */
 static int give_again(const struct undofs_lines *given) {
-    int why = UNDOFS_ENOSPC, has_room = 1;
-    while (why == UNDOFS_ENOSPC && has_room) {
+    const struct touch touch = last_touch;
+    int why = UNDOFS_ENOSPC;
+    reads_forget();
+    for (int step = 0; step < SPACE_STEPS && why == UNDOFS_ENOSPC; step++) {
+        uint64_t blocks = touched_blocks() + touch.blocks;
         if (saves.in_group && undofs_abandon(saves.child) != 0) return UNDOFS_GONE;
-        has_room = is_room_made();
+        (void)space_is_made(step, blocks);
         if (saves.in_group && undofs_begin(saves.child) != 0) return UNDOFS_GONE;
         why = saves.in_group && kept.length > 0 ? undofs_exchange(saves.child, &kept) : 0;
-        if (why != UNDOFS_ENOSPC) why = undofs_exchange(saves.child, given);
+        if (why == UNDOFS_GONE || why == UNDOFS_POWERCUT) return why;
+        space_may_be_free();
+        why = space_has_room(&touch) ? undofs_exchange(saves.child, given) : UNDOFS_ENOSPC;
     }
     return why;
 }
 
+/* Two digits stand for a byte that is written. */
+static size_t most_lines(void) { return 2 * saves.buffer > LEAST_LINES ? 2 * saves.buffer : LEAST_LINES; }
+
+static void drop_kept(void) {
+    kept.length = 0;
+    if (kept.room <= SMALL) return;
+    free(kept.text);
+    kept = (struct undofs_lines){NULL, 0, 0, 0};
+}
+
 static void keep(const struct undofs_lines *given) {
-    if (!saves.forgets || !saves.in_group) return;
-    char *text = kept.room - kept.length >= given->length ? kept.text : realloc(kept.text, 2 * (kept.length + given->length));
-    if (text == NULL) abort();
-    if (text != kept.text) kept.room = 2 * (kept.length + given->length);
-    kept.text = text;
+    if (!saves.forgets || !saves.in_group || is_cut) return;
+    is_cut = saves.is_held && kept.length + given->length > most_lines();
+    if (is_cut) {
+        drop_kept();
+        return;
+    }
+    if (kept.room - kept.length < given->length) {
+        size_t room = kept.length + given->length + kept.length / 4;
+        char *text = realloc(kept.text, room);
+        if (text == NULL) abort();
+        kept.text = text;
+        kept.room = room;
+    }
     memcpy(kept.text + kept.length, given->text, given->length);
     kept.length += given->length;
 }
 
 static void tell_full(int why) {
     int is_full = why == UNDOFS_ENOSPC;
-    if (is_full && !saves.is_full) syslog(LOG_WARNING, "the flash is full of versions: echo 'forget N' > .undofs, or mount with -o forget");
+    if (is_full && !saves.is_full) syslog(LOG_WARNING, "the flash is full: echo 'forgetfree N' > .undofs, or mount without -o keep");
     saves.is_full = is_full;
 }
 
@@ -139,42 +171,75 @@ void saves_note_change(void) {
     if (saves.unsynced_since == 0) saves.unsynced_since = saves.changed_at;
 }
 
-int saves_change(const struct undofs_lines *given, void (*apply)(uint64_t serial, const void *with), const void *with) {
-    if (saves.in_group && kept.length > KEPT_MOST && !saves.is_held) {
-        int ended = save_ends();
-        if (ended == 0) ended = save_begins();
-        if (ended != 0) return ended;
+/* A group whose lines are too long to be kept ends, and one begins where each change is in one. */
+static int begin_change(void) {
+    if (saves.in_group && kept.length > most_lines() && !saves.is_held) {
+        syslog(LOG_NOTICE, "a group of over %zu bytes is ended in the middle", most_lines() / 2);
+        int why = save_ends();
+        if (why == 0) why = save_begins();
+        touched_lose(); /* bytes may be kept that were touched before */
+        return why;
     }
-    int why = undofs_exchange(saves.child, given);
-    if (why == UNDOFS_ENOSPC && saves.forgets) why = give_again(given);
+    return saves.settle != 0 ? save_begins() : 0;
+}
+
+int saves_find_room(void) {
+    static const struct undofs_lines none;
+    int why = space_has_room(&last_touch) ? 0 : UNDOFS_ENOSPC;
+    if (why != 0 && saves.forgets && !is_cut) why = give_again(&none);
+    tell_full(why);
+    return saves_told(why);
+}
+
+/* Gives the lines, where there is room for what they change. */
+static int give_change(const struct undofs_lines *given, const struct change *change) {
+    if (change != NULL && !saves.in_group) touched_clear();
+    if (change != NULL) change->touch(change->with);
+    int has_room = change == NULL || space_has_room(&last_touch);
+    int why = has_room ? undofs_exchange(saves.child, given) : UNDOFS_ENOSPC;
+    if (why == UNDOFS_ENOSPC && saves.forgets && !is_cut) why = give_again(given);
     keep(given);
     tell_full(why);
-    if (why == UNDOFS_GONE || why == UNDOFS_POWERCUT) return told(why);
+    return why;
+}
+
+int saves_change(const struct undofs_lines *given, const struct change *change) {
+    int begun = saves.is_failed ? UNDOFS_GONE : begin_change();
+    if (begun != 0) return begun;
+    reads_forget(); /* of the tree before */
+    int why = give_change(given, change);
+    if (why == UNDOFS_GONE || why == UNDOFS_POWERCUT) return saves_told(why);
     saves_note_change();
     if (!saves.in_group) {
-        int looked = look_for_version();
+        int looked = saves_look_for_version();
         if (why == 0) why = looked;
     }
-    if (why == 0 && apply != NULL) apply(saves_serial(), with);
+    if (why == 0 && change != NULL) change->apply(saves_serial(), change->with);
     if (why == 0 && !saves.in_group && saves.is_durable) why = saves_sync();
     return why;
 }
 
 int save_begins(void) {
     if (saves.in_group) return 0;
-    int why = told(undofs_begin(saves.child));
+    int why = saves.is_failed ? UNDOFS_GONE : saves_told(undofs_begin(saves.child));
     if (why != 0) return why;
     saves.in_group = 1;
     saves.groups++;
-    kept.length = 0;
+    is_cut = 0;
+    drop_kept();
+    touched_clear();
+    space_may_be_free();
+    saves.unsynced_before = saves.unsynced_since;
     saves_note_change();
     return 0;
 }
 
 int save_given_up(void) {
-    int why = told(undofs_abandon(saves.child));
+    int why = saves_told(undofs_abandon(saves.child));
     if (why != 0) return why;
-    saves.in_group = saves.is_held = 0;
+    saves.in_group = saves.is_held = saves.is_unsynced = 0;
+    writes_drop("/");
+    reads_forget();
     times_dropped(saves.next);
     return 0;
 }
@@ -182,38 +247,77 @@ int save_given_up(void) {
 /* A worn flash takes no version any more: what the group did is given up, so that what is read is what stays. */
 static int end_refused(int why) {
     if (why == READ_ONLY) (void)save_given_up();
-    return told(why);
+    return saves_told(why);
+}
+
+/* Looking makes no version, as that of git status, which writes its index anew: what could be redone is there still. */
+static int end_unchanged(void) {
+    int why = saves_told(undofs_abandon(saves.child));
+    if (why != 0) return why;
+    saves.in_group = 0;
+    saves.unsynced_since = saves.unsynced_before;
+    writes_drop("/");
+    reads_forget();
+    times_belong(saves.next, saves.present);
+    return 0;
 }
 
 int save_ends(void) {
     if (!saves.in_group || saves.is_held) return 0;
-    int why = undofs_end_group(saves.child);
+    int why = writes_give("/");
+    if (why == 0 && is_same_tree(saves.child, saves.present)) return end_unchanged();
+    if (why == 0) why = undofs_end_group(saves.child);
     if (why != 0) return end_refused(why);
     uint64_t serial = saves.next;
     saves.in_group = 0;
-    why = look_for_version();
+    drop_kept();
+    writes_drop("/");
+    why = saves_look_for_version();
     if (why != 0) return why;
     if (saves.next == serial) times_belong(serial, saves.present);
     return saves.is_durable ? saves_sync() : 0;
 }
 
-int saves_sync(void) {
-    int why = told(undofs_sync(saves.child));
-    if (why == 0) saves.unsynced_since = 0;
+int save_is_done(void) { return saves.is_durable ? save_ends() : 0; }
+
+/* A worn flash takes no record any more: what was not synced is given up, so that what is read is what stays. */
+static int sync_refused(int why) {
+    if (why != READ_ONLY || undofs_restart(saves.child) != 0) return why;
+    reads_forget();
+    pages_forget("/");
+    (void)saves_look();
+    times_unknown_from(saves.next);
+    times_leapt();
+    saves.unsynced_since = 0;
     return why;
 }
 
+int saves_sync(void) {
+    int why = saves.is_failed ? UNDOFS_GONE : saves_told(undofs_sync(saves.child));
+    if (why != 0) return sync_refused(why);
+    saves.unsynced_since = 0;
+    version_times_synced(0);
+    return 0;
+}
+
+int saves_sync_changes(void) { return saves.unsynced_since != 0 ? saves_sync() : 0; }
+
 /* ---- what is due without being asked ---- */
 
-int saves_due(void) {
-    double now = seconds_now();
+static int is_sync_due(double now) { return saves.commit != 0 && saves.unsynced_since != 0 && now - saves.unsynced_since >= saves.commit; }
+
+/* The open group ends whoever is in it, so that what another program saved is not held back. One that settled is synced at once:
+ * were the sync due later, it would cut the next act in two. */
+static void end_due(double now, int is_quiet) {
+    if (!is_quiet && !is_sync_due(now)) return;
+    if (save_ends() == 0 && saves.settle != 0 && saves.commit != 0) (void)saves_sync_changes();
+}
+
+int saves_due(int is_waiting) {
+    double now = seconds_now(), quiet = saves.settle != 0 ? saves.settle : IDLE;
     if (saves.is_held) return -1;
-    if (saves.in_group) {
-        int is_long = saves.commit != 0 && now - saves.unsynced_since >= LONGEST * (double)saves.commit;
-        if (now - saves.changed_at >= IDLE || is_long) (void)save_ends();
-    }
-    if (saves.commit != 0 && saves.unsynced_since != 0 && !saves.in_group && now - saves.unsynced_since >= saves.commit) {
-        if (saves_sync() != 0) saves.unsynced_since = now; /* tried again after as long */
-    }
-    return saves.in_group || (saves.unsynced_since != 0 && saves.commit != 0) ? 250 : -1;
+    if (saves.in_group) end_due(now, !is_waiting && now - saves.changed_at >= quiet);
+    if (is_sync_due(now) && !saves.in_group && saves_sync() != 0) saves.unsynced_since = now; /* tried again after as long */
+    int checkpoint_due = saves.in_group ? -1 : clock_checkpoints_due(), are_times_due = version_times_are_due();
+    return saves.in_group || (saves.unsynced_since != 0 && saves.commit != 0) || are_times_due ? 250 : checkpoint_due;
 }

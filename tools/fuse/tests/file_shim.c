@@ -1,7 +1,10 @@
 /* For tests, by LD_PRELOAD: the file SHIM_FILE loses its writes as planned.
  *   SHIM_TRACE=FILE  each write is told there, as `W`, place, count and bytes, and each barrier, as `B` and 16 zeroes
  *   SHIM_CUT=N       in the N-th write the process ends, with half of it written
- *   SHIM_FAIL=N      from the N-th write on each fails with EIO */
+ *   SHIM_FAIL=N      from the N-th write on each fails with EIO; with SHIM_KIND=bytes only those of a page's bytes count and fail, with
+ *                    `state` those of its state, and with `read` reads do
+ *   SHIM_FOLDER=1    the fsync of each folder fails with EIO
+ *   SHIM_LATE=N      the process goes on for N milliseconds after its end */
 #define _GNU_SOURCE
 #include <dlfcn.h>
 #include <errno.h>
@@ -10,6 +13,8 @@
 #include <stdint.h>
 #include <stdlib.h>
 #include <string.h>
+#include <sys/stat.h>
+#include <time.h>
 #include <unistd.h>
 
 static int part = -1, trace = -1;
@@ -51,14 +56,23 @@ static int opened(int (*open_really)(const char *, int, ...), const char *name, 
 OPEN(open)
 OPEN(open64)
 
+/* Whether a call is of the kind that counts; `size` is 1 for a state. */
+static int counts(int is_read, size_t size) {
+    const char *kind = getenv("SHIM_KIND");
+    if (kind == NULL) return !is_read;
+    if (strcmp(kind, "read") == 0) return is_read;
+    return !is_read && (strcmp(kind, "state") == 0) == (size == 1);
+}
+
 static ssize_t written(ssize_t (*write_really)(int, const void *, size_t, off_t), int to, const void *bytes, size_t count, off_t at) {
     if (to != part || part < 0) return write_really(to, bytes, count, at);
-    writes++;
+    int does_count = counts(0, count);
+    writes += does_count;
     if (cut_at != 0 && writes == cut_at) {
         (void)!write_really(to, bytes, count / 2, at);
         _exit(77);
     }
-    if (fail_at != 0 && writes >= fail_at) {
+    if (fail_at != 0 && does_count && writes >= fail_at) {
         errno = EIO;
         return -1;
     }
@@ -73,7 +87,37 @@ static ssize_t written(ssize_t (*write_really)(int, const void *, size_t, off_t)
 PWRITE(pwrite)
 PWRITE(pwrite64)
 
+static ssize_t got(ssize_t (*read_really)(int, void *, size_t, off_t), int from, void *bytes, size_t count, off_t at) {
+    if (from == part && part >= 0 && fail_at != 0 && counts(1, count) && ++writes >= fail_at) {
+        errno = EIO;
+        return -1;
+    }
+    return read_really(from, bytes, count, at);
+}
+
+#define PREAD(name)                                                           \
+    ssize_t name(int from, void *bytes, size_t count, off_t at) {             \
+        return got((ssize_t (*)(int, void *, size_t, off_t))real(#name), from, bytes, count, at); \
+    }
+PREAD(pread)
+PREAD(pread64)
+
 int fdatasync(int file) {
     if (file == part && part >= 0) tell('B', 0, 0, "");
     return ((int (*)(int))real("fdatasync"))(file);
+}
+
+int fsync(int file) {
+    struct stat found;
+    if (getenv("SHIM_FOLDER") != NULL && fstat(file, &found) == 0 && S_ISDIR(found.st_mode)) {
+        errno = EIO;
+        return -1;
+    }
+    return ((int (*)(int))real("fsync"))(file);
+}
+
+__attribute__((destructor)) static void end_late(void) {
+    long late = part >= 0 && getenv("SHIM_LATE") != NULL ? atol(getenv("SHIM_LATE")) : 0;
+    const struct timespec while_waiting = {late / 1000, late % 1000 * 1000000};
+    nanosleep(&while_waiting, NULL);
 }

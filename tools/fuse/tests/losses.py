@@ -255,8 +255,8 @@ def full_by_history(f):
 
 
 def a_flash_full_of_versions():
-    """Without -o forget it is ENOSPC, told in .undofs, and `forget` helps; with it, each save is one version."""
-    with mounted(page=256, pages=16, blocks=256, history=32) as f:
+    """With -o keep it is ENOSPC, told in .undofs, and `forget` helps; without it, each save is one version."""
+    with mounted("keep", page=256, pages=16, blocks=256, history=32) as f:
         written = full_by_history(f)
         want(5 <= written < 20, True, f"written {written} times")
         want("full: " in open(f(".undofs")).read(), True, "what .undofs tells")
@@ -341,6 +341,38 @@ def failures_behind_mtd():
             want(bad > 0, True, "blocks that are bad")
 
 
+def is_part_taken(f, kind, more):
+    """Whether a part of this kind is mounted. A file on it grows by 3,000 bytes then, and it is unmounted."""
+    f.part = f"{f.space}/{kind}"
+    open(f.part, "ab").close()
+    if not f.mount({"MTD_FILE": f.part, "MTD_KIND": kind}, more=more, wait=False):
+        return False
+    with open(f("a"), "ab") as file:
+        file.write(b"x" * 3000)
+    want(os.path.getsize(f("a")) in (3000, 6000), True, "bytes of a file")
+    f.unmount()
+    return True
+
+
+def a_ram_part_for_trials():
+    """A part of type RAM is refused unless -o nor is given, and is a NOR then. Neither a NAND nor a flat file is one."""
+    with Folder(history=8) as f:
+        for kind, more, taken in (
+            ("ram", "format", False),
+            ("ram", "format,nor", True),
+            ("ram", "", False),
+            ("ram", "nor", True),
+            ("nor", "format,nor", True),
+            ("nor", "", True),
+            ("nand", "format,nor", False),
+        ):
+            want(is_part_taken(f, kind, more), taken, f"whether {kind} is taken with {more}")
+        f.part = f"{f.space}/flat"
+        want(f.mount(more="nor", wait=False), False, "whether a flat file is taken with -o nor")
+        want(os.path.exists(f.part), False, "a file that was made")
+        want(f.told().count("No such device"), 4, "refusals that are told")
+
+
 CASES = [
     kills_after_fsync,
     a_sync_inside_a_save,
@@ -353,4 +385,5 @@ CASES = [
     nor_behind_mtd,
     nand_behind_mtd,
     failures_behind_mtd,
+    a_ram_part_for_trials,
 ]

@@ -3,14 +3,15 @@
 
   measure.py DAEMON PROGRAM      as tools/fuse/build.sh and `rt run` in crates/uffs leave them
 
-The part is a flat file of 16,384 blocks of one page of 4,096 bytes. Each figure is the median of three.
+The part is a flat file of 16,384 blocks of one page of 4,096 bytes. Each figure is the median of three. With each stands the processor
+time that the daemon and its child took for the three.
 """
 import os
 import statistics
 import sys
 import time
 
-from mounts import SHARED, Folder
+from mounts import SHARED, Folder, child_of
 
 
 def save(path, text):
@@ -69,6 +70,13 @@ def undo_and_redo(folder):
     return (time.time() - start) * 25
 
 
+def processor_seconds(number):
+    """The processor time that a process has taken."""
+    with open(f"/proc/{number}/stat") as stat:
+        words = stat.read().rsplit(")", 1)[1].split()
+    return (int(words[11]) + int(words[12])) / os.sysconf("SC_CLK_TCK")
+
+
 numbers = iter(range(100))
 
 
@@ -93,9 +101,13 @@ def main():
         start = time.time()
         f.mount()
         print(f"make a part and mount it, s: {time.time() - start:.2f}")
+        both = (f.process.pid, child_of(f.process))
         for name, measure in ROWS:
-            here, there = (statistics.median(measure(folder) for _ in range(3)) for folder in (f.path, plain))
-            print(f"{name}: {here:.1f} here, {there:.1f} there", flush=True)
+            before = [processor_seconds(number) for number in both]
+            here = statistics.median(measure(f.path) for _ in range(3))
+            daemon, child = (processor_seconds(number) - start for number, start in zip(both, before))
+            there = statistics.median(measure(plain) for _ in range(3))
+            print(f"{name}: {here:.1f} here, {there:.1f} there; {daemon:.2f} s of the daemon and {child:.2f} s of its child", flush=True)
         f.unmount()
         start = time.time()
         f.mount()

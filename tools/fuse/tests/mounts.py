@@ -8,7 +8,8 @@ import tempfile
 import time
 
 HERE = os.path.dirname(os.path.abspath(__file__))
-SHARED = {"daemon": None, "program": None, "shims": None}
+TOOLS = os.path.dirname(os.path.dirname(HERE))
+SHARED = {"daemon": None, "program": None, "shims": None, "tools": TOOLS}  # tools: the sources of the daemon
 
 
 class Wrong(Exception):
@@ -28,6 +29,41 @@ def run(*words, cwd=None, check=True, text=None, env=None):
     return done.stdout
 
 
+def build(folder, flags):
+    """Builds the daemon that is tried, with more flags; its name."""
+    run(f"{SHARED['tools']}/fuse/build.sh", folder, env={**os.environ, "CFLAGS": "-O0 -w " + flags})
+    return folder + "/undofs-fuse"
+
+
+OF_C = ("undofs_client.c", "undofs_calls.c", "flat_file.c", "raw_nand.c")  # what build.sh takes beside its own folder
+
+
+def compile_one(source, made):
+    words = run("pkg-config", "--cflags", "fuse3").split()
+    run("gcc", "-std=c11", "-O0", "-g", "-w", *os.environ.get("CFLAGS", "").split(), *words, "-c", source, "-o", made)
+
+
+def objects_of(tools, folder):
+    """Each source of the daemon compiled by itself, once: a daemon with one other source then takes one compilation."""
+    sources = [f"{tools}/fuse/{name}" for name in sorted(os.listdir(tools + "/fuse")) if name.endswith(".c")]
+    sources += [f"{tools}/c/{name}" for name in OF_C]
+    objects = {os.path.relpath(source, tools): f"{folder}/{os.path.basename(source)}.o" for source in sources}
+    if not os.path.isdir(folder):
+        os.mkdir(folder)
+        for source in sources:
+            compile_one(source, objects[os.path.relpath(source, tools)])
+    return objects
+
+
+def build_with(source, name, folder):
+    """Builds the daemon with one source other than it is; its name."""
+    objects = objects_of(TOOLS, SHARED["shims"] + "/objects")
+    objects[name] = folder + "/wrong.o"
+    compile_one(source, objects[name])
+    run("gcc", *os.environ.get("CFLAGS", "").split(), *objects.values(), *run("pkg-config", "--libs", "fuse3").split(), "-o", folder + "/undofs-fuse")
+    return folder + "/undofs-fuse"
+
+
 def child_of(process):
     """The number of the daemon's child."""
     with open(f"/proc/{process.pid}/task/{process.pid}/children") as children:
@@ -36,13 +72,16 @@ def child_of(process):
 
 
 class Folder:
-    """A folder with its own scratch space. `options` are those of -o; `shim` is a dictionary of the environment."""
+    """A folder with its own scratch space. `options` are those of -o; `shim` is a dictionary of the environment. A save is a version at
+    its close, where no other time to settle is given; with None it is the daemon's own."""
 
-    def __init__(self, options="", blocks=2048, page=4096, pages=1, history=32):
+    def __init__(self, options="", blocks=2048, page=4096, pages=1, history=32, settle=0):
         self.space = tempfile.mkdtemp(prefix="undofs-")
         self.part, self.path = f"{self.space}/part", f"{self.space}/folder"
         os.mkdir(self.path)
         self.sizes = f"page={page},pages={pages},blocks={blocks},history={history}"
+        if settle is not None:
+            self.sizes += f",settle={settle}"
         self.options, self.process = options, None
 
     def mount(self, shim=None, more="", wait=True):
@@ -113,8 +152,8 @@ class Folder:
 
     def order(self, line):
         """Writes a line to .undofs."""
-        with open(self(".undofs"), "w") as control:
-            control.write(line + "\n")
+        with open(self(".undofs"), "wb", buffering=0) as control:
+            control.write(line.encode() + b"\n")  # once, also where it is refused
 
     def refusal(self, line):
         try:

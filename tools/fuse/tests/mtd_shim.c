@@ -1,9 +1,11 @@
-/* For tests, by LD_PRELOAD: the file MTD_FILE behaves as /dev/mtdN, as MTD_KIND says, `nor` or `nand`. It ends the program where a
+/* For tests, by LD_PRELOAD: the file MTD_FILE behaves as /dev/mtdN, as MTD_KIND says, `nor`, `nand`, or
+ * `ram`, which is a NOR that tells the type RAM. It ends the program where a
  * part is misused: a second program of a page or one out of order, an erase that is none or of a bad block, a call that
  * the kind has not.
  *   MTD_BAD=B    block B of a NAND is marked bad
  *   MTD_CUT=N    in the N-th program or erase power goes: the process ends, with a part of it done
- *   MTD_FAIL=N   one in N programs fails with EIO, with a part of it done */
+ *   MTD_FAIL=N   one in N programs fails with EIO, with a part of it done
+ *   MTD_WORN=N   from the N-th program or erase on each program of the first eight blocks fails so */
 #define _GNU_SOURCE
 #include <dlfcn.h>
 #include <errno.h>
@@ -18,11 +20,11 @@
 #include <sys/stat.h>
 #include <unistd.h>
 
-enum { SPARE = 64, KEPT = 6, TORN = 8 };
+enum { SPARE = 64, KEPT = 6, TORN = 8, ANCHORS = 8 };
 
-static int part = -1, is_nor;
+static int part = -1, is_nor, is_ram;
 static uint32_t page, pages, blocks; /* of NOR: sectors of `pages` times 256 bytes */
-static uint64_t bad_block = ~0ull, operations, draw = 1, cut_at, fails_of;
+static uint64_t bad_block = ~0ull, operations, draw = 1, cut_at, fails_of, worn_from;
 static ssize_t (*write_really)(int, const void *, size_t, off_t);
 
 static void *real(const char *name) {
@@ -59,13 +61,15 @@ static int is_named(const char *name) { return getenv("MTD_FILE") != NULL && str
 
 static int opened(int (*open_really)(const char *, int, ...), const char *name, int flags, mode_t mode) {
     if (!is_named(name)) return open_really(name, flags, mode);
-    is_nor = strcmp(getenv("MTD_KIND"), "nor") == 0;
+    is_ram = strcmp(getenv("MTD_KIND"), "ram") == 0;
+    is_nor = is_ram || strcmp(getenv("MTD_KIND"), "nor") == 0;
     page = is_nor ? 256 : 2048;
     pages = is_nor ? 16 : 64;
     blocks = is_nor ? 1024 : 64;
     bad_block = number("MTD_BAD", ~0ull);
     cut_at = number("MTD_CUT", 0);
     fails_of = number("MTD_FAIL", 0);
+    worn_from = number("MTD_WORN", ~0ull);
     write_really = (ssize_t(*)(int, const void *, size_t, off_t))real("pwrite");
     part = open_really(name, O_RDWR | O_CREAT | O_CLOEXEC, 0600);
     if (lseek(part, 0, SEEK_END) == 0) fill(0, size() + (is_nor ? 0 : size() / page * SPARE));
@@ -94,7 +98,8 @@ STAT(stat64, struct stat64)
 
 static int is_cut(void) { return ++operations == cut_at; }
 
-static int is_failed(void) {
+static int is_failed(uint64_t block) {
+    if (block < ANCHORS && operations >= worn_from) return 1;
     draw = draw * 6364136223846793005ull + 1442695040888963407ull;
     return fails_of != 0 && (draw >> 33) % fails_of == 0;
 }
@@ -113,7 +118,7 @@ static ssize_t nor_written(const uint8_t *bytes, size_t count, uint64_t at) {
         check(now[i] == 0xff || count == 1, "a second program", at);
         now[i] &= bytes[i];
     }
-    int cut = is_cut(), failed = count == 256 && is_failed();
+    int cut = is_cut(), failed = count == 256 && is_failed(at / (2 * (uint64_t)page * pages));
     put(now, cut || failed ? count / TORN : count, at);
     if (cut) _exit(77);
     return failed ? io_error() : (ssize_t)count;
@@ -128,7 +133,7 @@ PWRITE(pwrite)
 PWRITE(pwrite64)
 
 static int tell_info(struct mtd_info_user *info) {
-    *info = (struct mtd_info_user){.type = is_nor ? MTD_NORFLASH : MTD_NANDFLASH,
+    *info = (struct mtd_info_user){.type = is_ram ? MTD_RAM : is_nor ? MTD_NORFLASH : MTD_NANDFLASH,
                                    .size = (uint32_t)size(),
                                    .erasesize = page * pages,
                                    .writesize = is_nor ? 1 : page,
@@ -165,7 +170,7 @@ static int write_page(const struct mtd_write_req *ask) {
     check(!is_nor && at % page == 0 && ask->len == page && ask->ooblen == KEPT && ask->mode == MTD_OPS_AUTO_OOB && at < size(), "a program", at);
     check(at / block != bad_block, "a program of a bad block", at);
     for (uint64_t later = at; later / block == at / block; later += page) check(!is_programmed(later), "a program twice, or out of order,", at);
-    int cut = is_cut(), failed = is_failed();
+    int cut = is_cut(), failed = is_failed(at / block);
     put((void *)(uintptr_t)ask->usr_data, cut || failed ? page / TORN : page, at);
     if (cut) _exit(77);
     put((void *)(uintptr_t)ask->usr_oob, KEPT, spare_at(at));

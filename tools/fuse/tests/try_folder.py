@@ -8,18 +8,43 @@ are run. The last line counts; the status is 0 where none failed.
 """
 import os
 import shutil
-import subprocess
 import sys
 import tempfile
 import time
 
+import acts
+import buffered
+import failures
+import full
+import kept_times
+import limits
+import leaps
 import losses
 import programs
+import starts
+import synced
+import unchanged
+import users
 import versions
-from mounts import HERE, SHARED, Wrong
+from mounts import HERE, SHARED, TOOLS, Wrong, build, build_with
 
-TOOLS = os.path.dirname(os.path.dirname(HERE))
-CASES = {case.__name__: case for case in versions.CASES + programs.CASES + losses.CASES}
+PARTS = (
+    versions,
+    programs,
+    losses,
+    users,
+    synced,
+    leaps,
+    acts,
+    unchanged,
+    full,
+    failures,
+    kept_times,
+    starts,
+    limits,
+    buffered,
+)
+CASES = {case.__name__: case for part in PARTS for case in part.CASES}
 
 
 def failure_of(case):
@@ -61,9 +86,10 @@ def build_wrong(name, space):
         text = text.replace(old, new)
     with open(path, "w") as file:
         file.write(text)
-    env = {**os.environ, "CFLAGS": "-Wno-error -w"}
-    subprocess.run([f"{space}/fuse/build.sh", f"{space}/made"], check=True, env=env)
-    return f"{space}/made/undofs-fuse", CASES[fields["case"]]
+    SHARED["tools"] = space
+    is_alone = fields["file"].endswith(".c")
+    os.mkdir(space + "/made")
+    return build_with(path, fields["file"], space + "/made") if is_alone else build(f"{space}/made", ""), CASES[fields["case"]]
 
 
 def run_case(name):
@@ -76,10 +102,12 @@ def run_wrong(name):
     with tempfile.TemporaryDirectory() as space:
         try:
             SHARED["daemon"], case = build_wrong(name, space)
-        except (ValueError, subprocess.CalledProcessError) as error:
+        except (ValueError, Wrong) as error:
             return False, f"not built: {error}"
-        failure = failure_of(case)
-    SHARED["daemon"] = daemon
+        else:
+            failure = failure_of(case)
+        finally:
+            SHARED["daemon"], SHARED["tools"] = daemon, TOOLS
     return failure is not None, f"{case.__name__}: {failure or 'saw nothing'}"
 
 

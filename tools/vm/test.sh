@@ -1,0 +1,38 @@
+#!/bin/bash
+# Boots Debian's kernel in QEMU and tries the driver for MTD on the flash that it simulates, and wrong drivers: tools/vm/test.sh [NAME..]
+# A NAME is that of a file of cases/, or of wrong/ without `.edit`; without one all are run. LIMIT=N gives each case N seconds (900). The
+# last line counts. The status is 0 where none failed, 1 where one did, 2 where nothing could be built, and 77 where QEMU, a program or the
+# kernel is missing, and nothing was tried.
+cd "$(dirname "$0")" || exit 2
+if ! ./missing.sh >&2; then exit 77; fi
+limit=${LIMIT:-900}
+made=$(mktemp -d)
+trap 'rm -rf "$made"' EXIT
+mkdir "$made/bin" && ./build_part_test.sh .. "$made/bin" || exit 2
+names=("$@")
+[ $# -gt 0 ] || mapfile -t names < <(cd cases && printf '%s\n' *; cd ../wrong && printf '%s\n' *.edit | sed 's/\.edit$//')
+for name in "${names[@]}"; do
+    if [ -e "cases/$name" ]; then
+        echo "$name - $limit"
+    else
+        mkdir -p "$made/wrong/$name"
+        case=$(./build_wrong.py "$name" "$made/wrong/$name") || exit 2
+        echo "$case $name $limit"
+    fi
+done >"$made/trials" || exit 2
+./mkinit.sh "$made" || exit 2
+
+# A line `trial CASE WRONG STATUS SECONDS` ends each; what is wrong is told before.
+./vm.sh "$made" $((limit * ${#names[@]} + 300)) | tee "$made/log" | awk '
+    $1 == "trial" {
+        is_wrong = $3 != "-"
+        is_right = is_wrong ? $4 != 0 : $4 == 0
+        print (is_right ? "ok    " : "WRONG ") (is_wrong ? "a wrong driver is seen: " $3 : $2), $5 " s", told
+        told = ""
+        next
+    }
+    { if (told == "" || !/^wrong/) told = told (told == "" ? "" : " ") $0; fflush() }'
+passed=$(awk '$1 == "trial" && (($3 == "-") == ($4 == 0))' "$made/log" | wc -l)
+[ "$(grep -c '^trial ' "$made/log")" = ${#names[@]} ] || echo "the machine ended early: $(tail -n 3 "$made/log")"
+echo "$passed passed, $((${#names[@]} - passed)) failed"
+[ "$passed" = ${#names[@]} ]

@@ -223,15 +223,15 @@ def summed(name, pattern):
 
 def sums():
     """The sentences with sums or counts, by their pages."""
-    scripts = len(set(re.findall(r"^(\S+)\.row.*: \d+ runs", read(f"{TOP}/crates/cuts/stdout"), re.M)))
-    _, runs = summed("cuts", r"^\S+\.row.*: (\d+) runs, \d+ cuts$")
-    readers, reads = summed("failures", r": (\d+) reads failed")
-    writers, programs, erases = summed("failures", r": (\d+) programs and (\d+) erases failed$")
+    scripts = len(set(re.findall(r"^(\S+)\.row.*: \d+ runs", read(f"{TOP}/crates/fault_trials/stdout"), re.M)))
+    _, runs = summed("fault_trials", r"^\S+\.row.*: (\d+) runs, \d+ cuts$")
+    readers, reads = summed("fault_trials", r": (\d+) reads failed")
+    writers, programs, erases = summed("fault_trials", r": (\d+) programs and (\d+) erases failed$")
     told = read(f"{TOP}/crates/hostile_images/stdout").splitlines()
     kinds = [re.findall(r"(\d+) (?:mounted|[A-Z]+|no image)", line) for line in told if " mounted, " in line]
     images, mounted = sum(int(n) for kind in kinds for n in kind), sum(int(kind[0]) for kind in kinds)
     crates = len([it for it in os.listdir(f"{TOP}/crates") if os.path.isdir(f"{TOP}/crates/{it}/src")])
-    edits = len(glob.glob(f"{TOP}/crates/*/must-fail/*.edit"))
+    edits = len(glob.glob(f"{TOP}/crates/*/must-fail/*.edit") + glob.glob(f"{TOP}/crates/*/wrong/*.edit"))
     return {
         "README.md": [
             f"of {scripts} scripts, in {runs:,} runs",
@@ -260,7 +260,7 @@ def main():
     sources = {
         "rows": list(rows_that_run()),
         "outputs": list(texts("crates/*/stdout").values()),
-        "edits": list(texts("crates/*/must-fail/*.edit").values()),
+        "edits": [*texts("crates/*/must-fail/*.edit").values(), *texts("crates/*/wrong/*.edit").values()],
         "code": [*texts("crates/*/src/**/*.rt").values(), *texts("crates/*/specs/**/*.antt").values()],
         "c": list(texts("tools/c/*").values()),
     }

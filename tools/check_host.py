@@ -1,6 +1,6 @@
 #!/usr/bin/env python3
 """Tries the built program on what no test of the gate can make: closed streams, limits of the process, words
-that are no UTF-8, links that come in between, and a full disk. docs/testing.md tells what each case shows.
+that are no UTF-8, links that come in between, and a full disk. docs/tests_of_the_program.md tells of each case.
 
   tools/check_host.py PROGRAM
 
@@ -98,6 +98,20 @@ def all_closed(program, folder):
         os.closerange(0, 3)
     done = subprocess.run([program, "run", image], check=False, timeout=60, preexec_fn=close)
     want((done.returncode, read(image)), (1, before))
+
+
+def unwritable(program, folder):
+    """Beside a folder at the new file's name all replies are written, the image is told and stays, and the status is 1."""
+    image = made(program, folder)
+    before = read(image)
+    beside = os.path.join(image + ".new", "kept")
+    os.mkdir(image + ".new")
+    with open(beside, "wb") as kept:
+        kept.write(b"kept")
+    script = b"mkdir /a\nundo\nls /\nredo\nls /\n"
+    replies = b"ok\nok\nentries 0\nok\nentries 1 a/\n"
+    want(run(program, ["run", image], script), (1, replies, f"uffs: cannot write {image}\n".encode()))
+    want((read(image), read(beside)), (before, b"kept"))
 
 
 def limited(program, folder):
@@ -220,7 +234,7 @@ def same_folder(program, folder):
     want([it == images[0] for it in images], [True] * 4)
 
 
-CASES = [closed_output, closed_errors, closed_input, all_closed, limited, not_utf8, fifos, in_use, full_disk, full_output, dash, about, same_folder]
+CASES = [closed_output, closed_errors, closed_input, all_closed, unwritable, limited, not_utf8, fifos, in_use, full_disk, full_output, dash, about, same_folder]
 
 
 def try_case(case, program):

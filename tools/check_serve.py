@@ -1,5 +1,6 @@
 #!/usr/bin/env python3
-"""Tries `uffs serve` of the built program with a driver of its own, over pipes. docs/testing.md tells what it shows.
+"""Tries `uffs serve` of the built program with a driver of its own, over pipes. docs/tests_of_the_program.md
+tells what it shows.
 
   tools/check_serve.py PROGRAM
 
@@ -216,6 +217,22 @@ def a_part_with_no_file_system(program):
     want(child.end(), (3, "uffs: NORECORD 27\n"))
 
 
+def stored_answers(program):
+    """A file of twenty answers stands for the driver: power goes at the order after these, in the second sync."""
+    lines = ["mkdir /a", "sync", "mkdir /b", "fault 1 erase-fail", "sync", "restart", "ls /", "log", "mkdir /c"]
+    replies = ["ok", "ok", "ok", "err SYNTAX", "err POWERCUT 24", "mounted", "entries 1 a/"]
+    replies += ["log next 3 dropped 0 versions 1 *2 checkpoints", "err POWERCUT 24"]
+    image = Part().image()
+    with tempfile.TemporaryDirectory() as folder:
+        answers, orders = os.path.join(folder, "answers"), os.path.join(folder, "orders")
+        with open(answers, "wb") as file:
+            file.write(struct.pack("<Q", len(image)) + image + bytes([DONE] * 20))
+        open(orders, "wb").close()
+        script = "".join(line + "\n" for line in lines)
+        done = subprocess.run([program, "serve", answers, orders, "--history", "8"], input=script.encode(), capture_output=True)
+        want((done.returncode, done.stdout.decode().splitlines(), done.stderr), (0, replies, b""))
+
+
 def made(program, folder):
     """A part in a flat file, with an empty file system."""
     name = os.path.join(folder, "part")
@@ -256,7 +273,7 @@ def a_part_in_use_is_refused(program):
 
 CASES = [
     replies_come_one_by_one, what_was_synced_outlives_a_kill, each_order_cut, each_order_failed, a_part_with_no_file_system,
-    a_sync_in_place_outlives_a_kill, a_part_in_use_is_refused,
+    stored_answers, a_sync_in_place_outlives_a_kill, a_part_in_use_is_refused,
 ]
 
 

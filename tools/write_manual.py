@@ -1,23 +1,26 @@
 #!/usr/bin/env python3
 """Writes docs/uffs.1, the man page of `uffs`, and tools/uffs.bash, what bash completes after it, from
-the texts of the help in crates/jobs. With --check it writes nothing, and fails where one is stale.
+the texts of the help in crates/command_words. With --check it writes nothing, and fails where one is stale.
 
-The help is read from the sources, so that neither a proof nor a program is wanted: each subcommand is
-a call that names it, with what it is about and its help, and the calls in the same function that add
-its words and options."""
+The help is read from the sources, so that neither a proof nor a program is wanted: each subcommand is a
+constant with its name, what it is about, its help, and its arguments, of which some are constants that
+several subcommands share."""
 import re
 import sys
 from dataclasses import dataclass, field
 from pathlib import Path
 
 ROOT = Path(__file__).resolve().parent.parent
-SOURCES = sorted((ROOT / "crates/jobs/src").glob("*.rt"))
+SOURCES = sorted((ROOT / "crates/command_words/src").glob("*.rt"))
 PAGE = ROOT / "docs/uffs.1"
 COMPLETION = ROOT / "tools/uffs.bash"
 
-TEXT = r'"((?:[^"\\]|\\.)*)"'
-NAMES = re.compile(r'\b(with_)?(named|image|steps|checkpoint)_command\(\s*alloc,\s*(?:\w+,\s*)?' + TEXT + r',\s*' + TEXT + r',\s*(\w+),?\s*\)')
-ADDS = re.compile(r'\bwith_(word|optional_word|shown_word|flag|number|count|part|html)\(\s*alloc,\s*\w+,\s*([^;]*?),?\s*\)\??[;\n]')
+TEXT = r'"(?:[^"\\]|\\.)*"'
+FIELD = rf"(\w+): ({TEXT}|\w+)"
+ARGUMENT = rf"Argument::(\w+) \{{((?:\s*\w+: (?:{TEXT}|\w+),?)*)\s*\}}"
+SHARED = re.compile(rf"const (\w+): Argument =\s*{ARGUMENT};")
+ELEMENT = re.compile(rf"{ARGUMENT}|(\w+)")
+SUBCOMMAND = re.compile(rf"const \w+: Subcommand = Subcommand \{{\s*name: ({TEXT}),\s*about: ({TEXT}),\s*help: (\w+),\s*arguments: &\[(.*?)\],\s*\}};", re.S)
 
 
 @dataclass
@@ -37,105 +40,47 @@ class Subcommand:
 
 
 def text_of(spelled):
-    """A string of the source as the program prints it."""
-    return re.sub(r"\\(.)", lambda m: {"n": "\n"}.get(m.group(1), m.group(1)), spelled)
+    """A string of the source, with its quotes, as the program prints it."""
+    return re.sub(r"\\(.)", lambda m: {"n": "\n"}.get(m.group(1), m.group(1)), spelled[1:-1])
 
 
-def constants():
-    """The texts of the constants of crates/jobs, by name."""
-    all_sources = "\n".join(path.read_text() for path in SOURCES)
-    found = re.findall(r'const (\w+): &str =\s*' + TEXT + ";", all_sources)
-    return {name: text_of(value) for name, value in found}
+def all_sources():
+    return "\n".join(path.read_text() for path in SOURCES)
 
 
-def arguments(spelled):
-    """The arguments of a call: names of constants and texts."""
-    return re.findall(r'"(?:[^"\\]|\\.)*"|\w+', spelled)
+def constants(sources):
+    """The texts of the constants of crates/command_words, by name."""
+    return {name: text_of(value) for name, value in re.findall(rf"const (\w+): &str =\s*({TEXT});", sources)}
 
 
-def value_of(argument, known):
-    return text_of(argument[1:-1]) if argument.startswith('"') else known[argument]
+def word_of(kind, spelled, known):
+    """An argument as the help shows it."""
+    fields = {name: text_of(value) if value.startswith('"') else known[value] for name, value in re.findall(FIELD, spelled)}
+    about = fields["help"]
+    if kind == "Word":
+        return Word(fields["name"], about)
+    if kind == "OptionalWord":
+        return Word(f"[{fields['name']}]", about)
+    if kind == "ShownWord":
+        return Word(fields["shown"], about)
+    if kind == "Count":
+        return Word(f"[{known['COUNT']}]", about)
+    option = "--" + (fields["long"] if kind == "FileOption" else fields["name"])
+    value = {"NumberOption": fields.get("shown"), "FileOption": known["FILE"], "Flag": None}[kind]
+    return Word(f"[{option} {value}]" if value else f"[{option}]", about, option)
 
 
-def added_word(kind, spelled, known):
-    """What a call adds to its subcommand."""
-    given = arguments(spelled)
-    if kind == "word":
-        return Word(value_of(given[0], known), value_of(given[1], known))
-    if kind == "optional_word":
-        return Word(f"[{value_of(given[0], known)}]", value_of(given[1], known))
-    if kind == "shown_word":
-        return Word(value_of(given[1], known), value_of(given[2], known))
-    if kind == "flag":
-        option = "--" + value_of(given[0], known)
-        return Word(f"[{option}]", value_of(given[1], known), option)
-    if kind == "number":
-        option = "--" + value_of(given[0], known)
-        return Word(f"[{option} {value_of(given[1], known)}]", value_of(given[2], known), option)
-    if kind in ("part", "html"):
-        option = "--" + kind
-        return Word(f"[{option} {known['FILE']}]", value_of(given[0], known), option)
-    count = known["COUNT"]
-    return Word(count if given[0] == "true" else f"[{count}]", value_of(given[1], known))
-
-
-def functions_of(source):
-    """The functions of a file, each with its text."""
-    return re.split(r"\n(?=(?:pub\S* )?fn )", source)
-
-
-def added_by(function, known, groups):
-    """What a function adds to a subcommand, in order. `groups` has what a call adds that adds several options."""
-    found = [(m.start(), [added_word(m.group(1), m.group(2), known)]) for m in ADDS.finditer(function) if '"' in m.group(2)]
-    for name, words in groups.items():
-        found += [(m.start(), words) for m in re.finditer(rf"\b{name}\(alloc, ", function)]
-    return [word for _, words in sorted(found, key=lambda one: one[0]) for word in words]
-
-
-def groups_of(known):
-    """What the functions add that add options for several subcommands, by the name of each."""
-    found = {}
-    for path in SOURCES:
-        for function in functions_of(path.read_text()):
-            name = re.match(r"(?:pub\S* )?fn (with_(?:block_sizes|history|sizes))<", function)
-            if name:
-                found[name.group(1)] = added_by(function, known, {})
-    return found
-
-
-def made_subcommands(source, known, shapes, groups):
-    """The subcommands that a file makes. `shapes` has what a function of subcommands of one form adds."""
-    made, later = {}, []
-    for function in functions_of(source):
-        adds = added_by(function, known, groups)
-        begun = re.search(r"let command = (?:with_\w+\(alloc, )?(\w+)\(alloc\)\?", function)
-        if begun:
-            later.append((begun.group(1), adds))
-        for match in NAMES.finditer(function):
-            is_shape, form, name, about, constant = match.groups()
-            one = Subcommand(text_of(name), text_of(about), known[constant])
-            if form != "named":
-                one.words.append(Word(known["IMAGE"], "The file of the image"))
-            one.words += shapes.get(form, []) if is_shape else adds
-            made.setdefault(function.split("fn ", 1)[-1].split("<")[0], []).append(one)
-    for function, adds in later:
-        for one in made[function]:
-            one.words += adds
-    return [one for several in made.values() for one in several]
+def words_of(spelled, shared, known):
+    """The arguments of a subcommand, in order."""
+    return [shared[name] if name else word_of(kind, fields, known) for kind, fields, name in ELEMENT.findall(spelled)]
 
 
 def subcommands():
-    """Each subcommand, in the order in which the sources name them."""
-    known = constants()
-    shapes = {}
-    for path in SOURCES:
-        for form in ("steps", "checkpoint"):
-            whole = re.search(rf"\nfn with_{form}_command<.*?\n}}\n", path.read_text(), re.S)
-            if whole:
-                adds = re.findall(r"with_(word|count)\(\s*alloc,\s*command,\s*(.*?)\)\?", whole.group(0), re.S)
-                shapes[form] = [added_word(kind, spelled, known) for kind, spelled in adds]
-    groups = groups_of(known)
-    found = [made for path in SOURCES for made in made_subcommands(path.read_text(), known, shapes, groups)]
+    """The texts of the constants, and each subcommand, by name."""
+    sources = all_sources()
+    known = constants(sources)
+    shared = {name: word_of(kind, fields, known) for name, kind, fields in SHARED.findall(sources)}
+    found = [Subcommand(text_of(name), text_of(about), known[told], words_of(words, shared, known)) for name, about, told, words in SUBCOMMAND.findall(sources)]
     return known, sorted(found, key=lambda made: made.name)
 
 

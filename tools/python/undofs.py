@@ -74,7 +74,7 @@ class FlatFilePart:
         self.is_new = os.fstat(self.file).st_size == 0
         if self.is_new:
             self.sizes = sizes
-            os.ftruncate(self.file, self._bytes_at(sizes[1] * sizes[2]))
+            os.posix_fallocate(self.file, 0, self._bytes_at(sizes[1] * sizes[2]))
             os.pwrite(self.file, b"UFFSPART" + struct.pack("<III", *sizes), 0)
             os.fsync(self.file)
         head = os.pread(self.file, 20, 0)
@@ -137,7 +137,7 @@ class Undofs:
         self.part, self.orders_done = part, 0
         answers, self.answers = os.pipe()
         self.orders, orders = os.pipe()
-        words = [program, "serve", f"/dev/fd/{answers}", f"/dev/fd/{orders}"]
+        words = [program, "serve", f"/proc/self/fd/{answers}", f"/proc/self/fd/{orders}"]
         words += ["--history", str(history)] if history else []
         pipe = subprocess.PIPE
         self.child = subprocess.Popen(words, stdin=pipe, stdout=pipe, stderr=pipe, bufsize=0, pass_fds=(answers, orders), start_new_session=True)

@@ -27,7 +27,7 @@ use record_format::Record;
 use std::alloc::Global;
 
 /// The place of the newest record on the first eight blocks of a flash, where it is known.
-#[derive(Debug, Drop)]
+#[derive(Drop)]
 pub struct Anchors {
     pub(crate) newest: Option<Found>,
     // the place after the last page that is not erased, on the anchor of the newest record

@@ -5,14 +5,14 @@ ghost use Rattle.commit_pair.specs.Parts as spec;
 use record_format::PageHead;
 
 /// A place where a valid record begins, and its first header.
-#[derive(Clone, Copy, Debug)]
+#[derive(Clone, Copy)]
 pub(crate) struct Found {
     pub(crate) page: u32,
     pub(crate) head: PageHead,
 }
 
 /// The record of greatest sequence among some, and whether another has that sequence too.
-#[derive(Clone, Copy, Debug)]
+#[derive(Clone, Copy)]
 pub(crate) struct Best {
     pub(crate) found: Option<Found>,
     pub(crate) twice: bool,

@@ -26,7 +26,7 @@ pub(crate) struct Commit<'a, F: Flash> {
 }
 
 /// Where an attempt is made: from a place of an anchor on, or from the first page of one that is erased anew.
-#[derive(Clone, Copy, Debug)]
+#[derive(Clone, Copy)]
 pub(crate) struct Start {
     pub(crate) anchor: u32,
     pub(crate) place: u32,

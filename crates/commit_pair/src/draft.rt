@@ -15,7 +15,7 @@ use flash_model::Geometry;
 use record_format::{HEAD_SIZE, PageHead, Payload, Record, payload_laws, write_payload};
 
 /// A record that is to be written: its sequence, its payload, and how many pages that fills.
-#[derive(Clone, Copy, Debug)]
+#[derive(Clone, Copy)]
 pub(crate) struct Draft<'a> {
     pub(crate) sequence: u64,
     pub(crate) payload: &'a [u8],

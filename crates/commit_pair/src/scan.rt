@@ -20,7 +20,7 @@ use fs_types::{ANCHORS, Fault};
 use record_format::{HEAD_SIZE, PageHead};
 
 /// A record of which the first pages were met: where it begins, and how many they are.
-#[derive(Clone, Copy, Debug)]
+#[derive(Clone, Copy)]
 pub(crate) struct Run {
     pub(crate) found: Found,
     pub(crate) met: u16,
@@ -28,7 +28,7 @@ pub(crate) struct Run {
 
 /// The record of greatest sequence among those that were met whole, and the one whose pages are
 /// being met.
-#[derive(Clone, Copy, Debug)]
+#[derive(Clone, Copy)]
 pub(crate) struct Scan {
     pub(crate) best: Best,
     pub(crate) run: Option<Run>,

@@ -1,8 +1,8 @@
 -- What is copied of a flash.
 use Rattle.std.specs.Prelude.{◌≡◌, ◌==◌, ◌&&◌, Bool, true, false, vec_len}
 use Rattle.fs_types.specs.declared.fault.Fault.{Fault}
-use Rattle.flash_model.specs.Simulation.{device_of}
-use Rattle.flash_model.specs.declared.sim_flash.SimFlash.{SimFlash}
+use Rattle.flash_simulation.specs.Simulation.{device_of}
+use Rattle.flash_simulation.specs.declared.sim_flash.SimFlash.{SimFlash}
 use Rattle.image_jobs.specs.Failures.{of_system}
 use Rattle.image_jobs.specs.declared.failure.Failure.{Failure}
 use Rattle.salvages.specs.Salvages.{IsSalvageOf, SalvageCause}

@@ -1,7 +1,7 @@
 //! The history of an image is copied to a new one.
 ghost use Rattle.std.specs.Prelude.{◌≡◌, ◌≢◌, IfOk, OnOk, IfErr};
 ghost use Rattle.fs_types.specs.declared.fault.Fault.{Fault};
-ghost use Rattle.flash_model.specs.Simulation.{device_of};
+ghost use Rattle.flash_simulation.specs.Simulation.{device_of};
 ghost use Rattle.mounting.specs.Formats.{IsFormatted};
 ghost use Rattle.copies.specs.Copied.{IsCopied};
 ghost use Rattle.host_files.specs.Files.{KeepsOthers};
@@ -13,7 +13,8 @@ use crate::asked_sizes::{AskedSizes, limit_of, sizes_of};
 use crate::source::{Source, source_of};
 use crate::telling::{tell_dropped, tell_uncopied, tell_unformatted, tell_unmounted};
 use copies::{Uncopied, copy_history};
-use flash_model::{Flash, Geometry, SimFlash};
+use flash_model::{Flash, Geometry};
+use flash_simulation::SimFlash;
 use fs_types::Fault;
 use host_files::ImageFiles;
 use image_jobs::{Failure, claim, formatted_flash, load, save_image, spare};

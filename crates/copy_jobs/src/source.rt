@@ -4,7 +4,7 @@ ghost use Rattle.copy_jobs.specs.Sources as spec;
 ghost use Rattle.copy_jobs.specs.Sources.{IsSourceOf, UnsalvagedCause};
 
 use crate::telling::{tell_lost, tell_unmounted};
-use flash_model::SimFlash;
+use flash_simulation::SimFlash;
 use image_jobs::Failure;
 use salvages::{Salvaged, salvage};
 use std::alloc::Global;

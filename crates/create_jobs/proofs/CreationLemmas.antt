@@ -1,7 +1,7 @@
 -- How an image is made of a folder, step by step.
 use Rattle.std.proofs.Common.{◌≡◌, ◌⊎◌, ℕ, Bool, true, false, Option, Result, Ok, Err, IfSome, IfErr, OnOk, List, [], map, inl, inr, ◌∙◌, sym, subst}
-use Rattle.flash_model.specs.Simulation.{device_of}
-use Rattle.flash_model.specs.declared.sim_flash.SimFlash.{SimFlash}
+use Rattle.flash_simulation.specs.Simulation.{device_of}
+use Rattle.flash_simulation.specs.declared.sim_flash.SimFlash.{SimFlash}
 use Rattle.flash_image.specs.Images.{image_of}
 use Rattle.fs_types.specs.Names.{Path}
 use Rattle.host_files.specs.Files.{Held}

@@ -5,7 +5,8 @@ ghost use Rattle.host_files.specs.Sources.{source_found};
 ghost use Rattle.create_jobs.specs.Creations.{CreateEnds, MakesEnd, IsFilled, UnfilledCause, sizes_of};
 
 use crate::creation::{Creation, NewImage, sizes_of};
-use flash_model::{Geometry, SimFlash};
+use flash_model::Geometry;
+use flash_simulation::SimFlash;
 use fs_types::Path;
 use host_files::{ImageFiles, Sources};
 use image_jobs::{Failure, claim, formatted_flash, save_image};

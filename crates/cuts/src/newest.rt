@@ -1,5 +1,6 @@
 //! What no server may do: the anchor of the newest record is erased to make room.
-use flash_model::{DevFault, Flash, PageView, SimFlash};
+use flash_model::{DevFault, Flash, PageView};
+use flash_simulation::SimFlash;
 use fs_types::{ANCHORS, Fault};
 use record_format::PageHead;
 use std::alloc::Global;

@@ -1,12 +1,13 @@
 //! A flash, with the system that is mounted on it.
 ghost use Rattle.std.specs.Prelude.{IfSome};
-ghost use Rattle.flash_model.specs.Simulation.{device_of};
+ghost use Rattle.flash_simulation.specs.Simulation.{device_of};
 ghost use Rattle.system.specs.Systems.{IsSystem};
 ghost use Rattle.session_oracle.specs.Props.{seat-prop};
 
 use crate::newest::write_newest_anew;
 use crate::planned::Cut;
-use flash_model::{Counters, Planned, SimFlash};
+use flash_model::{Counters, Planned};
+use flash_simulation::SimFlash;
 use fs_types::{Answer, Call, Event, Fault, Reply};
 use session_oracle::{Shows, flash_of};
 use std::alloc::Global;

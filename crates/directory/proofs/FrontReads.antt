@@ -10,7 +10,7 @@ use Rattle.directory.specs.Places.{nodes_of, nodes_of_all}
 use Rattle.std.specs.Option.{option_map_or}
 use Rattle.node_format.specs.Items.{Item}
 use Rattle.node_format.specs.Links.{Link, link_at}
-use Rattle.node_store.specs.Fronts.{IsFront}
+use Rattle.nodes.specs.Parts.{IsFront}
 use Rattle.block_trees.specs.Bodies.{Blocks}
 use Rattle.block_trees.specs.Chains.{link_of, link_items, next_of, most_after, entries_in}
 use Rattle.block_trees.proofs.Chained.{among_chain}

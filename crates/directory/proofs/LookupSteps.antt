@@ -7,7 +7,7 @@ use Rattle.fs_types.specs.declared.limits.TheConstants.{MAX_ENTRIES}
 use Rattle.fs_types.specs.Names.{Name, Path}
 use Rattle.fs_types.specs.declared.fault.Fault.{Fault}
 use Rattle.fs_types.specs.declared.fault.Fault.TheVariants.{NoEntry, NotDirectory, Damaged}
-use Rattle.node_store.specs.Faults.{IsReadFault}
+use Rattle.nodes.specs.Faults.{IsReadFault}
 use Rattle.node_format.specs.declared.place.Place.{Place}
 use Rattle.node_format.specs.declared.place.Place.TheVariants.{Dir, File}
 use Rattle.block_trees.specs.Bodies.{Blocks}

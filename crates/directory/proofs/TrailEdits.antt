@@ -10,7 +10,7 @@ use Rattle.fs_types.specs.declared.limits.TheConstants.{MAX_ENTRIES}
 use Rattle.fs_types.specs.Names.{Name, Path}
 use Rattle.fs_types.specs.declared.fault.Fault.{Fault}
 use Rattle.fs_types.specs.declared.fault.Fault.TheVariants.{FlashFull, ReadOnly, PowerCut, NoMemory}
-use Rattle.node_store.specs.Faults.{IsWriteFault}
+use Rattle.nodes.specs.Faults.{IsWriteFault}
 use Rattle.plain_trees.specs.Trees.{nodes_for}
 use Rattle.plain_trees.proofs.Needs.{nodes_for-le, sum_below-le}
 use Rattle.node_format.specs.Items.{Item, named_place}

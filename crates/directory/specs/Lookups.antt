@@ -6,7 +6,7 @@ use Rattle.plain_trees.specs.Contents.{Entry, Contents, lookup_refusal}
 use Rattle.plain_trees.specs.Trees.{path_need}
 use Rattle.fs_types.specs.declared.fault.Fault.{Fault}
 use Rattle.fs_types.specs.declared.fault.Fault.TheVariants.{NoEntry, NotDirectory, Damaged}
-use Rattle.node_store.specs.Faults.{is_read_fault}
+use Rattle.nodes.specs.Faults.{is_read_fault}
 use Rattle.node_format.specs.Items.{Item, named_place}
 use Rattle.node_format.specs.declared.place.Place.{Place}
 use Rattle.node_format.specs.declared.place.Place.TheVariants.{Dir, File}

@@ -6,14 +6,14 @@ ghost use Rattle.block_trees.specs.Chains.{link_items, next_of};
 ghost use Rattle.block_trees.specs.Laws.{IsShallow};
 ghost use Rattle.directory.specs.Lookups.{LeadsToDirectories};
 ghost use Rattle.directory.specs.Depths as spec;
-ghost use Rattle.node_store.specs.Faults.{IsLookFault};
-ghost use Rattle.node_store.specs.Words.{LooksWithin};
+ghost use Rattle.nodes.specs.Faults.{IsLookFault};
+ghost use Rattle.nodes.specs.Words.{LooksWithin};
 ghost use Rattle.fs_types.specs.declared.limits.TheConstants.{MAX_NAMES};
 
 use allocator::BlockSet;
 use fs_types::Fault;
 use node_format::{Entries, EntryList, Place};
-use node_store::{Nodes, brings};
+use nodes::{Nodes, brings};
 use std::alloc::Global;
 
 /// Puts the blocks of the directories among entries into a set, but those past its last block.

@@ -6,13 +6,13 @@ ghost use Rattle.block_trees.specs.Rewritten.{IsFreshChain};
 ghost use Rattle.directory.specs.Counts.{nodes_in};
 ghost use Rattle.directory.specs.Puts as spec;
 ghost use Rattle.directory.specs.Trails.{IsChangeFault};
-ghost use Rattle.node_store.specs.Words.{WorksWithin};
+ghost use Rattle.nodes.specs.Words.{WorksWithin};
 
 use crate::list_writes::write_list;
 use crate::node_lists::read_list;
 use fs_types::{Fault, Name};
 use node_format::{EntryList, Place, Spelled};
-use node_store::Nodes;
+use nodes::Nodes;
 use std::alloc::{AllocError, Global};
 
 /// A name of a directory, and the place that it is to lead to.

@@ -12,14 +12,14 @@ ghost use Rattle.directory.specs.declared.lookups.Found.TheVariants.{Missing};
 ghost use Rattle.directory.specs.Edits.{OnlyReaches};
 ghost use Rattle.directory.specs.Making.{IsNewDirectory};
 ghost use Rattle.directory.specs.Trails as spec;
-ghost use Rattle.node_store.specs.Words.{IsHeld, Keeps, WorksWithin};
+ghost use Rattle.nodes.specs.Words.{IsHeld, Keeps, WorksWithin};
 
 use crate::list_writes::write_list;
 use crate::node_lists::{edit_list, read_list};
 use crate::trail::Trail;
 use fs_types::{Fault, MIN_BLOCK_BYTES, Name, Path};
 use node_format::{Place, empty_directory};
-use node_store::Nodes;
+use nodes::Nodes;
 use std::alloc::Global;
 
 /// Writes the directory that begins in a block anew, with a name leading to a place, or to nothing.

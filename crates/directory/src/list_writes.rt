@@ -1,14 +1,14 @@
 //! Entries written as the nodes of a directory, from the last one on.
 ghost use Rattle.std.specs.Prelude.{◌≡◌, ◌+◌, ◌*◌, ◌%◌, ◌<◌, ◌≤◌, ◌⊎◌, length, take, drop, IfOk};
 ghost use Rattle.fs_types.specs.declared.limits.TheConstants.{NODE_ENTRIES, MAX_ENTRIES};
-ghost use Rattle.node_store.specs.Faults.{IsWriteFault};
-ghost use Rattle.node_store.specs.Words.{WorksWithin};
+ghost use Rattle.nodes.specs.Faults.{IsWriteFault};
+ghost use Rattle.nodes.specs.Words.{WorksWithin};
 ghost use Rattle.plain_trees.specs.Trees.{nodes_for};
 ghost use Rattle.directory.specs.Written as spec;
 
 use fs_types::{Fault, MIN_BLOCK_BYTES, NODE_ENTRIES};
 use node_format::{EntryList, chain_node};
-use node_store::Nodes;
+use nodes::Nodes;
 use std::alloc::Global;
 
 /// Writes the node of a group of 32 entries of a list, or of the last ones, before the node in a

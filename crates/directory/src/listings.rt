@@ -2,8 +2,8 @@
 ghost use Rattle.std.specs.Prelude.{◌≡◌, ◌+◌, ◌≤◌, ◌==◌, ◌++◌, List, length, Some, None, OnOk, IfOk, IfErr, IsErrOf};
 ghost use Rattle.fs_types.specs.declared.fault.Fault.TheVariants.{NoMemory, Damaged};
 ghost use Rattle.fs_types.specs.declared.limits.TheConstants.{NODE_ENTRIES};
-ghost use Rattle.node_store.specs.Faults.{IsReadFault};
-ghost use Rattle.node_store.specs.Words.{LooksWithin};
+ghost use Rattle.nodes.specs.Faults.{IsReadFault};
+ghost use Rattle.nodes.specs.Words.{LooksWithin};
 ghost use Rattle.node_format.specs.Items.{Item};
 ghost use Rattle.block_trees.specs.Chains.{link_of, link_items, next_of, chain};
 ghost use Rattle.block_trees.specs.Trees.{entries_in, names_of};
@@ -11,7 +11,7 @@ ghost use Rattle.block_trees.specs.Trees.{entries_in, names_of};
 use crate::lookups::MOST_AFTER;
 use fs_types::{Fault, Name, Sequence};
 use node_format::{Entries, EntryList};
-use node_store::Nodes;
+use nodes::Nodes;
 use std::alloc::Global;
 
 /// Adds the names of entries, each with whether it is a directory.

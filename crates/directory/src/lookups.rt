@@ -2,8 +2,8 @@
 ghost use Rattle.std.specs.Prelude.{◌≡◌, ◌+◌, ◌≤◌, true, length, Some, None, Ok, Err, IfOk, IfErr, IsErrOf};
 ghost use Rattle.fs_types.specs.declared.fault.Fault.TheVariants.{NoEntry, NotDirectory, Damaged};
 ghost use Rattle.fs_types.specs.declared.limits.TheConstants.{NODE_ENTRIES};
-ghost use Rattle.node_store.specs.Faults.{IsReadFault};
-ghost use Rattle.node_store.specs.Words.{LooksWithin};
+ghost use Rattle.nodes.specs.Faults.{IsReadFault};
+ghost use Rattle.nodes.specs.Words.{LooksWithin};
 ghost use Rattle.block_trees.specs.Chains.{link_of, chain};
 ghost use Rattle.directory.specs.Seeking as seeking;
 ghost use Rattle.directory.specs.Lookups as spec;
@@ -11,7 +11,7 @@ ghost use Rattle.directory.specs.Lookups as spec;
 use crate::trail::find;
 use fs_types::{CHAIN_NODES, Fault, MAX_ENTRIES, Name, Path};
 use node_format::{Entries, Place};
-use node_store::Nodes;
+use nodes::Nodes;
 
 /// The most nodes after the first one of a directory.
 pub(crate) const MOST_AFTER: u32 = CHAIN_NODES as u32 - 1;

@@ -10,7 +10,7 @@ ghost use Rattle.directory.specs.Counts.{nodes_in, edit_nodes, path_nodes, fork_
 ghost use Rattle.directory.specs.Edits.{OnlyReaches};
 ghost use Rattle.directory.specs.Trails.{IsHeldTrail, TakesName, IsChangeFault, takes};
 ghost use Rattle.directory.specs.Moves as spec;
-ghost use Rattle.node_store.specs.Words.{Keeps, WorksWithin};
+ghost use Rattle.nodes.specs.Words.{Keeps, WorksWithin};
 
 use crate::edits::{edit_directory, rewrite_from};
 use crate::list_writes::write_list;
@@ -18,7 +18,7 @@ use crate::node_lists::{edit_list_twice, read_list};
 use crate::trail::Trail;
 use fs_types::{Fault, Name, Path};
 use node_format::Place;
-use node_store::Nodes;
+use nodes::Nodes;
 use std::alloc::Global;
 
 /// How many names two paths begin with in common.

@@ -3,8 +3,8 @@ ghost use Rattle.std.specs.Prelude.{◌≡◌, ℕ, ◌+◌, ◌≤◌, true, fa
 ghost use Rattle.std.specs.Option.{is_some};
 ghost use Rattle.fs_types.specs.declared.limits.TheConstants.{MAX_ENTRIES};
 ghost use Rattle.fs_types.specs.Names.{same_name};
-ghost use Rattle.node_store.specs.Faults.{IsLookFault};
-ghost use Rattle.node_store.specs.Words.{LooksWithin};
+ghost use Rattle.nodes.specs.Faults.{IsLookFault};
+ghost use Rattle.nodes.specs.Words.{LooksWithin};
 ghost use Rattle.node_format.specs.Items.{is_place, named_place};
 ghost use Rattle.node_format.specs.Edits.{IsEdited};
 ghost use Rattle.block_trees.specs.Chains.{entries_in, items_in, link_of};
@@ -15,7 +15,7 @@ ghost use Rattle.directory.specs.Trails.{takes};
 
 use fs_types::{CHAIN_NODES, Fault, Name};
 use node_format::{Entries, EntryList, Place, Spelled};
-use node_store::Nodes;
+use nodes::Nodes;
 use std::alloc::{AllocError, Global};
 
 /// What was read with a node: whether it has an entry of the name, and the block of the node after it.

@@ -2,8 +2,8 @@
 //! pages of its nodes.
 ghost use Rattle.std.specs.Prelude.{◌≡◌, ◌+◌, ◌≤◌, List, length, map, Some, IfOk, IfErr};
 ghost use Rattle.fs_types.specs.declared.limits.TheConstants.{NODE_ENTRIES};
-ghost use Rattle.node_store.specs.Faults.{IsLookFault};
-ghost use Rattle.node_store.specs.Words.{Looks};
+ghost use Rattle.nodes.specs.Faults.{IsLookFault};
+ghost use Rattle.nodes.specs.Words.{Looks};
 ghost use Rattle.node_format.specs.Items.{Item};
 ghost use Rattle.node_format.specs.Links.{Link};
 ghost use Rattle.block_trees.specs.Chains.{link_of, link_items, items_in, next_of, chain};
@@ -13,7 +13,7 @@ ghost use Rattle.directory.specs.Places as spec;
 use crate::lookups::MOST_AFTER;
 use fs_types::{Fault, Name, Sequence, Stat};
 use node_format::{Place, front_count};
-use node_store::Nodes;
+use nodes::Nodes;
 use std::alloc::Global;
 
 /// How many entries the node in a block has, at most 32, and the block of the node after it, 0 where

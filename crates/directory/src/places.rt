@@ -2,8 +2,8 @@
 ghost use Rattle.std.specs.Prelude.{◌≡◌, ◌+◌, ◌++◌, List, length, Some, None, OnOk, IfOk, IfErr, IsErrOf};
 ghost use Rattle.std.specs.Option.{option_copied};
 ghost use Rattle.fs_types.specs.declared.fault.Fault.TheVariants.{NoMemory, Damaged};
-ghost use Rattle.node_store.specs.Faults.{IsReadFault};
-ghost use Rattle.node_store.specs.Words.{LooksWithin};
+ghost use Rattle.nodes.specs.Faults.{IsReadFault};
+ghost use Rattle.nodes.specs.Words.{LooksWithin};
 ghost use Rattle.node_format.specs.Items.{Item};
 ghost use Rattle.block_trees.specs.Chains.{link_of, link_items, next_of, chain};
 ghost use Rattle.block_trees.specs.Trees.{entries_in};
@@ -12,7 +12,7 @@ ghost use Rattle.directory.specs.Places.{places_after, is_read};
 use crate::lookups::MOST_AFTER;
 use fs_types::{Fault, Name, Sequence, is_after};
 use node_format::{Entries, EntryList, Place};
-use node_store::Nodes;
+use nodes::Nodes;
 use std::alloc::Global;
 
 /// Adds those entries that come after a name, as long as there are fewer than `most`.

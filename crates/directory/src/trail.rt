@@ -3,14 +3,14 @@ ghost use Rattle.std.specs.Prelude.{◌≡◌, ℕ, ◌+◌, ◌≤◌, ◌<◌,
 ghost use Rattle.directory.specs.Lookups as spec;
 ghost use Rattle.directory.specs.Trails.{IsTrail, IsWay};
 ghost use Rattle.directory.specs.Beside.{beside_nodes};
-ghost use Rattle.node_store.specs.Words.{LooksWithin};
+ghost use Rattle.nodes.specs.Words.{LooksWithin};
 ghost use Rattle.fs_types.specs.declared.limits.TheConstants.{MAX_NAMES};
 
 use crate::lookups::{Found, directory_at, found_in, place_in};
 use crate::moves::common_names;
 use arrayvec::ArrayVec;
 use fs_types::{Fault, MAX_NAMES, Path};
-use node_store::Nodes;
+use nodes::Nodes;
 use std::marker::Model;
 
 /// The blocks of the directories that a path goes through, the root first: one for each name, so at

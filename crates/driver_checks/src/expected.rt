@@ -1,6 +1,6 @@
 //! What a page is to show.
 ghost use Rattle.std.specs.Prelude.{◌≡◌, ◌^◌, ◌<◌, length, IsTrue};
-ghost use Rattle.flash_model.specs.Stored.{page_of};
+ghost use Rattle.flash_model.specs.Contents.{page_of};
 ghost use Rattle.driver_checks.specs.Expectations.{MeetsExpectation};
 
 use crate::pattern::Pattern;

@@ -4,7 +4,8 @@ use crate::flaw::{Flaw, Way};
 use crate::flawed::Flawed;
 use crate::memory_part::MemoryPart;
 use driver_checks::{Bench, Case, check_driver};
-use flash_model::{Geometry, SimFlash};
+use flash_model::Geometry;
+use flash_simulation::SimFlash;
 use nor_part::{MemoryNor, NorFlash};
 use std::alloc::Global;
 use std::process::Abort;
@@ -27,22 +28,15 @@ fn nor_bench(alloc: Global) -> Result<FlashBench<MemoryPart>, Fail> {
     Ok(FlashBench::new(MemoryPart { flash })?)
 }
 
+// A flash that was used passes as a new one does.
 #[test]
 fn flashes_in_memory_pass(rt: HostRuntime) -> Result<(), Fail> {
     let failed = check_driver(rt.alloc(), &mut sim_bench(rt.alloc())?)?;
     assert!(rt; failed.is_empty(), "in memory: {failed:?}");
-    let failed = check_driver(rt.alloc(), &mut nor_bench(rt.alloc())?)?;
-    assert!(rt; failed.is_empty(), "over a part: {failed:?}");
-    Ok(())
-}
-
-// A flash that was used passes as a new one does.
-#[test]
-fn used_flashes_pass(rt: HostRuntime) -> Result<(), Fail> {
     let mut bench = nor_bench(rt.alloc())?;
     for _ in 0..3 {
         let failed = check_driver(rt.alloc(), &mut bench)?;
-        assert!(rt; failed.is_empty(), "{failed:?}");
+        assert!(rt; failed.is_empty(), "over a part: {failed:?}");
     }
     Ok(())
 }
@@ -121,27 +115,30 @@ fn flaws_at_each_moment_are_told(rt: HostRuntime) -> Result<(), Fail> {
     Ok(())
 }
 
-// A bench that tells no moments is told by each case in which a fault is planned, and by no other.
+// The cases that tell a driver with a flaw over the flash in memory, on a bench that tells no moments or on one
+// that does.
+fn told_of(alloc: Global, flaw: Flaw, is_silent: bool) -> Result<Vec<Case>, Fail> {
+    let bench = sim_bench(alloc)?;
+    let mut driver = if is_silent {
+        Flawed::silent(bench, flaw)
+    } else {
+        Flawed::new(bench, flaw)
+    };
+    Ok(check_driver(alloc, &mut driver)?)
+}
+
+// A bench that tells no moments is told by each case in which a fault is planned, and by no other. And where
+// one rule alone is broken, and no other case meets it, that case alone tells it.
 #[test]
-fn silent_benches_are_told(rt: HostRuntime) -> Result<(), Fail> {
-    let flaw = Flaw::of(Case::CutErase);
-    let failed = check_driver(
-        rt.alloc(),
-        &mut Flawed::silent(sim_bench(rt.alloc())?, flaw),
-    )?;
+fn some_flaws_are_told_alone(rt: HostRuntime) -> Result<(), Fail> {
     let planned = [
         Case::FailedProgram,
         Case::FailedErase,
         Case::CutProgram,
         Case::CutErase,
     ];
-    assert_eq!(rt; failed.as_slice(), planned.as_slice());
-    Ok(())
-}
-
-// Where one rule alone is broken, and no other case meets it, that case alone tells it.
-#[test]
-fn some_flaws_are_told_alone(rt: HostRuntime) -> Result<(), Fail> {
+    let silent = told_of(rt.alloc(), Flaw::of(Case::CutErase), true)?;
+    assert_eq!(rt; silent.as_slice(), planned.as_slice());
     let alone = [
         Case::Sizes,
         Case::FailedProgram,
@@ -152,8 +149,7 @@ fn some_flaws_are_told_alone(rt: HostRuntime) -> Result<(), Fail> {
         Case::Neighbours,
     ];
     for case in alone {
-        let mut bench = Flawed::new(sim_bench(rt.alloc())?, Flaw::of(case));
-        let failed = check_driver(rt.alloc(), &mut bench)?;
+        let failed = told_of(rt.alloc(), Flaw::of(case), false)?;
         assert_eq!(rt; failed.as_slice(), [case].as_slice());
     }
     Ok(())

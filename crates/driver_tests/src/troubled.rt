@@ -5,7 +5,8 @@ ghost use Rattle.flash_model.specs.declared.flash.DevFault.{DevFault};
 ghost use Rattle.driver_tests.specs.Moments.{memory_moments, part_moments};
 
 use crate::memory_part::MemoryPart;
-use flash_model::{DevFault, FaultKind, Flash, Operation, Planned, SimFlash};
+use flash_model::{DevFault, FaultKind, Flash, Operation, Planned};
+use flash_simulation::SimFlash;
 use nor_part::Trouble;
 
 /// A flash whose next operation can be troubled.

@@ -3,7 +3,7 @@
 
 mod watched;
 
-use flash_model::SimFlash;
+use flash_simulation::SimFlash;
 use std::alloc::Global;
 use undofs::{Fault, Flash, Fs, Geometry, Path, View, format};
 use watched::Watched;

@@ -1,10 +1,11 @@
 //! Runs of lines on the flash of an image, with an operation that fails.
 ghost use Rattle.std.specs.Prelude.{IfSome};
-ghost use Rattle.flash_model.specs.Simulation.{device_of};
+ghost use Rattle.flash_simulation.specs.Simulation.{device_of};
 ghost use Rattle.session_oracle.specs.Props.{seat-prop};
 ghost use Rattle.system.specs.Systems.{IsSystem};
 
-use flash_model::{Counters, FaultKind, Planned, SimFlash};
+use flash_model::{Counters, FaultKind, Planned};
+use flash_simulation::SimFlash;
 use fs_types::{Answer, Fault};
 use script::{Line, LineAnswer, print_answer};
 use script_runs::carry_out;

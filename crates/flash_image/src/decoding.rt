@@ -2,9 +2,8 @@
 ghost use Rattle.std.specs.Prelude.{◌≡◌, ◌⊎◌, ◌*◌, ◌<◌, ◌++◌, [], length, IfOk, IfErr, IfSome, IfNone, OnOk, OnErr, MatchResult, true};
 ghost use Rattle.flash_model.specs.Geometry.{IsGeometry};
 ghost use Rattle.flash_model.specs.Device.{Device};
-ghost use Rattle.flash_model.specs.Contents.{IsWhole};
-ghost use Rattle.flash_model.specs.Stored.{shown_page};
-ghost use Rattle.flash_model.specs.Simulation.{IsNew, device_of, plan_of};
+ghost use Rattle.flash_model.specs.Contents.{IsWhole, shown_page};
+ghost use Rattle.flash_simulation.specs.Simulation.{IsNew, device_of, plan_of};
 ghost use Rattle.flash_model.specs.Plan.{plan_of_entries};
 ghost use Rattle.flash_image.specs.Images.{magic, header, parts, page_text, worn_text, place_text, block_text, blocks_text, image_of, AreSizes, HasImage, IsFault, HoldsTheSame, IsFresh};
 ghost use Rattle.flash_image.specs.declared.image_fault.ImageFault.{ImageFault};
@@ -13,7 +12,8 @@ ghost use Rattle.flash_image.specs.Reading.{WornFault, PageFault, PagesFault, Bl
 use crate::encoding::MAGIC;
 use crate::image_fault::ImageFault;
 use fields::read_u32;
-use flash_model::{Flash, Geometry, PageView, SimFlash};
+use flash_model::{Flash, Geometry, PageView};
+use flash_simulation::SimFlash;
 use fs_types::Fault;
 use std::alloc::Global;
 

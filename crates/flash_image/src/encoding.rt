@@ -1,12 +1,13 @@
 //! The image of a flash.
 ghost use Rattle.std.specs.Prelude.{◌≡◌, ◌≤◌, ◌<◌, [], ◌∷◌, ◌++◌, length, IfOk, IfErr, OnOk};
-ghost use Rattle.flash_model.specs.Stored.{shown_page};
-ghost use Rattle.flash_model.specs.Simulation.{device_of};
+ghost use Rattle.flash_model.specs.Contents.{shown_page};
+ghost use Rattle.flash_simulation.specs.Simulation.{device_of};
 ghost use Rattle.flash_image.specs.Images.{header, page_text, worn_text, block_text, image_of};
 
 use crate::image_fault::ImageFault;
 use fields::push_u32;
-use flash_model::{Flash, Geometry, PageView, SimFlash};
+use flash_model::{Flash, Geometry, PageView};
+use flash_simulation::SimFlash;
 use std::alloc::{AllocError, Global};
 
 /// The first bytes of an image.

@@ -1,11 +1,11 @@
 //! What is true of images, whatever the code does.
 ghost use Rattle.std.specs.Prelude.{◌≡◌, ◌≤◌, ℕ, List, ◌++◌, [], length};
 ghost use Rattle.flash_model.specs.Device.{Device};
-ghost use Rattle.flash_model.specs.Simulation.{device_of};
+ghost use Rattle.flash_simulation.specs.Simulation.{device_of};
 ghost use Rattle.flash_image.specs.declared.image_fault.ImageFault.{ImageFault};
 ghost use Rattle.flash_image.specs.Images.{image_of, HasImage, HoldsTheSame, IsFault};
 
-use flash_model::SimFlash;
+use flash_simulation::SimFlash;
 
 /// Each flash in memory has an image.
 pub fn each_flash_has_an_image(flash: &SimFlash)

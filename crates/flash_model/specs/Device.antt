@@ -100,3 +100,8 @@ pub record Erases (old : Device) (b : ℕ) (new : Device) (result : Result (Unit
   pub others : (p : ℕ) → block_of old p ≢ b → new.pages p ≡ old.pages p
   pub own : (p : ℕ) → block_of old p ≡ b → AfterErase (old.pages p) (new.pages p) result
   pub worn : Wears old new b result
+
+-- what a program or an erase in a block leaves beside the pages, by its answer, where power was on
+pub record LeavesBeside (old : Device) (b : ℕ) (new : Device) (result : Result (Unit {0}) DevFault) : Type 0 where
+  pub rest : new ≡ record old { powered = power_after result; worn = new.worn; failures = old.failures + failed result; cuts = old.cuts + cut result }
+  pub worn : Wears old new b result

@@ -2,10 +2,6 @@ pub mod Geometry
 pub mod Device
 pub mod Blocks
 pub mod Plan
-pub mod Stored
-pub mod StoredLaws
-pub mod Simulation
-pub mod WholePages
 pub mod Later
 pub mod Reading
 pub mod Contents

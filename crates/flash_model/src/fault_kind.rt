@@ -71,8 +71,8 @@ impl FaultKind {
         }
     }
 
-    // What an operation that it befalls answers.
-    pub(crate) fn answer(self) -> DevFault
+    /// What an operation that it befalls answers.
+    pub fn answer(self) -> DevFault
         ensures { result ≡ kind_answer self }
     {
         match self {
@@ -99,13 +99,16 @@ pub struct PlannedFault {
 }
 
 impl PlannedFault {
-    pub(crate) fn is_for(&self, class: Operation, number: u128) -> bool
+    /// Whether it befalls the operation of this number, from 1 on, of this class.
+    pub fn is_for(&self, class: Operation, number: u128) -> bool
         ensures { result ≡ is_for class number self.now }
     {
         self.kind.operation().is_same(class) && self.number == number
     }
 
-    pub(crate) fn is_ahead(&self, class: Operation, number: u64) -> bool
+    /// Whether it is still to come after so many operations of this class: it befalls a later one of
+    /// them, or one of another class.
+    pub fn is_ahead(&self, class: Operation, number: u64) -> bool
         ensures { result ≡ is_ahead class number self.now }
     {
         !self.kind.operation().is_same(class) || (number as u128) < self.number
@@ -125,7 +128,8 @@ pub struct Counters {
 }
 
 impl Counters {
-    pub(crate) fn count(self, class: Operation) -> u64
+    /// How many operations of a class have begun.
+    pub fn count(self, class: Operation) -> u64
         ensures { result ≡ count_of self class }
     {
         match class {
@@ -135,7 +139,8 @@ impl Counters {
         }
     }
 
-    pub(crate) fn more(self, class: Operation) -> Counters
+    /// The counters after one more operation of a class.
+    pub fn more(self, class: Operation) -> Counters
         ensures { result ≡ count_more self class }
     {
         match class {

@@ -4,7 +4,7 @@ use Rattle.std.specs.Borrow.{Bor}
 use Rattle.fs_types.specs.Names.{Path}
 use Rattle.fs_types.specs.declared.call.View.{View}
 use Rattle.flash_model.specs.Device.{Device}
-use Rattle.flash_model.specs.Simulation.{device_of}
+use Rattle.flash_simulation.specs.Simulation.{device_of}
 use Rattle.host_files.specs.Files.{Held, KeepsOthers}
 use Rattle.host_files.specs.Folders.{Made}
 use Rattle.history_machine.specs.Machine.{Machine}

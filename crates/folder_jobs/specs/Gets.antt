@@ -4,8 +4,8 @@ use Rattle.std.specs.Borrow.{Bor}
 use Rattle.fs_types.specs.Names.{Path}
 use Rattle.fs_types.specs.declared.call.View.{View}
 use Rattle.flash_model.specs.Device.{Device}
-use Rattle.flash_model.specs.Simulation.{device_of}
-use Rattle.flash_model.specs.declared.sim_flash.SimFlash.{SimFlash}
+use Rattle.flash_simulation.specs.Simulation.{device_of}
+use Rattle.flash_simulation.specs.declared.sim_flash.SimFlash.{SimFlash}
 use Rattle.host_files.specs.Files.{Held, KeepsOthers, takes_away}
 use Rattle.host_files.specs.Folders.{Made}
 use Rattle.folder_jobs.specs.Copies.{IsCopiedOut, CopyCause}

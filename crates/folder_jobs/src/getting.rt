@@ -1,10 +1,10 @@
 //! What stands at a path of an image becomes a file or a folder of the host.
 ghost use Rattle.std.specs.Prelude.{◌≡◌};
 ghost use Rattle.folder_jobs.specs.Gets.{GetEnds, SaveEnds};
-ghost use Rattle.flash_model.specs.Simulation.{device_of};
+ghost use Rattle.flash_simulation.specs.Simulation.{device_of};
 
 use crate::copying::{Copied, copy_out};
-use flash_model::SimFlash;
+use flash_simulation::SimFlash;
 use fs_types::{Path, View};
 use host_files::Folders;
 use image_jobs::{Failure, load, save_bytes, spare};

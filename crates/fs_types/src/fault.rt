@@ -3,110 +3,117 @@ ghost use Rattle.std.specs.Prelude.{◌≡◌};
 ghost use Rattle.fs_types.specs.Faults.{number_of, word_of};
 
 use std::alloc::{AllocError, AllocFailed};
-use thiserror::Error;
+use std::error::Error;
+use std::fmt;
 
 /// Why a call is refused. Each refusal has a number and a word.
 ///
 /// Numbers 1 to 14, 16 and 23 are for the errors of POSIX.1-2017 that their words name. The three
 /// refusals with the word `ENOSPC` are told apart by their numbers.
-#[derive(Clone, Copy, Debug, PartialEq, Eq, Error)]
+#[derive(Clone, Copy, Debug, PartialEq, Eq)]
 pub enum Fault {
     /// A component of the path does not exist, or the path is empty.
-    #[error("no such file or directory")]
     NoEntry,
     /// A component of the path that has to be a directory is a file.
-    #[error("not a directory")]
     NotDirectory,
     /// The path names a directory where a file is wanted.
-    #[error("is a directory")]
     IsDirectory,
     /// The name is there already.
-    #[error("exists already")]
     Exists,
     /// The directory has entries.
-    #[error("directory not empty")]
     NotEmpty,
     /// `unlink` of a directory.
-    #[error("operation not permitted")]
     NotPermitted,
     /// An argument has no lawful form.
-    #[error("invalid argument")]
     Invalid,
     /// A component has over 64 bytes, or the path over 16 components.
-    #[error("name too long")]
     NameTooLong,
     /// The file would be longer than 16,777,216 bytes.
-    #[error("file too large")]
     TooBig,
     /// The number is no open descriptor, or not one that is open for this.
-    #[error("bad descriptor")]
     BadDescriptor,
     /// All sixteen descriptors are open.
-    #[error("too many open files")]
     TooManyOpen,
     /// An open descriptor, or the root, is in the way.
-    #[error("busy")]
     Busy,
     /// The directory has 1,024 entries.
-    #[error("directory full")]
     DirectoryFull,
     /// There are sixteen checkpoints.
-    #[error("checkpoints full")]
     CheckpointsFull,
     /// No block is left for what has to be written.
-    #[error("flash full")]
     FlashFull,
     /// The file system is in read-only mode.
-    #[error("read-only file system")]
     ReadOnly,
     /// The present version is the first that there ever was.
-    #[error("nothing to undo")]
     NothingToUndo,
     /// The version was dropped from the history.
-    #[error("version too old")]
     TooOld,
     /// The present version is the last one kept.
-    #[error("nothing to redo")]
     NothingToRedo,
     /// There is no version of this serial yet, or no checkpoint of this name.
-    #[error("no such version")]
     NoSuchVersion,
     /// A change after an undo gave the version up.
-    #[error("version discarded")]
     Discarded,
     /// The next serial or sequence number would pass the greatest `u64`.
-    #[error("number overflow")]
     Overflow,
     /// The device failed to read.
-    #[error("device read failed")]
     ReadFailed,
     /// The device has no power.
-    #[error("power cut")]
     PowerCut,
     /// Memory could not be had.
-    #[error("out of memory")]
     NoMemory,
     /// What the flash holds is not a file system of this kind.
-    #[error("damaged")]
     Damaged,
     /// No anchor holds a commit record.
-    #[error("no commit record")]
     NoRecord,
     /// The geometry is out of range, or not that of the record.
-    #[error("bad geometry")]
     BadGeometry,
     /// Fewer than two anchors work.
-    #[error("no anchors")]
     NoAnchors,
     /// No change group is open.
-    #[error("no group")]
     NoGroup,
     /// A change group is open.
-    #[error("in a group")]
     InGroup,
 }
 
 impl Fault {
+    /// What it means, in words.
+    fn text(self) -> &'static str {
+        match self {
+            Fault::NoEntry => "no such file or directory",
+            Fault::NotDirectory => "not a directory",
+            Fault::IsDirectory => "is a directory",
+            Fault::Exists => "exists already",
+            Fault::NotEmpty => "directory not empty",
+            Fault::NotPermitted => "operation not permitted",
+            Fault::Invalid => "invalid argument",
+            Fault::NameTooLong => "name too long",
+            Fault::TooBig => "file too large",
+            Fault::BadDescriptor => "bad descriptor",
+            Fault::TooManyOpen => "too many open files",
+            Fault::Busy => "busy",
+            Fault::DirectoryFull => "directory full",
+            Fault::CheckpointsFull => "checkpoints full",
+            Fault::FlashFull => "flash full",
+            Fault::ReadOnly => "read-only file system",
+            Fault::NothingToUndo => "nothing to undo",
+            Fault::TooOld => "version too old",
+            Fault::NothingToRedo => "nothing to redo",
+            Fault::NoSuchVersion => "no such version",
+            Fault::Discarded => "version discarded",
+            Fault::Overflow => "number overflow",
+            Fault::ReadFailed => "device read failed",
+            Fault::PowerCut => "power cut",
+            Fault::NoMemory => "out of memory",
+            Fault::Damaged => "damaged",
+            Fault::NoRecord => "no commit record",
+            Fault::BadGeometry => "bad geometry",
+            Fault::NoAnchors => "no anchors",
+            Fault::NoGroup => "no group",
+            Fault::InGroup => "in a group",
+        }
+    }
+
     /// The number, from 1 to 31.
     pub fn number(self) -> u8
         ensures { result ≡ number_of self }
@@ -205,3 +212,11 @@ impl<T: Drop> From<AllocFailed<T>> for Fault {
         Fault::NoMemory
     }
 }
+
+impl fmt::Display for Fault {
+    fn fmt<W: fmt::Write>(&self, f: &mut fmt::Formatter<W>) -> fmt::Result {
+        f.write_str(self.text())
+    }
+}
+
+impl Error for Fault {}

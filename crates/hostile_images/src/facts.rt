@@ -1,6 +1,7 @@
 //! What the newest record of a flash tells.
 use commit_pair::Anchors;
-use flash_model::{Flash, SimFlash};
+use flash_model::Flash;
+use flash_simulation::SimFlash;
 use fs_types::{Fault, Reply};
 use std::alloc::Global;
 

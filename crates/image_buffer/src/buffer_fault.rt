@@ -5,37 +5,44 @@ ghost use Rattle.image_buffer.specs.Faults.{image_number_of};
 use flash_image::ImageFault;
 use fs_types::Fault;
 use script_runs::ScriptFault;
-use thiserror::Error;
+use std::error::Error;
+use std::fmt;
 
 /// Why nothing was done with an image in a buffer. The buffers are as they were.
-#[derive(Clone, Copy, Debug, PartialEq, Eq, Error)]
+#[derive(Clone, Copy, Debug, PartialEq, Eq)]
 pub enum BufferFault {
     /// The image is told to be longer than its buffer.
-    #[error("the image is longer than its buffer")]
     Length,
     /// The bytes are no image.
-    #[error("no image: {0}")]
     Image(ImageFault),
     /// A format or a mount was refused.
-    #[error("no system: {0}")]
     System(Fault),
     /// The script could not be read to its end.
-    #[error("input failed")]
     Input,
     /// Memory could not be had.
-    #[error("out of memory")]
     Memory,
     /// The new image is longer than its buffer.
-    #[error("no room for the image")]
     ImageRoom,
     /// The new image has room, but the replies are longer than their buffer.
-    #[error("no room for the replies")]
     ReplyRoom,
 }
 
 impl BufferFault {
     ghost use Rattle.std.specs.Prelude.{◌≡◌};
     ghost use Rattle.image_buffer.specs.Faults.{buffer_fault_of_image, buffer_fault_of_system, buffer_fault_of_script, buffer_fault_number};
+
+    /// What it means, in words.
+    fn text(self) -> &'static str {
+        match self {
+            BufferFault::Length => "the image is longer than its buffer",
+            BufferFault::Image(_) => "no image",
+            BufferFault::System(_) => "no system",
+            BufferFault::Input => "input failed",
+            BufferFault::Memory => "out of memory",
+            BufferFault::ImageRoom => "no room for the image",
+            BufferFault::ReplyRoom => "no room for the replies",
+        }
+    }
 
     /// By why bytes are no image.
     pub(crate) fn of_image(fault: ImageFault) -> BufferFault
@@ -99,3 +106,16 @@ fn image_number(fault: ImageFault) -> u32
         ImageFault::Memory => 25,
     }
 }
+
+impl fmt::Display for BufferFault {
+    fn fmt<W: fmt::Write>(&self, f: &mut fmt::Formatter<W>) -> fmt::Result {
+        f.write_str(self.text())?;
+        match self {
+            BufferFault::Image(fault) => write!(f, ": {fault}"),
+            BufferFault::System(fault) => write!(f, ": {fault}"),
+            _ => Ok(()),
+        }
+    }
+}
+
+impl Error for BufferFault {}

@@ -1,7 +1,7 @@
 //! What is done with an image in a buffer.
 ghost use Rattle.std.specs.Prelude.{◌≡◌, Ok, IfOk, IfErr};
-ghost use Rattle.flash_model.specs.Simulation.{device_of};
-ghost use Rattle.flash_model.specs.declared.sim_flash.SimFlash.{SimFlash};
+ghost use Rattle.flash_simulation.specs.Simulation.{device_of};
+ghost use Rattle.flash_simulation.specs.declared.sim_flash.SimFlash.{SimFlash};
 ghost use Rattle.flash_image.specs.Images.{image_of};
 ghost use Rattle.script_runs.specs.Flashes.{IsDecoded, IsMade};
 ghost use Rattle.image_buffer.specs.Buffers.{BufferFormatEnds, BufferCheckEnds, BufferRunEnds, MakeRefusal, DecodeRefusal, PlayRefusal, IsPlayed, buffers};
@@ -10,7 +10,8 @@ ghost use Rattle.image_buffer.specs.declared.buffer_fault.BufferFault.{BufferFau
 use crate::buffer_fault::BufferFault;
 use crate::front::put_front;
 use flash_image::{decode, encode};
-use flash_model::{Geometry, SimFlash};
+use flash_model::Geometry;
+use flash_simulation::SimFlash;
 use script_runs::{format_as_planned, mount_as_planned, run_script};
 use std::alloc::Global;
 

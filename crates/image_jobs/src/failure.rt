@@ -5,67 +5,73 @@ use fs_types::Fault;
 use host_files::UnreadCause;
 use part_file::PartFault;
 use script_runs::{Refusal, ScriptFault, Stop};
-use std::io;
+use std::error::Error;
 use std::io::Write;
-use thiserror::Error;
+use std::{fmt, io};
 
 /// Why a job did not run to its end.
-#[derive(Clone, Copy, Debug, PartialEq, Eq, Error)]
+#[derive(Clone, Copy, Debug, PartialEq, Eq)]
 pub enum Failure {
     /// The file of the image, or what a driver tells, could not be read.
-    #[error("the image cannot be read")]
     CannotRead,
     /// The file that is to be written is no plain file, another program has it, or to write it takes the
     /// image away. Nothing was done.
-    #[error("the image is not to be had")]
     Unavailable,
     /// The file of the image could not be written. It is as it was.
-    #[error("the image cannot be written")]
     CannotWrite,
     /// The file of the image is the new one, but was not brought to the disk.
-    #[error("the image was not brought to the disk")]
     Unsynced,
     /// The input failed.
-    #[error("input failed")]
     Input,
     /// The output failed.
-    #[error("output failed")]
     Output,
     /// Memory could not be had.
-    #[error("out of memory")]
     Memory,
     /// The file is no image.
-    #[error("no image: {0}")]
     Image(ImageFault),
     /// The file is no part, or a page of it cannot be read.
-    #[error("no part: {0}")]
     Part(PartFault),
     /// A format or a mount was refused.
-    #[error("no system: {0}")]
     System(Fault),
     /// Something of the host is not put into an image. It was told with its name.
-    #[error("not put: {0}")]
     Source(SourceFault),
     /// What is to be put is no folder, which the words want.
-    #[error("not a folder")]
     NoFolder,
     /// What was asked for was refused.
-    #[error("refused")]
     Refused(Refusal),
     /// More lines would be told than may be.
-    #[error("too many lines")]
     TooManyLines,
     /// The script stopped at a refused line.
-    #[error("stopped at a refused line")]
     Stopped(Stop),
     /// Two trees differ, which was told, and the status is to tell it.
-    #[error("the trees differ")]
     Differs,
 }
 
 impl Failure {
     ghost use Rattle.std.specs.Prelude.{◌≡◌};
     ghost use Rattle.image_jobs.specs.Failures.{failure_status, of_script, of_system, of_refusal, of_image, of_part};
+
+    /// What it means, in words.
+    fn text(self) -> &'static str {
+        match self {
+            Failure::CannotRead => "the image cannot be read",
+            Failure::Unavailable => "the image is not to be had",
+            Failure::CannotWrite => "the image cannot be written",
+            Failure::Unsynced => "the image was not brought to the disk",
+            Failure::Input => "input failed",
+            Failure::Output => "output failed",
+            Failure::Memory => "out of memory",
+            Failure::Image(_) => "no image",
+            Failure::Part(_) => "no part",
+            Failure::System(_) => "no system",
+            Failure::Source(_) => "not put",
+            Failure::NoFolder => "not a folder",
+            Failure::Refused(_) => "refused",
+            Failure::TooManyLines => "too many lines",
+            Failure::Stopped(_) => "stopped at a refused line",
+            Failure::Differs => "the trees differ",
+        }
+    }
 
     /// By why a script ended.
     pub fn of_script(fault: ScriptFault) -> Failure
@@ -223,3 +229,18 @@ fn explain_stop<E: Write>(stop: Stop, err: &mut E) -> io::Result<()> {
         Refusal::Unmounted => writeln!(err, "uffs: line {line}: unmounted"),
     }
 }
+
+impl fmt::Display for Failure {
+    fn fmt<W: fmt::Write>(&self, f: &mut fmt::Formatter<W>) -> fmt::Result {
+        f.write_str(self.text())?;
+        match self {
+            Failure::Image(fault) => write!(f, ": {fault}"),
+            Failure::Part(fault) => write!(f, ": {fault}"),
+            Failure::System(fault) => write!(f, ": {fault}"),
+            Failure::Source(fault) => write!(f, ": {fault}"),
+            _ => Ok(()),
+        }
+    }
+}
+
+impl Error for Failure {}

@@ -1,7 +1,7 @@
 //! What is done with the file of an image.
 ghost use Rattle.std.specs.Prelude.{◌≡◌, ℕ, IfOk, OnOk, IfErr, IfSome, take, codes};
 ghost use Rattle.std.specs.Io.KnownBytes.{Appends};
-ghost use Rattle.flash_model.specs.Simulation.{device_of};
+ghost use Rattle.flash_simulation.specs.Simulation.{device_of};
 ghost use Rattle.flash_image.specs.Images.{image_of};
 ghost use Rattle.host_files.specs.Files.{KeepsOthers, AreBytesRead, ReadsClaimed};
 ghost use Rattle.script_runs.specs.Flashes.{IsDecoded, IsMade};
@@ -11,7 +11,8 @@ ghost use Rattle.script_runs.specs.Scripts.{streams_at};
 use crate::failure::Failure;
 use crate::image_bytes::{claim, read_image, take_image, write_image};
 use flash_image::{decode, encode};
-use flash_model::{Geometry, SimFlash};
+use flash_model::Geometry;
+use flash_simulation::SimFlash;
 use host_files::ImageFiles;
 use script::write_out;
 use script_runs::{format_as_planned, mount_as_planned, run_script_until};

@@ -15,4 +15,3 @@ mod shared;
 
 pub use kinds::{KINDS, Kind};
 pub use numbers::Numbers;
-pub use shared::many_paths;

@@ -4,8 +4,8 @@ use Rattle.std.specs.Borrow.{Bor}
 use Rattle.fs_types.specs.Names.{Path}
 use Rattle.fs_types.specs.declared.call.Call.{Call}
 use Rattle.fs_types.specs.declared.call.View.{View}
-use Rattle.flash_model.specs.Simulation.{device_of}
-use Rattle.flash_model.specs.declared.sim_flash.SimFlash.{SimFlash}
+use Rattle.flash_simulation.specs.Simulation.{device_of}
+use Rattle.flash_simulation.specs.declared.sim_flash.SimFlash.{SimFlash}
 use Rattle.script.specs.Lines.{line_of}
 use Rattle.script.specs.declared.line.Line.{Line}
 use Rattle.inquiries.specs.Asked.{Tells, AskCause}

@@ -1,12 +1,12 @@
 //! What is asked of a flash in memory, with account of the faults that are planned for it.
 ghost use Rattle.std.specs.Prelude.{◌≡◌, IfOk, IfErr};
 ghost use Rattle.fs_types.specs.declared.call.View.{View};
-ghost use Rattle.flash_model.specs.Simulation.{device_of, plan_of};
+ghost use Rattle.flash_simulation.specs.Simulation.{device_of, plan_of};
 ghost use Rattle.inquiries.specs.Asked.{Tells, Lists, AskCause};
 ghost use Rattle.inquiries.specs.declared.inquiry.Inquiry.{Inquiry};
 ghost use Rattle.script_runs.specs.Plans.{GoesOn, FollowsPlan};
 
-use flash_model::SimFlash;
+use flash_simulation::SimFlash;
 use fs_types::{Bytes, Fault};
 use inquiries::{AskFault, Inquiry, Item, ask, list};
 use script_runs::{Following, Start};

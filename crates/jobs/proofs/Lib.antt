@@ -1,4 +1,3 @@
-mod Grammars
 mod Numbers
 mod Said
 mod Simple

@@ -5,7 +5,7 @@ use Rattle.std.specs.Str.{bytes_eq}
 use Rattle.std.specs.Str.Parse.{IsNumeral, without_leading_plus, digits_value}
 use Rattle.clap.specs.Words.{Row, Text, subcommand_of}
 use Rattle.clap.specs.Walk.{first_of, one_of}
-use Rattle.jobs.specs.Grammar.{uffs}
+use Rattle.command_words.specs.Grammar.{uffs}
 use Rattle.jobs.specs.declared.tasks.HistoryCall.{HistoryCall}
 use Rattle.jobs.specs.declared.tasks.Task.{Task}
 use Rattle.jobs.specs.declared.tasks.Job.{Job}
@@ -15,19 +15,28 @@ use Rattle.jobs.specs.declared.words.Numbers.{Numbers}
 abbrev pub given : List Text → Option (Text × List Row)
 given words = subcommand_of uffs words
 
-abbrev pub task_named : Text → Option Task
-task_named name = if bytes_eq name (codes "format") then Some Task.Format
-    else if bytes_eq name (codes "run") then Some Task.Run
-    else if bytes_eq name (codes "put") then Some Task.Put
-    else if bytes_eq name (codes "undo") then Some (Task.History HistoryCall.Undo)
-    else if bytes_eq name (codes "redo") then Some (Task.History HistoryCall.Redo)
-    else if bytes_eq name (codes "rollback") then Some (Task.History HistoryCall.Rollback)
-    else if bytes_eq name (codes "checkpoint") then Some (Task.History HistoryCall.Checkpoint)
-    else if bytes_eq name (codes "rmcheckpoint") then Some (Task.History HistoryCall.RemoveCheckpoint)
-    else if bytes_eq name (codes "forget") then Some (Task.History HistoryCall.Forget)
-    else if bytes_eq name (codes "trim") then Some Task.Trim
-    else if bytes_eq name (codes "get") then Some Task.Get
-    else if bytes_eq name (codes "cat") then Some Task.Cat
+-- a task that asks for no file
+abbrev pub task_named_without_files : Text → Option Task
+task_named_without_files name = if bytes_eq name (codes "memory") then Some Task.Memory
+    else if bytes_eq name (codes "explain") then Some Task.Explain
+    else if bytes_eq name (codes "help") then Some Task.Help
+    else if bytes_eq name (codes "version") then Some Task.Version
+    else None
+
+-- a task on another form of a flash, or on an archive
+abbrev pub other_form_task_named : Text → Option Task
+other_form_task_named name = if bytes_eq name (codes "serve") then Some Task.Serve
+    else if bytes_eq name (codes "to-part") then Some Task.ToPart
+    else if bytes_eq name (codes "from-part") then Some Task.FromPart
+    else if bytes_eq name (codes "raw") then Some Task.ToRaw
+    else if bytes_eq name (codes "from-raw") then Some Task.FromRaw
+    else if bytes_eq name (codes "tar") then Some Task.Tar
+    else if bytes_eq name (codes "untar") then Some Task.Untar
+    else task_named_without_files name
+
+-- a task that only reads an image
+abbrev pub reading_task_named : Text → Option Task
+reading_task_named name = if bytes_eq name (codes "cat") then Some Task.Cat
     else if bytes_eq name (codes "tree") then Some Task.Tree
     else if bytes_eq name (codes "diff") then Some Task.Diff
     else if bytes_eq name (codes "versions") then Some Task.Versions
@@ -35,21 +44,29 @@ task_named name = if bytes_eq name (codes "format") then Some Task.Format
     else if bytes_eq name (codes "log") then Some Task.Log
     else if bytes_eq name (codes "df") then Some Task.Df
     else if bytes_eq name (codes "map") then Some Task.Map
-    else if bytes_eq name (codes "memory") then Some Task.Memory
-    else if bytes_eq name (codes "serve") then Some Task.Serve
-    else if bytes_eq name (codes "to-part") then Some Task.ToPart
-    else if bytes_eq name (codes "from-part") then Some Task.FromPart
-    else if bytes_eq name (codes "raw") then Some Task.ToRaw
-    else if bytes_eq name (codes "from-raw") then Some Task.FromRaw
+    else other_form_task_named name
+
+-- a task that moves in the history, or keeps it short
+abbrev pub history_task_named : Text → Option Task
+history_task_named name = if bytes_eq name (codes "undo") then Some (Task.History HistoryCall.Undo)
+    else if bytes_eq name (codes "redo") then Some (Task.History HistoryCall.Redo)
+    else if bytes_eq name (codes "rollback") then Some (Task.History HistoryCall.Rollback)
+    else if bytes_eq name (codes "checkpoint") then Some (Task.History HistoryCall.Checkpoint)
+    else if bytes_eq name (codes "rmcheckpoint") then Some (Task.History HistoryCall.RemoveCheckpoint)
+    else if bytes_eq name (codes "forget") then Some (Task.History HistoryCall.Forget)
+    else reading_task_named name
+
+-- the task of a subcommand, by its name, else one of the others
+abbrev pub task_named : Text → Option Task
+task_named name = if bytes_eq name (codes "format") then Some Task.Format
+    else if bytes_eq name (codes "run") then Some Task.Run
+    else if bytes_eq name (codes "put") then Some Task.Put
+    else if bytes_eq name (codes "trim") then Some Task.Trim
+    else if bytes_eq name (codes "get") then Some Task.Get
     else if bytes_eq name (codes "update") then Some Task.Update
     else if bytes_eq name (codes "create") then Some Task.Create
     else if bytes_eq name (codes "copy") then Some Task.Copy
-    else if bytes_eq name (codes "tar") then Some Task.Tar
-    else if bytes_eq name (codes "untar") then Some Task.Untar
-    else if bytes_eq name (codes "explain") then Some Task.Explain
-    else if bytes_eq name (codes "help") then Some Task.Help
-    else if bytes_eq name (codes "version") then Some Task.Version
-    else None
+    else history_task_named name
 
 -- versions are forgotten by how many they are, or by how many blocks are to be free: one of the two is given
 abbrev pub forget_task : Bool → Bool → Option Task

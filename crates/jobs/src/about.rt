@@ -1,7 +1,7 @@
 //! What the program tells of itself.
 ghost use Rattle.std.specs.Prelude.{◌≡◌, IfOk, codes, string_bytes};
 
-use crate::grammar::{VERSION, program};
+use command_words::{VERSION, program};
 use std::alloc::{AllocError, Global};
 
 /// What can be asked for, as `uffs --help` tells it.

@@ -2,17 +2,18 @@
 ghost use Rattle.std.specs.Prelude.{◌≡◌, ℕ, [], codes, IfOk, OnOk, IfErr, IfSome, IfNone, Option, List, ◌⊎◌, map, option_map, is_some, string_bytes};
 ghost use Rattle.clap.specs.Words.{HasKind, app_of, fault_of, found_of, rows_of, subcommand_rows_of};
 ghost use Rattle.clap.specs.Walk.{one_of, first_of};
-ghost use Rattle.jobs.specs.Grammar.{uffs};
-ghost use Rattle.jobs.specs.Jobs.{AreNumbersOf, AsksFor, IsImageOf, IsNumberOf, SaysJob, count_word, flag_of, forget_task, format_task, has_no_image, has_word, map_task, serve_task, task_asked, task_named, task_with};
+ghost use Rattle.command_words.specs.Grammar.{uffs};
+ghost use Rattle.jobs.specs.Jobs.{AreNumbersOf, AsksFor, IsImageOf, IsNumberOf, SaysJob, count_word, flag_of, forget_task, format_task, has_no_image, has_word, map_task, serve_task, task_asked, task_named, history_task_named, reading_task_named, other_form_task_named, task_named_without_files, task_with};
 ghost use Rattle.jobs.specs.declared.tasks.Job.{Job};
 ghost use Rattle.jobs.specs.declared.words.Numbers.{Numbers};
 
-use crate::about_commands::REFUSAL;
-use crate::grammar::{ANSWERS, FILE, IMAGE, ORDERS, OTHER, PART, PATH, VIEW, program};
-use crate::history_commands::{COUNT, FREE, NAME};
 use crate::tasks::{HistoryCall, Job, Task};
 use clap::error::ErrorKind;
 use clap::{ArgMatches, Command, Error};
+use command_words::names::{
+    ANSWERS, COUNT, FILE, FREE, IMAGE, NAME, ORDERS, OTHER, PART, PATH, REFUSAL, VIEW,
+};
+use command_words::program;
 use std::alloc::Global;
 
 /// The numbers of a job.
@@ -200,6 +201,7 @@ fn map_task(is_file_given: bool) -> Task
     }
 }
 
+/// The task of a subcommand of this name.
 fn task_named(name: &str) -> Option<Task>
     ensures { result ≡ task_named name.now }
 {
@@ -207,14 +209,35 @@ fn task_named(name: &str) -> Option<Task>
         "format" => Some(Task::Format),
         "run" => Some(Task::Run),
         "put" => Some(Task::Put),
+        "trim" => Some(Task::Trim),
+        "get" => Some(Task::Get),
+        "update" => Some(Task::Update),
+        "create" => Some(Task::Create),
+        "copy" => Some(Task::Copy),
+        _ => history_task_named(name),
+    }
+}
+
+/// One that moves in the history or keeps it short, else one of those below.
+fn history_task_named(name: &str) -> Option<Task>
+    ensures { result ≡ history_task_named name.now }
+{
+    match name {
         "undo" => Some(Task::History(HistoryCall::Undo)),
         "redo" => Some(Task::History(HistoryCall::Redo)),
         "rollback" => Some(Task::History(HistoryCall::Rollback)),
         "checkpoint" => Some(Task::History(HistoryCall::Checkpoint)),
         "rmcheckpoint" => Some(Task::History(HistoryCall::RemoveCheckpoint)),
         "forget" => Some(Task::History(HistoryCall::Forget)),
-        "trim" => Some(Task::Trim),
-        "get" => Some(Task::Get),
+        _ => reading_task_named(name),
+    }
+}
+
+/// One that only reads an image, else one of those below.
+fn reading_task_named(name: &str) -> Option<Task>
+    ensures { result ≡ reading_task_named name.now }
+{
+    match name {
         "cat" => Some(Task::Cat),
         "tree" => Some(Task::Tree),
         "diff" => Some(Task::Diff),
@@ -223,17 +246,32 @@ fn task_named(name: &str) -> Option<Task>
         "log" => Some(Task::Log),
         "df" => Some(Task::Df),
         "map" => Some(Task::Map),
-        "memory" => Some(Task::Memory),
+        _ => other_form_task_named(name),
+    }
+}
+
+/// One on another form of a flash or on an archive, else one of those below.
+fn other_form_task_named(name: &str) -> Option<Task>
+    ensures { result ≡ other_form_task_named name.now }
+{
+    match name {
         "serve" => Some(Task::Serve),
         "to-part" => Some(Task::ToPart),
         "from-part" => Some(Task::FromPart),
         "raw" => Some(Task::ToRaw),
         "from-raw" => Some(Task::FromRaw),
-        "update" => Some(Task::Update),
-        "create" => Some(Task::Create),
-        "copy" => Some(Task::Copy),
         "tar" => Some(Task::Tar),
         "untar" => Some(Task::Untar),
+        _ => task_named_without_files(name),
+    }
+}
+
+/// One that asks for no file.
+fn task_named_without_files(name: &str) -> Option<Task>
+    ensures { result ≡ task_named_without_files name.now }
+{
+    match name {
+        "memory" => Some(Task::Memory),
         "explain" => Some(Task::Explain),
         "help" => Some(Task::Help),
         "version" => Some(Task::Version),

@@ -1,9 +1,10 @@
 //! The system under load, with the flash that it is mounted on.
-ghost use Rattle.flash_model.specs.Simulation.{device_of};
+ghost use Rattle.flash_simulation.specs.Simulation.{device_of};
 ghost use Rattle.system.specs.Props.{system-prop};
 ghost use Rattle.system.specs.Systems.{IsSystem};
 
-use flash_model::{FaultKind, Geometry, Planned, SimFlash};
+use flash_model::{FaultKind, Geometry, Planned};
+use flash_simulation::SimFlash;
 use fs_types::{Call, Fault, Reply};
 use std::alloc::Global;
 use undofs::{HistorySpace, System, format, mount};

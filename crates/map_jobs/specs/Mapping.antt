@@ -1,8 +1,8 @@
 -- How a job ends that tells the map of an image, or makes a page of it.
 use Rattle.std.specs.Prelude.{◌≡◌, ◌⊎◌, ℕ, false, Option, Result, Ok, Err, IfSome, List, take}
 use Rattle.std.specs.Io.KnownBytes.{Appends}
-use Rattle.flash_model.specs.Simulation.{device_of}
-use Rattle.flash_model.specs.declared.sim_flash.SimFlash.{SimFlash}
+use Rattle.flash_simulation.specs.Simulation.{device_of}
+use Rattle.flash_simulation.specs.declared.sim_flash.SimFlash.{SimFlash}
 use Rattle.block_maps.specs.Maps.{IsMap, MapCause}
 use Rattle.block_maps.specs.HtmlPages.{map_page}
 use Rattle.block_maps.specs.Printed.{map_text}

@@ -3,9 +3,8 @@ use Rattle.std.proofs.Common.{◌≡◌, ◌≢◌, ℕ, ◌+◌, true, List, Re
 use Rattle.flash_model.specs.declared.flash.DevFault.{DevFault}
 use Rattle.flash_model.specs.declared.flash.DevFault.TheVariants.{Failed, PowerCut}
 use Rattle.flash_model.specs.declared.flash.PageState.{PageState}
-use Rattle.flash_model.specs.Device.{Device, Page, ReportsPage, Reads, Operates, failed, cut, AfterProgram, AfterErase, Programs, Erases, Wears, block_of}
-use Rattle.flash_model.specs.Simulation.{LeavesBeside}
-use Rattle.flash_model.proofs.Ending.{Begins, operates_on}
+use Rattle.flash_model.specs.Device.{Device, Page, ReportsPage, Reads, Operates, failed, cut, AfterProgram, AfterErase, Programs, Erases, Wears, block_of, LeavesBeside}
+use Rattle.flash_simulation.proofs.Ending.{Begins, operates_on}
 use Rattle.mirrored_flash.specs.Shown.{page_after, erased_after}
 
 -- what is shown is what an operation may leave

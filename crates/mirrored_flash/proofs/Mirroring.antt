@@ -1,8 +1,8 @@
 -- A mirror of which the pages alone have changed.
 use Rattle.std.proofs.Common.{◌≡◌, ap}
-use Rattle.flash_model.specs.declared.sim_flash.SimFlash.{SimFlash}
+use Rattle.flash_simulation.specs.declared.sim_flash.SimFlash.{SimFlash}
 use Rattle.flash_model.specs.Device.{Device}
-use Rattle.flash_model.specs.Simulation.{device_of}
+use Rattle.flash_simulation.specs.Simulation.{device_of}
 use Rattle.mirrored_flash.specs.declared.mirror.Mirror.{Mirror}
 use Rattle.mirrored_flash.specs.Mirrors.{mirror_device}
 

@@ -1,8 +1,8 @@
 -- A mirror in memory of a part: the device that it is.
 use Rattle.std.specs.Prelude.{◌≡◌, ℕ, List, length}
 use Rattle.flash_model.specs.Device.{Device, bytes_of}
-use Rattle.flash_model.specs.Simulation.{device_of}
-use Rattle.flash_model.specs.WholePages.{whole_pages_of}
+use Rattle.flash_simulation.specs.Simulation.{device_of}
+use Rattle.flash_simulation.specs.WholePages.{whole_pages_of}
 use Rattle.mirrored_flash.specs.declared.mirror.Mirror.{Mirror}
 
 -- the device: its pages and worn blocks are those that are shown

@@ -2,11 +2,12 @@
 ghost use Rattle.std.specs.Prelude.{◌≡◌, ◌<◌, length, Ok};
 ghost use Rattle.flash_model.specs.Geometry.{page_count};
 ghost use Rattle.flash_model.specs.Device.{ReportsPage};
-ghost use Rattle.flash_model.specs.Simulation.{device_of};
+ghost use Rattle.flash_simulation.specs.Simulation.{device_of};
 
 use crate::shown_pages::{show_block, show_page};
 use counts::Count;
-use flash_model::{DevFault, Flash, Geometry, PageState, PageView, SimFlash};
+use flash_model::{DevFault, Flash, Geometry, PageState, PageView};
+use flash_simulation::SimFlash;
 
 /// A mirror in memory of a part, with its power and what happened to it so far.
 ///
@@ -25,8 +26,8 @@ pub struct Mirror {
 impl Mirror {
     ghost use Rattle.std.specs.Prelude.{◌≡◌, ◌<◌, ◌+◌, ℕ, length, true};
     ghost use Rattle.flash_model.specs.Geometry.{page_count};
-    ghost use Rattle.flash_model.specs.Device.{block_of, erased, Reads, Programs, Erases};
-    ghost use Rattle.flash_model.specs.Simulation.{LeavesBeside, device_of};
+    ghost use Rattle.flash_model.specs.Device.{block_of, erased, Reads, Programs, Erases, LeavesBeside};
+    ghost use Rattle.flash_simulation.specs.Simulation.{device_of};
     ghost use Rattle.mirrored_flash.specs.Shown.{page_after, erased_after};
     ghost use Rattle.mirrored_flash.specs.Mirrors.{mirror_device};
 

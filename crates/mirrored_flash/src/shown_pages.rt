@@ -2,12 +2,12 @@
 ghost use Rattle.std.specs.Prelude.{◌≡◌, ◌≢◌, ℕ, ◌<◌, length};
 ghost use Rattle.flash_model.specs.Geometry.{page_count};
 ghost use Rattle.flash_model.specs.Device.{block_of};
-ghost use Rattle.flash_model.specs.Contents.{IsWhole};
-ghost use Rattle.flash_model.specs.Stored.{shown_page};
-ghost use Rattle.flash_model.specs.Simulation.{device_of};
+ghost use Rattle.flash_model.specs.Contents.{IsWhole, shown_page};
+ghost use Rattle.flash_simulation.specs.Simulation.{device_of};
 ghost use Rattle.mirrored_flash.specs.Shown.{page_after, erased_after};
 
-use flash_model::{DevFault, Flash, PageView, SimFlash};
+use flash_model::{DevFault, Flash, PageView};
+use flash_simulation::SimFlash;
 
 /// Shows a page as a program of it left it.
 pub(crate) fn show_page(shown: &mut SimFlash, page: u32, bytes: &[u8], done: Result<(), DevFault>)

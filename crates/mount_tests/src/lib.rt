@@ -1,21 +1,34 @@
-//! Tests of mounted systems: what mounts make of worked contents of a flash, refusals, reclaiming.
+//! Tests of mounted systems: what mounts and verifications make of worked contents of a flash, refusals,
+//! reads, and mounts, calls and steps of reclaiming with less memory than they want.
 #![tactic(auto)]
 
 #[cfg(test)]
-mod chains;
+mod budget;
 #[cfg(test)]
-mod contents;
+mod counted;
 #[cfg(test)]
-mod forgetting;
+mod files_in_want;
+#[cfg(test)]
+mod flashes;
+#[cfg(test)]
+mod formats;
+#[cfg(test)]
+mod growths;
+#[cfg(test)]
+mod large_blocks;
 #[cfg(test)]
 mod many_files;
 #[cfg(test)]
-mod mounts;
+mod mounts_in_want;
 #[cfg(test)]
-mod older_format;
-#[cfg(test)]
-mod reclaiming;
+mod reads;
 #[cfg(test)]
 mod records;
 #[cfg(test)]
 mod refusals;
+#[cfg(test)]
+mod verifications;
+#[cfg(test)]
+mod verified_chains;
+#[cfg(test)]
+mod worked;

@@ -1,6 +1,7 @@
 //! Files of one directory in one call of `write_files`.
-use crate::mounts::formatted;
-use flash_model::{Geometry, SimFlash};
+use crate::flashes::formatted;
+use flash_model::Geometry;
+use flash_simulation::SimFlash;
 use fs_types::{Bytes, Fault, Name, NamedFile, Path, Sequence, Stat, View};
 use std::alloc::Global;
 use std::test::Fail;
@@ -35,22 +36,6 @@ fn refused(alloc: Global, first: usize, second: usize) -> Result<(Option<Fault>,
     Ok((answer.err(), fs.stat(&View::Present, &directory)?))
 }
 
-#[test]
-fn too_many_bytes_write_no_file(rt: HostRuntime) -> Result<(), Fail> {
-    let (fault, left) = refused(rt.alloc(), 1, 16_777_217)?;
-    assert_eq!(rt; fault, Some(Fault::TooBig));
-    assert_eq!(rt; left, Stat::Dir(0));
-    Ok(())
-}
-
-#[test]
-fn full_flash_writes_no_file(rt: HostRuntime) -> Result<(), Fail> {
-    let (fault, left) = refused(rt.alloc(), 1, 1_000_000)?;
-    assert_eq!(rt; fault, Some(Fault::FlashFull));
-    assert_eq!(rt; left, Stat::Dir(0));
-    Ok(())
-}
-
 /// The bytes of two files of many nodes that were written in the root in one call, read after a mount.
 fn read_after_mount(alloc: Global) -> Result<(Bytes, Bytes), Fault> {
     let mut flash = formatted(alloc, SIZES, 8)?;
@@ -81,8 +66,15 @@ fn read_after_mount(alloc: Global) -> Result<(Bytes, Bytes), Fault> {
     Ok((first, second))
 }
 
+/// The bytes of the second file, and what the call is refused with.
+const REFUSED: [(usize, Fault); 2] = [(16_777_217, Fault::TooBig), (1_000_000, Fault::FlashFull)];
+
 #[test]
-fn files_of_many_nodes_are_read_after_a_mount(rt: HostRuntime) -> Result<(), Fail> {
+fn all_files_are_written_or_none(rt: HostRuntime) -> Result<(), Fail> {
+    for (second, fault) in REFUSED {
+        let answer = refused(rt.alloc(), 1, second)?;
+        assert_eq!(rt; answer, (Some(fault), Stat::Dir(0)), "{second}");
+    }
     let (first, second) = read_after_mount(rt.alloc())?;
     assert_eq!(rt; first.as_slice().len(), 20_000);
     assert!(rt; first.as_slice().iter().all(|byte| *byte == 1));

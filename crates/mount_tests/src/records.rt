@@ -1,6 +1,7 @@
 //! Records on the anchors, byte for byte.
 use commit_pair::Anchors;
-use flash_model::{Flash, Geometry, PageView, SimFlash};
+use flash_model::{Flash, Geometry, PageView};
+use flash_simulation::SimFlash;
 use fs_types::Fault;
 use record_format::{PageHead, Record, format_laws, read_payload, write_page, write_payload};
 use std::alloc::Global;
@@ -54,6 +55,7 @@ fn page_of(alloc: Global, record: &Record) -> Result<Vec<u8>, Fault> {
     Ok(page)
 }
 
+/// The record of a formatted flash, by its fields.
 #[test]
 fn the_record_of_a_formatted_flash_is_read(rt: HostRuntime) -> Result<(), Fail> {
     let record = newest_of(rt.alloc(), &FRESH)?.ok_or("a record")?;
@@ -78,69 +80,65 @@ fn the_record_of_a_formatted_flash_is_read(rt: HostRuntime) -> Result<(), Fail> 
     Ok(())
 }
 
-#[test]
-fn the_record_of_a_formatted_flash_is_written(rt: HostRuntime) -> Result<(), Fail> {
-    let record = newest_of(rt.alloc(), &FRESH)?.ok_or("a record")?;
-    let page = page_of(rt.alloc(), &record)?;
-    let mut wanted = FRESH.to_vec(rt.alloc())?;
-    wanted.resize(256, 0)?;
-    assert_eq!(rt; page.as_slice(), wanted.as_slice());
-    Ok(())
+/// The record of a formatted flash, with another byte at a place.
+fn changed(place: usize, byte: u8) -> [u8; 72] {
+    let mut page = FRESH;
+    if let Some(changed) = page.get_mut(place) {
+        *changed = byte;
+    }
+    page
 }
 
-#[test]
-fn the_older_format_is_read_and_written_as_the_newer(rt: HostRuntime) -> Result<(), Fail> {
-    let mut old = FRESH;
-    old[20] = 1;
-    let record = newest_of(rt.alloc(), &old)?.ok_or("a record")?;
-    assert_eq!(rt; record.format, 1);
-    let page = page_of(rt.alloc(), &record)?;
-    assert_eq!(rt; page.starts_with(&FRESH), true);
-    Ok(())
+/// The format of the record that begins so, and whether it is written as that of a formatted flash, to the
+/// end of its page.
+fn written(alloc: Global, begin: &[u8]) -> Result<Option<(u32, bool)>, Fault> {
+    let Some(record) = newest_of(alloc, begin)? else {
+        return Ok(None);
+    };
+    let page = page_of(alloc, &record)?;
+    let is_written = match page.strip_prefix(&FRESH) {
+        Some(rest) => page.len() == 256 && rest.iter().all(|byte| *byte == 0),
+        None => false,
+    };
+    Ok(Some((record.format, is_written)))
 }
 
-/// Whether the newest record of a flash whose page 0 begins with these bytes is found.
-fn is_found(alloc: Global, begin: &[u8]) -> Result<bool, Fault> {
-    Ok(newest_of(alloc, begin)?.is_some())
-}
-
-/// What comes of the record of a formatted flash with another byte at a place: the older format,
-/// another one, other sizes, no version kept but one, a cursor past the versions, and a byte that is
-/// not looked at.
-const CHANGED: [(usize, u8, Result<bool, Fault>); 6] = [
-    (20, 1, Ok(true)),
+/// Another byte at a place of the record of a formatted flash: none, the older format, another one, other
+/// sizes, no version kept but one, a cursor past the versions, and a byte that is not looked at. Its format,
+/// and whether it is written as the record of a formatted flash; else what it is refused for.
+const CHANGED: [(usize, u8, Result<Option<(u32, bool)>, Fault>); 7] = [
+    (20, 2, Ok(Some((2, true)))),
+    (20, 1, Ok(Some((1, true)))),
     (20, 3, Err(Fault::Damaged)),
     (25, 2, Err(Fault::BadGeometry)),
     (36, 1, Err(Fault::Damaged)),
     (38, 1, Err(Fault::Damaged)),
-    (43, 9, Ok(true)),
+    (43, 9, Ok(Some((2, true)))),
 ];
 
-#[test]
-fn other_payloads_are_refused(rt: HostRuntime) -> Result<(), Fail> {
-    for (place, byte, wanted) in CHANGED {
-        let mut page = FRESH;
-        if let Some(changed) = page.get_mut(place) {
-            *changed = byte;
-        }
-        assert_eq!(rt; is_found(rt.alloc(), &page), wanted, "{place}");
-    }
-    assert_eq!(rt; is_found(rt.alloc(), &[]), Ok(false));
-    let short = read_payload(rt.alloc(), SIZES, 1, &FRESH[20..35]).err();
-    assert_eq!(rt; short, Some(Fault::Damaged));
-    Ok(())
-}
-
-/// A payload of 3,177 bytes, on a flash of its sizes and on another.
-#[test]
-fn sizes_come_before_the_length_of_a_payload(rt: HostRuntime) -> Result<(), Fail> {
-    let mut long = FRESH[20..].to_vec(rt.alloc())?;
-    long.resize(3177, 0)?;
+/// What a payload is refused for, on a flash of its sizes and on one of twice as many blocks.
+fn refusals_of(alloc: Global, payload: &[u8]) -> [Option<Fault>; 2] {
     let other = Geometry {
         blocks: 64,
         ..SIZES
     };
-    let refusals = [SIZES, other].map(|sizes| read_payload(rt.alloc(), sizes, 1, &long).err());
-    assert_eq!(rt; refusals, [Some(Fault::Damaged), Some(Fault::BadGeometry)]);
+    [SIZES, other].map(|sizes| read_payload(alloc, sizes, 1, payload).err())
+}
+
+/// The older format is written as the newer one. A payload of 15 bytes is too short to tell the sizes; of
+/// one of 3,177 bytes, which is too long, the sizes come before the length.
+#[test]
+fn other_records_are_read_or_refused(rt: HostRuntime) -> Result<(), Fail> {
+    for (place, byte, wanted) in CHANGED {
+        let answer = written(rt.alloc(), &changed(place, byte));
+        assert_eq!(rt; answer, wanted, "{place} {byte}");
+    }
+    assert_eq!(rt; written(rt.alloc(), &[]), Ok(None));
+    let [short, _] = refusals_of(rt.alloc(), &FRESH[20..35]);
+    assert_eq!(rt; short, Some(Fault::Damaged));
+    let mut long = FRESH[20..].to_vec(rt.alloc())?;
+    long.resize(3177, 0)?;
+    let wanted = [Some(Fault::Damaged), Some(Fault::BadGeometry)];
+    assert_eq!(rt; refusals_of(rt.alloc(), &long), wanted);
     Ok(())
 }

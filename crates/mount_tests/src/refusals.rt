@@ -1,18 +1,12 @@
 //! Mounts that are refused leave the flash as it was.
-use crate::contents::record_with;
-use crate::mounts::formatted;
+use crate::flashes::{SIZES, Worked, formatted};
 use flash_image::encode;
-use flash_model::{FaultKind, Flash, Geometry, Planned, SimFlash};
+use flash_model::{FaultKind, Flash, Planned};
+use flash_simulation::SimFlash;
 use fs_types::Fault;
 use std::alloc::Global;
 use std::test::Fail;
-use undofs::Fs;
-
-const SIZES: Geometry = Geometry {
-    page: 256,
-    pages: 16,
-    blocks: 32,
-};
+use undofs::{Fs, mount_with};
 
 /// A flash of which no mount is answered.
 #[derive(Clone, Copy, Debug)]
@@ -45,9 +39,9 @@ impl Unmountable {
     fn flash(self, alloc: Global) -> Result<SimFlash, Fault> {
         match self {
             Unmountable::Blank => SimFlash::new(alloc, SIZES, &[]),
-            Unmountable::TwoNewest => record_with(alloc, 1, &[]),
-            Unmountable::Damaged => record_with(alloc, 0, &[(36, 129)]),
-            Unmountable::OtherSizes => record_with(alloc, 0, &[(25, 2)]),
+            Unmountable::TwoNewest => Worked::Record(1, &[]).flash(alloc),
+            Unmountable::Damaged => Worked::Record(0, &[(36, 129)]).flash(alloc),
+            Unmountable::OtherSizes => Worked::Record(0, &[(25, 2)]).flash(alloc),
             Unmountable::FailedRead => formatted_with(alloc, FaultKind::ReadFail),
             Unmountable::CutRead => formatted_with(alloc, FaultKind::ReadCut),
         }
@@ -68,6 +62,8 @@ enum Mounting {
     MountWith(usize),
     MountOrRelease,
     MountWithOrRelease(usize),
+    /// A system without its flash.
+    System(usize),
 }
 
 const MOUNTINGS: [Mounting; 4] = [
@@ -91,6 +87,7 @@ impl Mounting {
                 let refused = Fs::mount_with_or_release(alloc, flash, nodes).err()?;
                 Some(refused.fault)
             }
+            Mounting::System(nodes) => mount_with(alloc, flash, nodes).err(),
         }
     }
 }
@@ -103,39 +100,61 @@ fn held(alloc: Global, flash: &SimFlash) -> Result<(Vec<u8>, u64, u64), Fault> {
     Ok((image, counts.programs, counts.erases))
 }
 
+/// Whether a mount of it is refused so, and leaves what the flash holds.
+fn is_refused(
+    alloc: Global,
+    unmountable: Unmountable,
+    mounting: Mounting,
+    fault: Fault,
+) -> Result<bool, Fault> {
+    let mut flash = unmountable.flash(alloc)?;
+    let before = held(alloc, &flash)?;
+    let refusal = mounting.refusal(alloc, &mut flash);
+    Ok(refusal == Some(fault) && held(alloc, &flash)? == before)
+}
+
 #[test]
 fn a_refused_mount_leaves_the_flash(rt: HostRuntime) -> Result<(), Fail> {
     for (unmountable, fault) in REFUSALS {
         for mounting in MOUNTINGS {
-            let mut flash = unmountable.flash(rt.alloc())?;
-            let before = held(rt.alloc(), &flash)?;
-            let refusal = mounting.refusal(rt.alloc(), &mut flash);
-            assert_eq!(rt; refusal, Some(fault), "{mounting:?} {unmountable:?}");
-            assert!(rt;
-                held(rt.alloc(), &flash)? == before,
-                "{mounting:?} {unmountable:?}"
-            );
+            let is_left = is_refused(rt.alloc(), unmountable, mounting, fault)?;
+            assert!(rt; is_left, "{mounting:?} {unmountable:?}");
         }
     }
     Ok(())
 }
 
+/// What a mount with another number of nodes is refused for, and whether it left what the flash holds and
+/// asked for no read.
+fn unread(
+    alloc: Global,
+    flash: &mut SimFlash,
+    mounting: Mounting,
+) -> Result<(Option<Fault>, bool), Fault> {
+    let before = (held(alloc, flash)?, flash.counts().reads);
+    let refusal = mounting.refusal(alloc, flash);
+    let is_same = (held(alloc, flash)?, flash.counts().reads) == before;
+    Ok((refusal, is_same))
+}
+
 /// A number of nodes that is not 1 to 64 is refused before any read.
 #[test]
-fn a_mount_with_another_number_of_nodes_asks_nothing(rt: HostRuntime) -> Result<(), Fail> {
+fn nodes_in_memory_are_1_to_64(rt: HostRuntime) -> Result<(), Fail> {
     let mut flash = formatted(rt.alloc(), SIZES, 8)?;
-    let before = (held(rt.alloc(), &flash)?, flash.counts().reads);
-    for nodes in [0, 65] {
+    for nodes in [0, 1, 64, 65, usize::MAX] {
+        let is_lawful = nodes == 1 || nodes == 64;
+        let wanted = if is_lawful {
+            (None, false)
+        } else {
+            (Some(Fault::Invalid), true)
+        };
         for mounting in [
             Mounting::MountWith(nodes),
             Mounting::MountWithOrRelease(nodes),
+            Mounting::System(nodes),
         ] {
-            let refusal = mounting.refusal(rt.alloc(), &mut flash);
-            assert_eq!(rt; refusal, Some(Fault::Invalid), "{mounting:?}");
-            assert!(rt;
-                (held(rt.alloc(), &flash)?, flash.counts().reads) == before,
-                "{mounting:?}"
-            );
+            let answer = unread(rt.alloc(), &mut flash, mounting)?;
+            assert_eq!(rt; answer, wanted, "{mounting:?}");
         }
     }
     Ok(())

@@ -5,7 +5,7 @@ use Rattle.fs_types.specs.declared.limits.TheConstants.{MAX_BAD_BLOCKS}
 use Rattle.fs_types.specs.declared.fault.Fault.{Fault}
 use Rattle.fs_types.specs.declared.fault.Fault.TheVariants.{FlashFull, ReadOnly, PowerCut, NoMemory}
 use Rattle.flash_model.specs.declared.geometry.Geometry.{Geometry}
-use Rattle.node_store.specs.NodePages.{pages_for}
+use Rattle.nodes.specs.PageCounts.{pages_for}
 use Rattle.node_store.specs.Storage.{Storage, Evolved, IsAdded, Adds, Tries, Pays, Spends}
 use Rattle.node_store.specs.StorageLaws.{Evolved_fresh}
 

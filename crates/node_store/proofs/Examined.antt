@@ -15,13 +15,16 @@ use Rattle.flash_model.specs.Reading.{OnlyReads, OnlyReads_itself}
 use Rattle.node_format.specs.Headers.{field, body_magic, body_header, body_size, directory_magic, chain_magic, directory_size, node_size, IsNode}
 use Rattle.node_format.proofs.HeaderLaws.{field-take}
 use Rattle.node_store.specs.Caching.{BringsOrWants}
-use Rattle.node_store.specs.Examining.{HasBodyHeader, most_pages}
+use Rattle.nodes.specs.PageCounts.{most_pages, pages_for}
+use Rattle.nodes.specs.Parts.{HasBodyHeader, IsFront}
 use Rattle.node_store.specs.ExaminingLaws.{block_pages}
-use Rattle.node_store.specs.Faults.{IsReadFault}
-use Rattle.node_store.specs.Fronts.{IsFront, first_page}
-use Rattle.node_store.specs.FrontLaws.{page_front, page_least, page_below, page_begins, front_size}
-use Rattle.node_store.specs.NodeLaws.{AreWhole, lawful_has_room, size_within, pages_for-some, pages_for-most, if_some, node_of-whole, first_joined}
-use Rattle.node_store.specs.NodePages.{and_page, joined, pages_for, bytes_at, node_of}
+use Rattle.nodes.specs.Faults.{IsReadFault}
+use Rattle.node_store.specs.Fronts.{first_page}
+use Rattle.node_store.specs.FrontLaws.{page_front, page_least, page_below, page_begins}
+use Rattle.nodes.specs.FrontLaws.{front_size}
+use Rattle.node_store.specs.NodeLaws.{AreWhole, lawful_has_room, pages_for-some, pages_for-most, node_of-whole, first_joined}
+use Rattle.nodes.specs.SizeLaws.{size_within, if_some}
+use Rattle.node_store.specs.NodePages.{and_page, joined, bytes_at, node_of}
 use Rattle.node_store.specs.ReadingLaws.{OnlyReads_nodes, node_after_first, some_rest}
 use Rattle.node_store.specs.Fitting.{StillFits}
 use Rattle.node_store.specs.Storage.{IsUntouched}
@@ -29,7 +32,7 @@ use Rattle.node_store.specs.StorageLaws.{Untouched_evolved}
 use Rattle.node_store.specs.StoreLaws.{one_more}
 use Rattle.node_store.specs.Stores.{parts, Follows, Causes}
 use Rattle.node_store.specs.declared.store.Store.{Store}
-use Rattle.node_store.proofs.PartFaults.{fewer_pages}
+use Rattle.nodes.proofs.PageCountLaws.{fewer_pages}
 
 -- reads leave the first page of a block
 pub first_stays : (old new : Device) (b : ℕ) → OnlyReads old new → first_page new b ≡ first_page old b

@@ -3,30 +3,22 @@ use Rattle.std.proofs.Common.{◌≡◌, ◌≢◌, ℕ, ◌+◌, ◌*◌, ◌<�
 use Rattle.std.specs.Prelude.{min, OnOk, IfErr, IsErrOf}
 use Rattle.std.proofs.lemmas.Bool.{cases_lt}
 use Rattle.std.proofs.lemmas.List.{length-take}
-use Rattle.std.proofs.lemmas.Grind.{div_ceil_times}
-use Rattle.std.proofs.Math.Nat.{lt_of_mul-lt-mul_right}
 use Rattle.fs_types.specs.declared.fault.Fault.{Fault}
 use Rattle.fs_types.specs.declared.fault.Fault.TheVariants.{ReadFailed, PowerCut, NoMemory, Damaged}
 use Rattle.flash_model.specs.Geometry.{IsGeometry}
 use Rattle.flash_model.specs.Device.{Device}
-use Rattle.node_store.specs.Faults.{IsReadFault}
+use Rattle.nodes.proofs.PageCountLaws.{fewer_pages}
+use Rattle.nodes.specs.Faults.{IsReadFault}
 use Rattle.node_store.specs.NodeLaws.{has_node, lawful_has_room}
-use Rattle.node_store.specs.NodePages.{joined, pages_for, node_of}
-use Rattle.node_store.specs.Parts.{HasPart, LacksPart, RefusesPart}
+use Rattle.node_store.specs.NodePages.{joined, node_of}
+use Rattle.nodes.specs.PageCounts.{pages_for}
+use Rattle.node_store.specs.Parts.{RefusesPart}
+use Rattle.nodes.specs.Parts.{HasPart, LacksPart}
 use Rattle.node_store.specs.Reading.{Brings}
 use Rattle.node_store.specs.ReadingLaws.{joined_none_to}
 use Rattle.node_store.specs.Stores.{Causes}
 use Rattle.node_store.specs.declared.store.Store.{Store}
 use Rattle.node_store.proofs.PartBytes.{part_of_first}
-
--- fewer bytes need no more pages
-pub fewer_pages : (page less more : ℕ) → 0 < page → less ≤ more → pages_for page less ≤ pages_for page more
-fewer_pages page less more some h =
-    let low = div_ceil_times less page some in
-    let high = div_ceil_times more page some in
-    let below : pages_for page less * page < (pages_for page more + 1) * page = omega (arith, low.1, high.0) in
-    let fewer : pages_for page less < pages_for page more + 1 = lt_of_mul-lt-mul_right page below in
-    omega arith
 
 -- the bytes of a part of the joined pages are those of the node
 has_part : (d : Device) (b offset count : ℕ) (out : List ℕ)

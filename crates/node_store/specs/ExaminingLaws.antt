@@ -6,7 +6,7 @@ use Rattle.std.proofs.Math.Nat.{lt_of_mul-lt-mul_right}
 use Rattle.flash_model.specs.declared.geometry.Geometry.{Geometry}
 use Rattle.flash_model.specs.Geometry.{IsGeometry, block_bytes}
 use Rattle.flash_model.specs.Device.{Device}
-use Rattle.node_store.specs.NodePages.{pages_for}
+use Rattle.nodes.specs.PageCounts.{pages_for}
 use Rattle.node_store.specs.NodeLaws.{lawful_has_room, pages_for-most}
 use Rattle.node_store.specs.Stores.{IsSoundStore, Follows}
 use Rattle.node_store.specs.declared.store.Store.{Store}

@@ -1,6 +1,6 @@
 -- What the front of a block tells of its node.
-use Rattle.std.specs.Prelude.{◌≡◌, ℕ, ◌+◌, ◌*◌, ◌<◌, ◌≤◌, ◌&&◌, nat_le, nat_lt, List, [], ◌++◌, option_and_then, length, take, slice_index, Option, Some, None, Result, Ok, Err, OnOk, IsErrOf, is_some, true, refl}
-use Rattle.std.proofs.Common.{sym, ◌∙◌, ap, subst, inl, inr, arith, add-zero, get_or-take}
+use Rattle.std.specs.Prelude.{◌≡◌, ℕ, ◌+◌, ◌*◌, ◌<◌, ◌≤◌, ◌&&◌, nat_le, nat_lt, List, [], ◌++◌, option_and_then, length, take, Option, Some, None, Result, Ok, Err, OnOk, IsErrOf, is_some, true, refl}
+use Rattle.std.proofs.Common.{sym, ◌∙◌, ap, subst, inl, inr, arith, add-zero}
 use Rattle.std.proofs.lemmas.Bool.{cases_lt, true≢false, and_from, and_parts, leb-true, ltb-true, le-leb, lt-ltb, cond-true}
 use Rattle.std.proofs.lemmas.List.{length-take-le, take-take, take_all, take-append-le}
 use Rattle.std.proofs.lemmas.Grind.{div_ceil_times}
@@ -14,34 +14,15 @@ use Rattle.flash_model.specs.Reading.{OnlyReads, OnlyReads_itself}
 use Rattle.node_cache.specs.Cache.{NodeCache, node_in, with_first, first_bytes, IsBounded}
 use Rattle.node_cache.specs.CacheLaws.{first_shown}
 use Rattle.node_format.specs.Headers.{node_size}
-use Rattle.node_store.specs.NodePages.{and_page, joined, pages_for, bytes_at, node_of}
-use Rattle.node_store.specs.NodeLaws.{AreWhole, has_node, lawful_has_room, joined-front, joined-length, pages_for-some, size_in-within, size_in-tells, node_size-take, first_joined, node_of-first, if_some}
+use Rattle.node_store.specs.NodePages.{and_page, joined, bytes_at, node_of}
+use Rattle.nodes.specs.PageCounts.{pages_for}
+use Rattle.node_store.specs.NodeLaws.{AreWhole, has_node, lawful_has_room, joined-front, joined-length, pages_for-some, size_in-within, size_in-tells, first_joined, node_of-first}
+use Rattle.nodes.specs.FrontLaws.{front_itself}
+use Rattle.nodes.specs.SizeLaws.{if_some}
 use Rattle.node_store.specs.Reading.{Brings}
 use Rattle.node_store.specs.Caching.{IsTruthful}
-use Rattle.node_store.specs.Fronts.{IsFront, first_page, Fronts}
-
-module _ (page : ℕ) (front bytes : List ℕ) (is : IsFront page front bytes) where
-  -- within the first page the front has the bytes of the node
-  pub front_at : (i : ℕ) → i < page → i < length bytes → slice_index front i ≡ slice_index bytes i
-  front_at i within below =
-      let enough = is.enough in
-      sym (get_or-take (length bytes) front i 0 below) ∙ ap (λ (l : List ℕ). slice_index l i) is.alike
-      ∙ get_or-take (length front) bytes i 0 (omega arith)
-
-  -- it tells the size of the node
-  pub front_size : (block : ℕ) → 12 ≤ page → 12 ≤ length bytes → node_size block front ≡ node_size block bytes
-  front_size block room header =
-      let enough = is.enough in
-      sym (node_size-take block (length bytes) front header) ∙ ap (node_size block) is.alike
-      ∙ node_size-take block (length front) bytes (omega arith)
-
-  -- a front that is as long as the node has it whole
-  pub front_whole : length bytes ≤ length front → take (length bytes) front ≡ bytes
-  front_whole covers = is.alike ∙ take_all (length front) bytes covers
-
--- a node is its own front
-pub front_itself : (page : ℕ) (bytes : List ℕ) → IsFront page bytes bytes
-front_itself page bytes = record { alike = refl; enough = omega arith }
+use Rattle.node_store.specs.Fronts.{first_page, Fronts}
+use Rattle.nodes.specs.Parts.{IsFront}
 
 -- the beginning of a longer list, which is cut at a size
 cut_front : (size : ℕ) (front rest : List ℕ) → size ≤ length (front ++ rest) → IsFront (length front) front (take size (front ++ rest))

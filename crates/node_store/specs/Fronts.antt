@@ -1,5 +1,5 @@
 -- The beginning of the node in a block, and what bringing it leaves.
-use Rattle.std.specs.Prelude.{◌≡◌, ℕ, ◌*◌, ◌≤◌, ◌&&◌, nat_le, nat_lt, if◌then◌else◌, min, Bool, true, false, List, length, take, Option, Some, None, Result, Ok}
+use Rattle.std.specs.Prelude.{◌≡◌, ℕ, ◌*◌, ◌&&◌, nat_le, nat_lt, if◌then◌else◌, Bool, true, false, List, Option, Some, None, Result, Ok}
 use Rattle.fs_types.specs.declared.fault.Fault.{Fault}
 use Rattle.fs_types.specs.declared.limits.TheConstants.{ANCHORS}
 use Rattle.flash_model.specs.Device.{Device}
@@ -7,11 +7,6 @@ use Rattle.node_cache.specs.Cache.{NodeCache, node_in, with_first, first_bytes}
 use Rattle.node_store.specs.NodePages.{joined}
 use Rattle.node_store.specs.Reading.{Brings}
 use Rattle.node_store.specs.declared.storage.Storage.{Storage}
-
--- one of two lists is the beginning of the other, and the front has a page of the bytes, or all of them
-pub record IsFront (page : ℕ) (front bytes : List ℕ) : Type 0 where
-  pub alike : take (length bytes) front ≡ take (length front) bytes
-  pub enough : min page (length bytes) ≤ length front
 
 -- the bytes of the first page of a data block, none unless it has data
 abbrev pub first_page : Device → ℕ → Option (List ℕ)

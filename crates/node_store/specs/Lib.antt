@@ -1,8 +1,8 @@
-pub mod Faults
-pub mod Frames
-pub mod FrameLaws
-pub mod Words
-pub mod WordLaws
+pub use Rattle.nodes.specs.Faults
+pub use Rattle.nodes.specs.Frames
+pub use Rattle.nodes.specs.FrameLaws
+pub use Rattle.nodes.specs.Words
+pub use Rattle.nodes.specs.WordLaws
 pub mod NodePages
 pub mod Reading
 pub mod ReadingLaws
@@ -21,5 +21,4 @@ pub mod NewNodes
 pub mod Stores
 pub mod StoreLaws
 pub mod NodeLaws
-pub mod Examining
 pub mod ExaminingLaws

@@ -1,11 +1,11 @@
 -- The node in a block: the bytes of its pages from place 0 on, as many as the node needs.
 use Rattle.std.specs.Prelude.{◌≡◌, ℕ, zero, suc, ◌+◌, ◌*◌, ◌<◌, ◌≤◌, ◌&&◌, nat_le, nat_lt, if◌then◌else◌, List, [], length, ◌++◌, take, drop, replicate, Option, Some, None, option_map, option_and_then}
-use Rattle.std.specs.Int.{div_ceil}
 use Rattle.fs_types.specs.declared.limits.TheConstants.{ANCHORS}
 use Rattle.flash_model.specs.declared.geometry.Geometry.{Geometry}
 use Rattle.flash_model.specs.Geometry.{block_bytes}
 use Rattle.flash_model.specs.Device.{Device, Page, bytes_of, erased}
 use Rattle.node_format.specs.Headers.{node_size, IsNode}
+use Rattle.nodes.specs.PageCounts.{pages_for}
 
 -- joined bytes with those of one page more, none unless it has data
 abbrev pub and_page : Option (List ℕ) → Page → Option (List ℕ)
@@ -16,10 +16,6 @@ and_page _ _ = None
 abbrev pub joined : (ℕ → Page) → ℕ → ℕ → Option (List ℕ)
 joined pages first zero = Some []
 joined pages first (suc n) = and_page (joined pages first n) (pages (first + n))
-
--- how many pages so many bytes need
-abbrev pub pages_for : ℕ → ℕ → ℕ
-pages_for page size = div_ceil size page
 
 -- the size of the node that begins in a page, in a block of so many bytes
 abbrev pub size_in : ℕ → Page → Option ℕ

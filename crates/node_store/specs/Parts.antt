@@ -1,25 +1,12 @@
 -- A part of the node in a block, and what reading it leaves.
-use Rattle.std.specs.Prelude.{◌≡◌, ◌≢◌, ℕ, ◌+◌, ◌-◌, ◌/◌, ◌<◌, ◌≤◌, false, List, length, take, drop, Option, Some, None, Result, Ok}
+use Rattle.std.specs.Prelude.{◌≡◌, ◌≢◌, ℕ, ◌<◌, false, List, Option, Some, None, Result, Ok}
 use Rattle.fs_types.specs.declared.fault.Fault.{Fault}
 use Rattle.fs_types.specs.declared.fault.Fault.TheVariants.{ReadFailed, PowerCut, NoMemory, Damaged}
 use Rattle.flash_model.specs.Device.{Device}
 use Rattle.node_cache.specs.Cache.{node_in, with_first}
 use Rattle.node_store.specs.Caching.{Fetches}
-use Rattle.node_store.specs.NodePages.{pages_for}
+use Rattle.nodes.specs.Parts.{LacksPart}
 use Rattle.node_store.specs.declared.storage.Storage.{Storage}
-
--- where the node has so many bytes from an offset on, these are they
-abbrev pub HasPart : Option (List ℕ) → ℕ → ℕ → List ℕ → Type 0
-HasPart node offset count part =
-    (bytes : List ℕ) → node ≡ Some bytes → offset + count ≤ length bytes → part ≡ take count (drop offset bytes)
-
--- there is no node, or it has not so many bytes from an offset on
-abbrev pub LacksPart : Option (List ℕ) → ℕ → ℕ → Type 0
-LacksPart node offset count = (bytes : List ℕ) → node ≡ Some bytes → length bytes < offset + count
-
--- how many pages hold so many bytes from an offset on
-abbrev pub pages_of_range : ℕ → ℕ → ℕ → ℕ
-pages_of_range page offset count = pages_for page (offset + count) - offset / page
 
 -- why so many bytes of a node from an offset on were not brought
 abbrev pub RefusesPart : Device → Device → Option (List ℕ) → ℕ → ℕ → Fault → Type 0

@@ -12,8 +12,10 @@ use Rattle.flash_model.specs.Device.{Device, Page, bytes_of, erased, unreadable}
 use Rattle.flash_model.specs.declared.geometry.Geometry.{Geometry}
 use Rattle.flash_model.specs.Geometry.{IsGeometry, block_bytes, page_count}
 use Rattle.node_format.specs.Headers.{node_size}
-use Rattle.node_store.specs.NodePages.{and_page, joined, pages_for, bytes_at, node_of}
-use Rattle.node_store.specs.NodeLaws.{node_of-same, node_of-first, lawful_has_room, size_within, pages_for-most, pages_for-some, first_joined, map_some}
+use Rattle.node_store.specs.NodePages.{and_page, joined, bytes_at, node_of}
+use Rattle.nodes.specs.PageCounts.{pages_for}
+use Rattle.node_store.specs.NodeLaws.{node_of-same, node_of-first, lawful_has_room, pages_for-most, pages_for-some, first_joined, map_some}
+use Rattle.nodes.specs.SizeLaws.{size_within}
 use Rattle.flash_model.specs.Reading.{OnlyReads}
 use Rattle.node_store.specs.Caching.{BringsOrWants}
 use Rattle.node_store.specs.Reading.{Brings}

@@ -15,7 +15,7 @@ use Rattle.node_store.specs.NodePages.{node_of}
 use Rattle.node_store.specs.NodeLaws.{node_of-same}
 use Rattle.node_store.specs.Storage.{Storage, is_kept, Evolved, IsUntouched}
 use Rattle.node_store.specs.StorageLaws.{Untouched_itself, Untouched_on, Untouched_evolved, Evolved_itself, Evolved_on}
-use Rattle.node_store.specs.Faults.{IsReadFault}
+use Rattle.nodes.specs.Faults.{IsReadFault}
 use Rattle.node_store.specs.Reading.{Brings}
 use Rattle.node_store.specs.Stores.{parts, IsSoundStore, Follows, Causes}
 

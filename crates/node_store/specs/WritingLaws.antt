@@ -8,7 +8,8 @@ use Rattle.flash_model.specs.declared.flash.DevFault.TheVariants.{Failed, PowerC
 use Rattle.flash_model.specs.Device.{Device, Page, bytes_of, erased, unreadable, block_of, Operates, Programs, Erases}
 use Rattle.flash_model.specs.Geometry.{IsGeometry, block_bytes}
 use Rattle.flash_model.specs.Blocks.{block_of-at}
-use Rattle.node_store.specs.NodePages.{page_bytes, pages_for}
+use Rattle.node_store.specs.NodePages.{page_bytes}
+use Rattle.nodes.specs.PageCounts.{pages_for}
 use Rattle.node_store.specs.NodeLaws.{lawful_has_room, pages_for-most}
 use Rattle.node_store.specs.Writing.{has_data, IsInOrder, IsFilledInOrder, WritesBlock, IsWriting}
 

@@ -5,7 +5,7 @@ ghost use Rattle.flash_model.specs.Reading.{OnlyReads};
 ghost use Rattle.node_cache.specs.Cache.{node_in, first_bytes};
 ghost use Rattle.node_store.specs.Caching.{Fetches};
 ghost use Rattle.node_store.specs.Fitting.{Fits, StillFits};
-ghost use Rattle.node_store.specs.NodePages.{pages_for};
+ghost use Rattle.nodes.specs.PageCounts.{pages_for};
 
 use crate::node_reads::read_node;
 use crate::storage::Storage;

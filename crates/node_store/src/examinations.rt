@@ -5,10 +5,11 @@ ghost use Rattle.flash_model.specs.Reading.{OnlyReads};
 ghost use Rattle.node_cache.specs.Cache.{first_bytes};
 ghost use Rattle.node_format.specs.Headers.{field, body_magic, body_header, node_size};
 ghost use Rattle.node_store.specs.Caching.{BringsOrWants};
-ghost use Rattle.node_store.specs.Examining.{HasBodyHeader, most_pages};
+ghost use Rattle.nodes.specs.PageCounts.{most_pages, pages_for};
+ghost use Rattle.nodes.specs.Parts.{HasBodyHeader};
 ghost use Rattle.node_store.specs.Fitting.{Fits, StillFits};
 ghost use Rattle.node_store.specs.Fronts.{first_page};
-ghost use Rattle.node_store.specs.NodePages.{joined, bytes_at, pages_for, node_of};
+ghost use Rattle.node_store.specs.NodePages.{joined, bytes_at, node_of};
 ghost use Rattle.node_store.specs.Reading.{Brings};
 
 use crate::node_reads::{finish_node, read_page, read_size};

@@ -9,14 +9,11 @@ mod new_nodes;
 mod node_parts;
 mod node_reads;
 mod node_writes;
-mod nodes;
 mod peeks;
 mod storage;
 mod store;
 
-pub use examines::Examines;
 pub use new_nodes::{list_block, write_node};
-pub use nodes::{Nodes, brings};
-pub use peeks::Peeks;
+pub use nodes::{Examines, Nodes, Peeks, brings};
 pub use storage::Storage;
 pub use store::Store;

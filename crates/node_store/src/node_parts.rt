@@ -5,8 +5,10 @@ ghost use Rattle.flash_model.specs.Reading.{OnlyReads};
 ghost use Rattle.node_cache.specs.Cache.{node_in};
 ghost use Rattle.node_store.specs.Caching.{Fetches};
 ghost use Rattle.node_store.specs.Fitting.{Fits, StillFits};
-ghost use Rattle.node_store.specs.NodePages.{joined, pages_for, node_of};
-ghost use Rattle.node_store.specs.Parts.{HasPart, RefusesPart, ReadsPart, pages_of_range};
+ghost use Rattle.node_store.specs.NodePages.{joined, node_of};
+ghost use Rattle.nodes.specs.PageCounts.{pages_for, pages_of_range};
+ghost use Rattle.node_store.specs.Parts.{RefusesPart, ReadsPart};
+ghost use Rattle.nodes.specs.Parts.{HasPart};
 ghost use Rattle.node_store.specs.Reading.{Brings};
 
 use crate::cached_reads::fetch_node;

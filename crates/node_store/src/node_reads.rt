@@ -5,7 +5,8 @@ ghost use Rattle.node_format.specs.Headers.{node_size};
 ghost use Rattle.flash_model.specs.Reading.{OnlyReads};
 ghost use Rattle.node_store.specs.Caching.{BringsOrWants};
 ghost use Rattle.node_store.specs.Fronts.{first_page};
-ghost use Rattle.node_store.specs.NodePages.{and_page, joined, pages_for, bytes_at, node_of};
+ghost use Rattle.node_store.specs.NodePages.{and_page, joined, bytes_at, node_of};
+ghost use Rattle.nodes.specs.PageCounts.{pages_for};
 ghost use Rattle.node_store.specs.Reading.{Brings};
 
 use flash_model::{DevFault, Flash, PageState};

@@ -2,7 +2,7 @@
 ghost use Rattle.std.specs.Prelude.{◌≡◌, ℕ, ◌+◌, ◌*◌, ◌≤◌, ◌<◌, ◌++◌, length, take, replicate, vec_len};
 ghost use Rattle.flash_model.specs.Device.{erased};
 ghost use Rattle.flash_model.specs.Geometry.{IsGeometry, block_bytes};
-ghost use Rattle.node_store.specs.NodePages.{pages_for};
+ghost use Rattle.nodes.specs.PageCounts.{pages_for};
 ghost use Rattle.node_store.specs.Writing.{WritesBlock};
 
 use flash_model::{DevFault, Flash};

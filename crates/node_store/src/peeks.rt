@@ -1,49 +1,23 @@
-//! The trait of what shows parts of nodes that are wanted once.
+//! A store shows parts of nodes that are wanted once.
 ghost use Rattle.std.specs.Prelude.{◌≡◌, ◌≢◌, ◌+◌, ◌≤◌, length, None, OnOk, IfErr, IsErrOf};
 ghost use Rattle.fs_types.specs.declared.fault.Fault.TheVariants.{Damaged};
 ghost use Rattle.flash_model.specs.Geometry.{IsGeometry, block_bytes};
 ghost use Rattle.flash_model.specs.Reading.{OnlyReads};
 ghost use Rattle.node_cache.specs.Cache.{node_in};
-ghost use Rattle.node_store.specs.Faults.{IsReadFault};
+ghost use Rattle.nodes.specs.Faults.{IsReadFault};
 ghost use Rattle.node_store.specs.Fitting.{Fits, StillFits};
-ghost use Rattle.node_store.specs.Frames.{OnlyLooks};
+ghost use Rattle.nodes.specs.Frames.{OnlyLooks};
 ghost use Rattle.node_store.specs.NodePages.{node_of};
-ghost use Rattle.node_store.specs.Parts.{HasPart, LacksPart, RefusesPart, pages_of_range};
+ghost use Rattle.node_store.specs.Parts.{RefusesPart};
+ghost use Rattle.nodes.specs.PageCounts.{pages_of_range};
+ghost use Rattle.nodes.specs.Parts.{HasPart, LacksPart};
 
 use crate::node_parts::{copy_part, read_part};
-use crate::nodes::Nodes;
 use crate::storage::Storage;
 use crate::store::Store;
 use flash_model::Flash;
 use fs_types::Fault;
-
-/// What keeps nodes in blocks, and shows parts of them that are wanted once.
-pub trait Peeks: Nodes {
-    /// The bytes of a page.
-    fn page_bytes(&self) -> u32
-        ensures { result ≡ Self.page self.now };
-
-    /// Fills `out` with the bytes of the node in a block, from an offset on. Any number may be asked;
-    /// where the node has not so many bytes, or there is none, `out` may then hold anything.
-    ///
-    /// Only the pages that hold these bytes are asked, whichever part was read last, and no node enters
-    /// memory. Nothing may be lent after it.
-    fn peek_at(&mut self, block: u32, offset: u32, out: &mut [u8]) -> Result<(), Fault>
-        requires sound { Self.is_sound self.old }
-        requires within { offset + length out.old ≤ Self.limit self.old }
-        ensures copied { OnOk result (HasPart (Self.node self.old block) offset (length out.old) out.new) }
-
-        // Damaged only where the node has not so many bytes, or there is none.
-        ensures damaged { IsErrOf result Fault.Damaged → LacksPart (Self.node self.old block) offset (length out.old) }
-        ensures why { IfErr result (λ fault. fault ≢ Fault.Damaged → Self.causes self.old self.new fault) }
-        ensures faults { IfErr result IsReadFault }
-
-        // Whatever is answered, no block changes, and each page that holds the bytes is asked once.
-        ensures looks { OnlyLooks Self.node Self.kept Self.writes Self.follows Self.is_sound Self.limit Self.blocks self.old self.new }
-        ensures reads { Self.reads self.new ≡ Self.reads self.old + 1 }
-        ensures partly { Self.partly self.new ≡ Self.partly self.old }
-        ensures asks { Self.asked self.new ≤ Self.asked self.old + pages_of_range (Self.page self.old) offset (length out.old) };
-}
+use nodes::Peeks;
 
 /// Fills a slice with the bytes of the node of a block from an offset on. A listed node goes first and is
 /// answered without the device. Of another block only the pages that hold the bytes are read, and what is

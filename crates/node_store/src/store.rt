@@ -3,11 +3,11 @@ use crate::cached_reads::read_first;
 use crate::fronts::bring_front;
 use crate::new_nodes::{write_node, write_owned_node};
 use crate::node_parts::bring_part;
-use crate::nodes::Nodes;
 use crate::storage::Storage;
 use counts::Count;
 use flash_model::Flash;
 use fs_types::Fault;
+use nodes::Nodes;
 
 /// Keeps nodes in the data blocks of a lent flash. The kept blocks are those that the ring has as
 /// used.
@@ -56,19 +56,21 @@ impl<'a, F: Flash> Store<'a, F> {
 impl<F: Flash> Nodes for Store<'_, F> {
     ghost use Rattle.std.specs.Prelude.{◌≡◌, ◌≢◌, ℕ, ◌+◌, ◌≤◌, List, length, Some, None, OnOk, IfErr, IsErrOf};
     ghost use Rattle.node_store.specs.Caching.{Fetches};
-    ghost use Rattle.node_store.specs.Faults.{IsReadFault};
-    ghost use Rattle.node_store.specs.Frames.{OnlyLooks};
-    ghost use Rattle.node_store.specs.Fronts.{IsFront, Fronts, front_in};
+    ghost use Rattle.nodes.specs.Faults.{IsReadFault};
+    ghost use Rattle.nodes.specs.Frames.{OnlyLooks};
+    ghost use Rattle.node_store.specs.Fronts.{Fronts, front_in};
+    ghost use Rattle.nodes.specs.Parts.{IsFront, HasPart, LacksPart};
     ghost use Rattle.std.proofs.Common.{ap};
     ghost use Rattle.std.specs.FinSet as set;
     ghost use Rattle.flash_model.specs.Geometry.{block_bytes as bytes_of_block};
     ghost use Rattle.node_cache.specs.Cache.{first_bytes, without};
-    ghost use Rattle.node_store.specs.NodePages.{node_of, pages_for};
+    ghost use Rattle.node_store.specs.NodePages.{node_of};
+    ghost use Rattle.nodes.specs.PageCounts.{pages_for, pages_of_range};
     ghost use Rattle.node_store.specs.NodeLaws.{lawful_has_room, node_of-whole, node_of-anchor, node_of-beyond};
-    ghost use Rattle.node_store.specs.Parts.{HasPart, LacksPart, ReadsPart, pages_of_range};
+    ghost use Rattle.node_store.specs.Parts.{ReadsPart};
     ghost use Rattle.node_store.specs.StorageLaws.{Evolved_fresh};
     ghost use Rattle.node_store.specs.Stores.{parts, IsSoundStore, Follows, Causes};
-    ghost use Rattle.node_store.specs.FrameLaws.{Looks_on, Works_on, Looks_works};
+    ghost use Rattle.nodes.specs.FrameLaws.{Looks_on, Works_on, Looks_works};
     ghost use Rattle.node_store.specs.StoreLaws.{Evolved_node, Follows_itself, Follows_on, Causes_on, Sound_on};
 
     ghost node = { λ s. node_of (F.device s.flash.now) };

@@ -2,8 +2,7 @@
 use Rattle.std.proofs.Common.{◌≡◌, ◌≢◌, ℕ, ◌+◌, true, List, Result, Ok, sym, ap, ◌∙◌, subst, arith}
 use Rattle.flash_model.specs.declared.flash.DevFault.{DevFault}
 use Rattle.flash_model.specs.declared.flash.PageState.{PageState}
-use Rattle.flash_model.specs.Device.{Device, Page, ReportsPage, Reads, Operates, failed, cut, AfterProgram, AfterErase, Programs, Erases, Wears, block_of}
-use Rattle.flash_model.specs.Simulation.{LeavesBeside}
+use Rattle.flash_model.specs.Device.{Device, Page, ReportsPage, Reads, Operates, failed, cut, AfterProgram, AfterErase, Programs, Erases, Wears, block_of, LeavesBeside}
 
 -- an operation has begun, with the power on, and changed pages alone
 pub record Begins (old mid : Device) : Type 0 where

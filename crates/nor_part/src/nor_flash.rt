@@ -38,7 +38,7 @@ pub struct NorFlash<P: Nor> {
 
 impl<P: Nor + Drop> NorFlash<P> {
     ghost use Rattle.std.specs.Prelude.{◌<◌, ◌+◌, ◌↔◌, ◌⊎◌, IfOk, IfErr, OnOk, OnErr, Err, Ok, true, false};
-    ghost use Rattle.flash_model.specs.Simulation.{LeavesBeside};
+    ghost use Rattle.flash_model.specs.Device.{LeavesBeside};
     ghost use Rattle.nor_part.specs.Flashes.{nor_device, nor_of, IsOver};
 
     /// A flash over a part with power on. Its pages are those that the part holds. `BadGeometry` for a

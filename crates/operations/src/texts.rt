@@ -1,7 +1,8 @@
 //! Calls from short texts, carried out on a flash that was formatted.
 use crate::error::MeasureError;
 use crate::watched::{Counts, Watched};
-use flash_model::{Geometry, SimFlash};
+use flash_model::Geometry;
+use flash_simulation::SimFlash;
 use fs_types::{Call, Event, Name, NamedFile, Path, Sequence};
 use put_lots::{Thing, events_of, take_in};
 use script::{Line, read_line};

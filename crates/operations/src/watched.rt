@@ -2,10 +2,11 @@
 ghost use Rattle.std.specs.Prelude.{◌≡◌, ◌<◌, ◌↔◌, true, false};
 ghost use Rattle.flash_model.specs.Device.{erased};
 ghost use Rattle.flash_model.specs.Geometry.{page_count};
-ghost use Rattle.flash_model.specs.Simulation.{device_of};
+ghost use Rattle.flash_simulation.specs.Simulation.{device_of};
 ghost use Rattle.block_cleaning.specs.Cleaning.{IsBlank};
 
-use flash_model::{Counters, DevFault, Flash, Geometry, PageState, PageView, SimFlash};
+use flash_model::{Counters, DevFault, Flash, Geometry, PageState, PageView};
+use flash_simulation::SimFlash;
 
 /// What was asked of a flash. A count stays at the greatest `u64`.
 #[derive(Clone, Copy)]
@@ -70,8 +71,8 @@ impl Watched {
 }
 
 impl Flash for Watched {
-    ghost use Rattle.flash_model.specs.Simulation.{device_of};
-    ghost use Rattle.flash_model.specs.WholePages.{whole_pages_of};
+    ghost use Rattle.flash_simulation.specs.Simulation.{device_of};
+    ghost use Rattle.flash_simulation.specs.WholePages.{whole_pages_of};
 
     ghost device = { λ watched. device_of watched.flash };
 

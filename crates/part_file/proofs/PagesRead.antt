@@ -5,11 +5,10 @@ use Rattle.std.proofs.lemmas.Bool.{cases_lt}
 use Rattle.flash_model.specs.declared.geometry.Geometry.{Geometry}
 use Rattle.flash_model.specs.declared.flash.PageState.{PageState}
 use Rattle.flash_model.specs.declared.flash.PageState.TheVariants.{Erased, Data, Unreadable}
-use Rattle.flash_model.specs.Contents.{IsWhole, PutsPage}
+use Rattle.flash_model.specs.Contents.{IsWhole, PutsPage, page_of}
 use Rattle.flash_model.specs.Device.{Device, Page}
 use Rattle.flash_model.specs.Geometry.{page_count}
-use Rattle.flash_model.specs.Simulation.{IsNew}
-use Rattle.flash_model.specs.Stored.{page_of}
+use Rattle.flash_simulation.specs.Simulation.{IsNew}
 use Rattle.flash_image.specs.Images.{IsFresh}
 use Rattle.part_file.specs.Layout.{data_place}
 use Rattle.part_file.specs.Pages.{HasPage, HasPages}

@@ -6,9 +6,9 @@ use Rattle.flash_model.specs.declared.geometry.Geometry.{Geometry}
 use Rattle.flash_model.specs.Contents.{IsWhole}
 use Rattle.flash_model.specs.Device.{Device, Page, erased, bytes_of, unreadable}
 use Rattle.flash_model.specs.Geometry.{page_count}
-use Rattle.flash_model.specs.Simulation.{device_of}
-use Rattle.flash_model.specs.WholePages.{whole_pages_of}
-use Rattle.flash_model.specs.declared.sim_flash.SimFlash.{SimFlash}
+use Rattle.flash_simulation.specs.Simulation.{device_of}
+use Rattle.flash_simulation.specs.WholePages.{whole_pages_of}
+use Rattle.flash_simulation.specs.declared.sim_flash.SimFlash.{SimFlash}
 use Rattle.host_files.specs.Steps.{overwritten}
 use Rattle.part_file.specs.Layout.{IsHead, state_place, data_place, part_length}
 use Rattle.part_file.specs.Pages.{IsPart, HasPage, page_put}

@@ -72,7 +72,7 @@ impl<B: Backing> PartFile<B> {
     ghost use Rattle.part_file.specs.Parts.{sizes_of, backing_of};
     ghost use Rattle.host_files.specs.Steps.{Does, Becomes};
     ghost use Rattle.part_file.specs.Pages.{HasPage};
-    ghost use Rattle.flash_model.specs.Stored.{page_of};
+    ghost use Rattle.flash_model.specs.Contents.{page_of};
 
     /// Programs a page, which is erased: its bytes, and then its state. On an anchor there is a barrier
     /// after each.

@@ -2,14 +2,15 @@
 ghost use Rattle.std.specs.Prelude.{◌≡◌, ◌+◌, ℕ, ◌<◌, IfOk, IfErr, OnOk, IfSome, false, length};
 ghost use Rattle.flash_image.specs.Images.{IsFresh};
 ghost use Rattle.flash_model.specs.Geometry.{page_count};
-ghost use Rattle.flash_model.specs.Simulation.{device_of};
-ghost use Rattle.flash_model.specs.Stored.{shown_page, page_of};
+ghost use Rattle.flash_simulation.specs.Simulation.{device_of};
+ghost use Rattle.flash_model.specs.Contents.{shown_page, page_of};
 ghost use Rattle.part_file.specs.Pages.{HasPages, IsUnreadPart};
 ghost use Rattle.part_file.specs.Parts.{sizes_of, backing_of};
 ghost use Rattle.part_file.specs.Reading.{IsPartFlash, IsPartFault};
 
 use crate::part_file::{PartFault, PartFile};
-use flash_model::{PageState, PageView, SimFlash};
+use flash_model::{PageState, PageView};
+use flash_simulation::SimFlash;
 use host_files::Backing;
 use std::alloc::Global;
 

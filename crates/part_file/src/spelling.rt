@@ -1,9 +1,8 @@
 //! The bytes of a part that holds what a flash does.
 ghost use Rattle.std.specs.Prelude.{◌≡◌, ◌+◌, ◌≤◌, ◌<◌, ◌++◌, ◌-◌, IfOk, length, replicate, vec_len};
-ghost use Rattle.flash_model.specs.Contents.{IsWhole};
+ghost use Rattle.flash_model.specs.Contents.{IsWhole, shown_page};
 ghost use Rattle.flash_model.specs.Geometry.{IsGeometry, page_count};
-ghost use Rattle.flash_model.specs.Simulation.{device_of};
-ghost use Rattle.flash_model.specs.Stored.{shown_page};
+ghost use Rattle.flash_simulation.specs.Simulation.{device_of};
 ghost use Rattle.host_files.specs.Steps.{overwritten};
 ghost use Rattle.part_file.specs.Layout as spec;
 ghost use Rattle.part_file.specs.Pages.{IsPart, page_put};
@@ -11,7 +10,8 @@ ghost use Rattle.part_file.specs.Pages.{IsPart, page_put};
 use crate::part_file::MAGIC;
 use crate::places::{data_place, state_place};
 use fields::push_u32;
-use flash_model::{Flash, Geometry, PageView, SimFlash};
+use flash_model::{Flash, Geometry, PageView};
+use flash_simulation::SimFlash;
 use std::alloc::{AllocError, Global};
 
 /// The bytes of a part that holds what a flash does: its head, the states of its pages, and their bytes.

@@ -1,10 +1,10 @@
 //! The flash of a part in a flat file.
 ghost use Rattle.std.specs.Prelude.{◌≡◌, IfOk, IfErr, IfSome};
-ghost use Rattle.flash_model.specs.Simulation.{device_of};
+ghost use Rattle.flash_simulation.specs.Simulation.{device_of};
 ghost use Rattle.part_file.specs.Reading.{IsPartFlash, IsPartFault};
 ghost use Rattle.part_jobs.specs.Flashes.{PartCause};
 
-use flash_model::SimFlash;
+use flash_simulation::SimFlash;
 use host_files::{FileFault, Parts};
 use image_jobs::Failure;
 use part_file::{PartFault, flash_of_part};

@@ -1,11 +1,12 @@
 //! Parts in flat files that are made, and images made of them.
 ghost use Rattle.std.specs.Prelude.{◌≡◌, false};
-ghost use Rattle.flash_model.specs.Simulation.{device_of};
+ghost use Rattle.flash_simulation.specs.Simulation.{device_of};
 ghost use Rattle.host_files.specs.Files.{KeepsOthers};
 ghost use Rattle.part_jobs.specs.Making.{WritesPart, WritesImage, FormatPartEnds, ToPartEnds, FromPartEnds};
 
 use crate::loading::load_part;
-use flash_model::{Geometry, SimFlash};
+use flash_model::Geometry;
+use flash_simulation::SimFlash;
 use host_files::{ImageFiles, Parts};
 use image_jobs::{Failure, claim, formatted_flash, load, save_image, spare, write_image};
 use part_file::spelled_part;

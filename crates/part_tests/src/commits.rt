@@ -4,7 +4,8 @@ ghost use Rattle.record_format.specs.Payloads.{is_record, written};
 
 use bad_blocks::BadBlocks;
 use commit_pair::Anchors;
-use flash_model::{Counters, FaultKind, Flash, Geometry, PageView, PlannedFault, SimFlash};
+use flash_model::{Counters, FaultKind, Flash, Geometry, PageView, PlannedFault};
+use flash_simulation::SimFlash;
 use fs_types::{Fault, Sequence, Version};
 use record_format::{FORMAT, PageHead, Record};
 use std::alloc::Global;
@@ -116,13 +117,20 @@ fn sequence_on(flash: &SimFlash, number: u32) -> Option<u64> {
 
 /// A plan; how many versions each record has and how many records are committed, after the anchors were
 /// cleared, once for each pair; what is answered; pages, each with the sequence of the record of which it
-/// has a part; and the newest record's sequence, next serial and bad list.
+/// has a part; the newest record's sequence, next serial and bad list; the operations that were asked for,
+/// where they are counted; and, where one record more is committed after the power was put on and the newest
+/// one was read, the page on which it begins and its sequence.
+///
+/// The anchor that comes first after the anchors were cleared is not erased again; of anchors that were
+/// cleared only one whose erase failed is read, each page once, and the part of a record again.
 type Row = (
     &'static [PlannedFault],
     &'static [(u64, u8)],
     Result<(), Fault>,
     &'static [(u32, u64)],
     Option<(u64, u64, &'static [u32])>,
+    Option<Counters>,
+    Option<(u32, u64)>,
 );
 
 const ROWS: [Row; 27] = [
@@ -133,6 +141,12 @@ const ROWS: [Row; 27] = [
         Ok(()),
         &[(0, 1), (1, 2), (2, 3), (3, 0)],
         Some((3, 103, &[])),
+        Some(Counters {
+            reads: 0,
+            programs: 3,
+            erases: 8,
+        }),
+        Some((3, 4)),
     ),
     // a full anchor is followed by the next
     (
@@ -141,6 +155,12 @@ const ROWS: [Row; 27] = [
         Ok(()),
         &[(15, 16), (16, 17)],
         Some((17, 117, &[])),
+        Some(Counters {
+            reads: 0,
+            programs: 17,
+            erases: 9,
+        }),
+        None,
     ),
     // three pages each: five records on an anchor, and a page of it stays
     (
@@ -149,6 +169,8 @@ const ROWS: [Row; 27] = [
         Ok(()),
         &[(14, 5), (15, 0), (16, 6)],
         Some((6, 106, &[])),
+        None,
+        None,
     ),
     // round the ring: the anchor of the first record is erased and programmed again
     (
@@ -157,6 +179,8 @@ const ROWS: [Row; 27] = [
         Ok(()),
         &[(0, 129), (1, 0), (127, 128)],
         Some((129, 229, &[])),
+        None,
+        None,
     ),
     // anchors that fail are passed: the second record fails on the anchor of the first, and then the next
     // one at its erase
@@ -175,6 +199,8 @@ const ROWS: [Row; 27] = [
         Ok(()),
         &[(0, 1), (32, 2), (33, 3)],
         Some((3, 103, &[0, 1])),
+        None,
+        None,
     ),
     // seven bad anchors end it
     (
@@ -212,6 +238,12 @@ const ROWS: [Row; 27] = [
         Err(Fault::ReadOnly),
         &[(0, 1), (112, 0)],
         Some((1, 101, &[])),
+        Some(Counters {
+            reads: 0,
+            programs: 8,
+            erases: 14,
+        }),
+        None,
     ),
     // the ninth erase leaves the pages of odd place on anchor 0: the second of two records, which is older
     // than the one that is committed then
@@ -224,6 +256,12 @@ const ROWS: [Row; 27] = [
         Ok(()),
         &[(1, 2), (16, 3)],
         Some((3, 101, &[0])),
+        Some(Counters {
+            reads: 16,
+            programs: 3,
+            erases: 16,
+        }),
+        None,
     ),
     // where the anchor whose erase failed is not read either, nothing is committed
     (
@@ -241,6 +279,8 @@ const ROWS: [Row; 27] = [
         Err(Fault::ReadFailed),
         &[(1, 2), (16, 0)],
         Some((2, 102, &[])),
+        None,
+        None,
     ),
     // power goes in the first of two records, which have three pages each
     (
@@ -252,6 +292,8 @@ const ROWS: [Row; 27] = [
         Err(Fault::PowerCut),
         &[],
         None,
+        None,
+        None,
     ),
     (
         &[PlannedFault {
@@ -262,6 +304,8 @@ const ROWS: [Row; 27] = [
         Err(Fault::PowerCut),
         &[],
         None,
+        None,
+        None,
     ),
     (
         &[PlannedFault {
@@ -271,6 +315,8 @@ const ROWS: [Row; 27] = [
         &[(40, 2)],
         Err(Fault::PowerCut),
         &[],
+        None,
+        None,
         None,
     ),
     (
@@ -282,6 +328,8 @@ const ROWS: [Row; 27] = [
         Err(Fault::PowerCut),
         &[],
         None,
+        None,
+        None,
     ),
     (
         &[PlannedFault {
@@ -292,6 +340,8 @@ const ROWS: [Row; 27] = [
         Err(Fault::PowerCut),
         &[],
         None,
+        None,
+        None,
     ),
     (
         &[PlannedFault {
@@ -301,6 +351,8 @@ const ROWS: [Row; 27] = [
         &[(40, 2)],
         Err(Fault::PowerCut),
         &[],
+        None,
+        None,
         None,
     ),
     // power goes in the second one, at its first pages
@@ -313,6 +365,8 @@ const ROWS: [Row; 27] = [
         Err(Fault::PowerCut),
         &[],
         Some((1, 101, &[])),
+        None,
+        None,
     ),
     (
         &[PlannedFault {
@@ -323,6 +377,8 @@ const ROWS: [Row; 27] = [
         Err(Fault::PowerCut),
         &[],
         Some((1, 101, &[])),
+        None,
+        None,
     ),
     (
         &[PlannedFault {
@@ -333,6 +389,8 @@ const ROWS: [Row; 27] = [
         Err(Fault::PowerCut),
         &[],
         Some((1, 101, &[])),
+        None,
+        None,
     ),
     (
         &[PlannedFault {
@@ -343,6 +401,8 @@ const ROWS: [Row; 27] = [
         Err(Fault::PowerCut),
         &[],
         Some((1, 101, &[])),
+        None,
+        None,
     ),
     (
         &[PlannedFault {
@@ -353,6 +413,8 @@ const ROWS: [Row; 27] = [
         Err(Fault::PowerCut),
         &[],
         Some((1, 101, &[])),
+        None,
+        None,
     ),
     (
         &[PlannedFault {
@@ -363,6 +425,8 @@ const ROWS: [Row; 27] = [
         Err(Fault::PowerCut),
         &[],
         Some((1, 101, &[])),
+        None,
+        None,
     ),
     // power goes after a page was written whole
     (
@@ -374,6 +438,8 @@ const ROWS: [Row; 27] = [
         Err(Fault::PowerCut),
         &[],
         None,
+        None,
+        None,
     ),
     (
         &[PlannedFault {
@@ -384,6 +450,8 @@ const ROWS: [Row; 27] = [
         Err(Fault::PowerCut),
         &[],
         Some((1, 101, &[])),
+        None,
+        None,
     ),
     (
         &[PlannedFault {
@@ -394,6 +462,8 @@ const ROWS: [Row; 27] = [
         Err(Fault::PowerCut),
         &[],
         Some((1, 101, &[])),
+        None,
+        None,
     ),
     (
         &[PlannedFault {
@@ -404,6 +474,8 @@ const ROWS: [Row; 27] = [
         Err(Fault::PowerCut),
         &[],
         Some((2, 102, &[])),
+        None,
+        None,
     ),
     // power goes in the erase of the next anchor
     (
@@ -415,6 +487,8 @@ const ROWS: [Row; 27] = [
         Err(Fault::PowerCut),
         &[(15, 16)],
         Some((16, 116, &[])),
+        None,
+        None,
     ),
     (
         &[PlannedFault {
@@ -425,6 +499,8 @@ const ROWS: [Row; 27] = [
         Err(Fault::PowerCut),
         &[(15, 16)],
         Some((16, 116, &[])),
+        None,
+        None,
     ),
     (
         &[PlannedFault {
@@ -435,6 +511,8 @@ const ROWS: [Row; 27] = [
         Err(Fault::PowerCut),
         &[(15, 16)],
         Some((16, 116, &[])),
+        None,
+        Some((16, 17)),
     ),
 ];
 
@@ -461,20 +539,6 @@ fn wrong_page(flash: &SimFlash, pages: &[(u32, u64)]) -> Option<u32> {
     None
 }
 
-#[test]
-fn records_are_committed_and_found(rt: HostRuntime) -> Result<(), Fail> {
-    for (plan, commits, wanted, pages, newest) in ROWS {
-        let mut flash = SimFlash::new(rt.alloc(), SIZES, plan)?;
-        let mut bad = BadBlocks::new();
-        let answer = commit_row(rt.alloc(), &mut flash, &mut bad, commits);
-        assert_eq!(rt; answer, wanted, "{plan:?}");
-        assert_eq!(rt; wrong_page(&flash, pages), None, "{plan:?}");
-        let found = newest_of(rt.alloc(), &mut flash)?;
-        assert!(rt; is_newest(found, newest), "{plan:?}");
-    }
-    Ok(())
-}
-
 /// Whether the newest record that was found is the one that is wanted, or none is where none is wanted.
 fn is_newest(
     found: Option<(u64, u64, Sequence<u32>)>,
@@ -489,105 +553,43 @@ fn is_newest(
     }
 }
 
-/// Plans, commits, and the operations that were asked for then. The anchor that comes first after the
-/// anchors were cleared is not erased again; of anchors that were cleared only one whose erase failed is
-/// read, each page once, and the part of a record again.
-const COUNTS: [(&[PlannedFault], &[(u64, u8)], Counters); 4] = [
-    (
-        &[],
-        &[(1, 3)],
-        Counters {
-            reads: 0,
-            programs: 3,
-            erases: 8,
-        },
-    ),
-    (
-        &[],
-        &[(1, 17)],
-        Counters {
-            reads: 0,
-            programs: 17,
-            erases: 9,
-        },
-    ),
-    (
-        &[
-            PlannedFault {
-                number: 2,
-                kind: FaultKind::ProgramFail,
-            },
-            PlannedFault {
-                number: 3,
-                kind: FaultKind::ProgramFail,
-            },
-            PlannedFault {
-                number: 4,
-                kind: FaultKind::ProgramFail,
-            },
-            PlannedFault {
-                number: 5,
-                kind: FaultKind::ProgramFail,
-            },
-            PlannedFault {
-                number: 6,
-                kind: FaultKind::ProgramFail,
-            },
-            PlannedFault {
-                number: 7,
-                kind: FaultKind::ProgramFail,
-            },
-            PlannedFault {
-                number: 8,
-                kind: FaultKind::ProgramFail,
-            },
-        ],
-        &[(1, 2)],
-        Counters {
-            reads: 0,
-            programs: 8,
-            erases: 14,
-        },
-    ),
-    (
-        &[PlannedFault {
-            number: 9,
-            kind: FaultKind::EraseFail,
-        }],
-        &[(1, 2), (1, 1)],
-        Counters {
-            reads: 16,
-            programs: 3,
-            erases: 16,
-        },
-    ),
-];
-
-#[test]
-fn a_commit_asks_for_no_more_than_it_needs(rt: HostRuntime) -> Result<(), Fail> {
-    for (plan, commits, counts) in COUNTS {
-        let mut flash = SimFlash::new(rt.alloc(), SIZES, plan)?;
-        let mut bad = BadBlocks::new();
-        let _ = commit_row(rt.alloc(), &mut flash, &mut bad, commits);
-        assert_eq!(rt; flash.counts(), counts);
+/// Whether these operations were asked for, where they are counted.
+fn is_counted(flash: &SimFlash, counts: Option<Counters>) -> bool {
+    match counts {
+        Some(wanted) => flash.counts() == wanted,
+        None => true,
     }
-    Ok(())
 }
 
-/// A commit goes on after the newest record that was read, also after power went in an erase.
+/// Whether one record more is committed after the newest one, where that is asked: the page on which it
+/// begins has its sequence.
+fn follows(
+    alloc: Global,
+    flash: &mut SimFlash,
+    bad: &mut BadBlocks,
+    next: Option<(u32, u64)>,
+) -> bool {
+    match next {
+        Some((page, sequence)) => {
+            let answer = commit_again(alloc, flash, bad);
+            answer == Ok(()) && sequence_on(flash, page) == Some(sequence)
+        }
+        None => true,
+    }
+}
+
 #[test]
-fn a_commit_follows_the_newest_record(rt: HostRuntime) -> Result<(), Fail> {
-    let cut: &[PlannedFault] = &[PlannedFault {
-        number: 9,
-        kind: FaultKind::EraseCutTorn,
-    }];
-    for (plan, count, page, sequence) in [(cut, 17, 16, 17), (&[], 3, 3, 4)] {
+fn records_are_committed_and_found(rt: HostRuntime) -> Result<(), Fail> {
+    for (plan, commits, wanted, pages, newest, counts, next) in ROWS {
         let mut flash = SimFlash::new(rt.alloc(), SIZES, plan)?;
         let mut bad = BadBlocks::new();
-        let _ = commit_all(rt.alloc(), &mut flash, &mut bad, 1, count);
-        flash.power_on();
-        assert_eq!(rt; commit_again(rt.alloc(), &mut flash, &mut bad), Ok(()));
-        assert_eq!(rt; sequence_on(&flash, page), Some(sequence));
+        let answer = commit_row(rt.alloc(), &mut flash, &mut bad, commits);
+        assert_eq!(rt; answer, wanted, "{plan:?}");
+        assert!(rt; is_counted(&flash, counts), "{plan:?}");
+        assert_eq!(rt; wrong_page(&flash, pages), None, "{plan:?}");
+        let found = newest_of(rt.alloc(), &mut flash)?;
+        assert!(rt; is_newest(found, newest), "{plan:?}");
+        assert!(rt; follows(rt.alloc(), &mut flash, &mut bad, next), "{plan:?}");
     }
     Ok(())
 }

@@ -1,5 +1,6 @@
 //! How many nodes are written where a directory of many entries changes, and which of them stay.
-use flash_model::{DevFault, Flash, Geometry, PageView, SimFlash};
+use flash_model::{DevFault, Flash, Geometry, PageView};
+use flash_simulation::SimFlash;
 use fs_types::{Call, Fault, Path};
 use mounting::format;
 use std::alloc::{AllocError, Global};

@@ -1,27 +1,36 @@
 //! Tests of single parts, of what no clause says: each public call that takes memory once with ample
-//! memory, worked bytes, and streams that fail.
+//! memory, worked bytes, and streams that fail; headers of archives, images in buffers, and the file system
+//! over a serial NOR part in memory.
 #![tactic(auto)]
 
 #[cfg(test)]
+mod buffers;
+#[cfg(test)]
 mod caches;
+#[cfg(test)]
+mod cleaned;
 #[cfg(test)]
 mod commits;
 #[cfg(test)]
 mod directories;
 #[cfg(test)]
-mod formats;
+mod headers_read;
 #[cfg(test)]
-mod histories;
+mod headers_written;
 #[cfg(test)]
 mod lines;
 #[cfg(test)]
-mod nodes;
+mod node_bytes;
+#[cfg(test)]
+mod nor_sessions;
 #[cfg(test)]
 mod paths;
 #[cfg(test)]
 mod planned_faults;
 #[cfg(test)]
 mod program_words;
+#[cfg(test)]
+mod raws;
 #[cfg(test)]
 mod rings;
 #[cfg(test)]

@@ -1,8 +1,8 @@
 //! A flash in memory does as it is planned: what each kind of fault leaves, and what is counted.
 use flash_model::{
     Counters, DevFault, FaultKind, Flash, Geometry, PageState, PageView, Planned, PlannedFault,
-    SimFlash,
 };
+use flash_simulation::SimFlash;
 use fs_types::Fault;
 use std::test::Fail;
 
@@ -62,6 +62,8 @@ enum Act {
     Worn(u32),
     /// Plans a fault.
     Plan(u64, FaultKind),
+    /// Plans that each read from the first to this one fails.
+    PlanReads(u64),
     /// Puts the power on.
     PowerOn,
 }
@@ -96,6 +98,17 @@ fn planned(flash: &mut SimFlash, k: u64, kind: FaultKind) -> Told {
     }
 }
 
+/// What is told of the first plan that is not done.
+fn planned_reads(flash: &mut SimFlash, last: u64) -> Told {
+    for k in 1..=last {
+        let told = planned(flash, k, FaultKind::ReadFail);
+        if told != Told::Done {
+            return told;
+        }
+    }
+    Told::Done
+}
+
 fn answer_of(flash: &mut SimFlash, act: Act) -> Told {
     match act {
         Act::Fill(number, byte) => told_of(fill(flash, number, byte)),
@@ -107,6 +120,7 @@ fn answer_of(flash: &mut SimFlash, act: Act) -> Told {
         Act::Clear(block) => told_of(clear(flash, block)),
         Act::Worn(block) => Told::Worn(is_worn(flash, block)),
         Act::Plan(k, kind) => planned(flash, k, kind),
+        Act::PlanReads(last) => planned_reads(flash, last),
         Act::PowerOn => {
             flash.power_on();
             Told::Done
@@ -124,10 +138,15 @@ const ERASED: Told = Told::Page(PageState::Erased, 7);
 
 const UNREADABLE: Told = Told::Page(PageState::Unreadable, 7);
 
-/// A plan, and what is told of one act after the other.
-type Row = (&'static [PlannedFault], &'static [(Act, Told)]);
+/// A plan, what is told of one act after the other, and the operations that are counted then, where they
+/// are looked at: those that are asked for while the power is on.
+type Row = (
+    &'static [PlannedFault],
+    &'static [(Act, Told)],
+    Option<Counters>,
+);
 
-const ROWS: [Row; 10] = [
+const ROWS: [Row; 12] = [
     // a page is programmed, read and erased
     (
         &[],
@@ -138,6 +157,7 @@ const ROWS: [Row; 10] = [
             (Act::Clear(31), DONE),
             (Act::Look(511), ERASED),
         ],
+        None,
     ),
     // operations fail as planned
     (
@@ -180,6 +200,7 @@ const ROWS: [Row; 10] = [
             (Act::Worn(8), Told::Worn(false)),
             (Act::Worn(10), Told::Worn(false)),
         ],
+        None,
     ),
     // power goes in a program
     (
@@ -197,6 +218,7 @@ const ROWS: [Row; 10] = [
             (Act::Look(143), Told::Page(PageState::Data, 1)),
             (Act::Worn(9), Told::Worn(false)),
         ],
+        None,
     ),
     // power goes in a program
     (
@@ -214,6 +236,7 @@ const ROWS: [Row; 10] = [
             (Act::Look(143), Told::Page(PageState::Data, 1)),
             (Act::Worn(9), Told::Worn(false)),
         ],
+        None,
     ),
     // power goes in a program
     (
@@ -231,6 +254,7 @@ const ROWS: [Row; 10] = [
             (Act::Look(143), Told::Page(PageState::Data, 1)),
             (Act::Worn(9), Told::Worn(false)),
         ],
+        None,
     ),
     // power goes in an erase
     (
@@ -248,6 +272,7 @@ const ROWS: [Row; 10] = [
             (Act::Look(145), Told::Page(PageState::Data, 5)),
             (Act::Worn(9), Told::Worn(false)),
         ],
+        None,
     ),
     // power goes in an erase
     (
@@ -265,6 +290,7 @@ const ROWS: [Row; 10] = [
             (Act::Look(145), ERASED),
             (Act::Worn(9), Told::Worn(false)),
         ],
+        None,
     ),
     // power goes in an erase
     (
@@ -282,6 +308,7 @@ const ROWS: [Row; 10] = [
             (Act::Look(145), Told::Page(PageState::Data, 5)),
             (Act::Worn(9), Told::Worn(false)),
         ],
+        None,
     ),
     // the last entry for an operation counts
     (
@@ -309,6 +336,7 @@ const ROWS: [Row; 10] = [
             (Act::Look(144), ERASED),
             (Act::Clear(9), DONE),
         ],
+        None,
     ),
     // faults are planned with the power off
     (
@@ -325,99 +353,98 @@ const ROWS: [Row; 10] = [
             (Act::Look(144), FAILED),
             (Act::Look(144), ERASED),
         ],
+        None,
     ),
+    // 64 entries are taken, and another for an operation that has one
+    (
+        &[PlannedFault {
+            number: 70,
+            kind: FaultKind::EraseFail,
+        }],
+        &[
+            (Act::PlanReads(63), DONE),
+            (
+                Act::Plan(1, FaultKind::ProgramFail),
+                Told::Refused(Fault::Invalid),
+            ),
+            (Act::Plan(1, FaultKind::ReadFail), DONE),
+            (Act::Look(0), FAILED),
+            (Act::Plan(2, FaultKind::ProgramFail), DONE),
+            (Act::Fill(0, 1), DONE),
+            (Act::Fill(1, 1), FAILED),
+            (Act::Fill(2, 1), DONE),
+        ],
+        None,
+    ),
+    // operations count while the power is on
+    (
+        &[PlannedFault {
+            number: 2,
+            kind: FaultKind::ReadCut,
+        }],
+        &[
+            (Act::Clear(9), DONE),
+            (Act::Fill(144, 5), DONE),
+            (Act::Fill(145, 5), DONE),
+            (Act::Look(144), Told::Page(PageState::Data, 5)),
+            (Act::Look(144), CUT),
+            (Act::Look(144), CUT),
+            (Act::Fill(146, 5), CUT),
+            (Act::PowerOn, DONE),
+        ],
+        Some(Counters {
+            reads: 2,
+            programs: 2,
+            erases: 1,
+        }),
+    ),
+];
+
+/// The first of the acts that is told otherwise than it has to be.
+fn wrong_act(flash: &mut SimFlash, acts: &[(Act, Told)]) -> Option<(Act, Told)> {
+    for (act, wanted) in acts {
+        let told = answer_of(flash, *act);
+        if told != *wanted {
+            return Some((*act, told));
+        }
+    }
+    None
+}
+
+/// Whether these operations are counted, where they are looked at.
+fn is_counted(flash: &SimFlash, counts: Option<Counters>) -> bool {
+    match counts {
+        Some(wanted) => flash.counts() == wanted,
+        None => true,
+    }
+}
+
+/// Sizes that no flash has: too few or too many bytes of a page, pages of a block, blocks and bytes of all.
+const UNLAWFUL: [(u32, u32, u32); 6] = [
+    (255, 16, 32),
+    (256, 15, 32),
+    (256, 1025, 32),
+    (256, 16, 15),
+    (256, 16, 65537),
+    (256, 1024, 257),
 ];
 
 #[test]
 fn operations_do_as_planned(rt: HostRuntime) -> Result<(), Fail> {
-    for (plan, acts) in ROWS {
+    for (plan, acts, counts) in ROWS {
         let mut flash = SimFlash::new(rt.alloc(), SIZES, plan)?;
-        for (act, wanted) in acts {
-            assert_eq!(rt; answer_of(&mut flash, *act), *wanted, "{act:?} {plan:?}");
-        }
+        let wrong = wrong_act(&mut flash, acts);
+        assert!(rt; wrong.is_none(), "{wrong:?} {plan:?}");
+        assert!(rt; is_counted(&flash, counts), "{plan:?}");
     }
-    Ok(())
-}
-
-#[test]
-fn sizes_have_to_be_lawful(rt: HostRuntime) -> Result<(), Fail> {
-    for (page, pages, blocks) in [
-        (255, 16, 32),
-        (256, 15, 32),
-        (256, 1025, 32),
-        (256, 16, 15),
-        (256, 16, 65537),
-        (256, 1024, 257),
-    ] {
+    for (page, pages, blocks) in UNLAWFUL {
         let sizes = Geometry {
             page,
             pages,
             blocks,
         };
-        assert_eq!(rt;
-            SimFlash::new(rt.alloc(), sizes, &[]).err(),
-            Some(Fault::BadGeometry),
-            "{sizes:?}"
-        );
+        let refusal = SimFlash::new(rt.alloc(), sizes, &[]).err();
+        assert_eq!(rt; refusal, Some(Fault::BadGeometry), "{sizes:?}");
     }
-    Ok(())
-}
-
-#[test]
-fn takes_64_entries(rt: HostRuntime) -> Result<(), Fail> {
-    let plan = [PlannedFault {
-        number: 70,
-        kind: FaultKind::EraseFail,
-    }];
-    let mut flash = SimFlash::new(rt.alloc(), SIZES, &plan)?;
-    for k in 1..64 {
-        assert_eq!(rt;
-            answer_of(&mut flash, Act::Plan(k, FaultKind::ReadFail)),
-            DONE,
-            "{k}"
-        );
-    }
-    for (act, wanted) in [
-        (
-            Act::Plan(1, FaultKind::ProgramFail),
-            Told::Refused(Fault::Invalid),
-        ),
-        (Act::Plan(1, FaultKind::ReadFail), DONE),
-        (Act::Look(0), FAILED),
-        (Act::Plan(2, FaultKind::ProgramFail), DONE),
-        (Act::Fill(0, 1), DONE),
-        (Act::Fill(1, 1), FAILED),
-        (Act::Fill(2, 1), DONE),
-    ] {
-        assert_eq!(rt; answer_of(&mut flash, act), wanted, "{act:?}");
-    }
-    Ok(())
-}
-
-#[test]
-fn counts_while_power_is_on(rt: HostRuntime) -> Result<(), Fail> {
-    let plan = [PlannedFault {
-        number: 2,
-        kind: FaultKind::ReadCut,
-    }];
-    let mut flash = SimFlash::new(rt.alloc(), SIZES, &plan)?;
-    for (act, wanted) in [
-        (Act::Clear(9), DONE),
-        (Act::Fill(144, 5), DONE),
-        (Act::Fill(145, 5), DONE),
-        (Act::Look(144), Told::Page(PageState::Data, 5)),
-        (Act::Look(144), CUT),
-        (Act::Look(144), CUT),
-        (Act::Fill(146, 5), CUT),
-        (Act::PowerOn, DONE),
-    ] {
-        assert_eq!(rt; answer_of(&mut flash, act), wanted, "{act:?}");
-    }
-    let counts = Counters {
-        reads: 2,
-        programs: 2,
-        erases: 1,
-    };
-    assert_eq!(rt; flash.counts(), counts);
     Ok(())
 }

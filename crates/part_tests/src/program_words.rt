@@ -1,14 +1,128 @@
 //! Jobs that words ask for, with ample memory.
 use jobs::{Job, Task, job};
-use std::alloc::Global;
+use std::alloc::{AllocError, Global};
 use std::test::Fail;
+
+/// What of a job is looked at: the task, whether an image is named, the path, the file, the view, where a
+/// driver answers and where it is ordered, the part, how many versions where that is given, and whether
+/// progress is told.
+type Looked<'a> = (Task, bool, [Option<&'a str>; 6], Option<u32>, bool);
+
+/// Words, and what is asked for; none where they are refused.
+const ROWS: [(&str, Option<Looked<'static>>); 9] = [
+    (
+        "put disk.image notes.txt /notes --progress",
+        Some((
+            Task::Put,
+            true,
+            [Some("/notes"), Some("notes.txt"), None, None, None, None],
+            None,
+            true,
+        )),
+    ),
+    (
+        "get disk.image /notes notes.txt @5",
+        Some((
+            Task::Get,
+            true,
+            [
+                Some("/notes"),
+                Some("notes.txt"),
+                Some("@5"),
+                None,
+                None,
+                None,
+            ],
+            None,
+            false,
+        )),
+    ),
+    (
+        "serve answers orders --history 16",
+        Some((
+            Task::Serve,
+            false,
+            [None, None, None, Some("answers"), Some("orders"), None],
+            Some(16),
+            false,
+        )),
+    ),
+    (
+        "format --part disk.part",
+        Some((
+            Task::FormatPart,
+            false,
+            [None, None, None, None, None, Some("disk.part")],
+            None,
+            false,
+        )),
+    ),
+    (
+        "serve --part=disk.part",
+        Some((
+            Task::ServePart,
+            false,
+            [None, None, None, None, None, Some("disk.part")],
+            None,
+            false,
+        )),
+    ),
+    ("format", None),
+    ("format x --part disk.part", None),
+    ("serve answers", None),
+    ("serve a o --part disk.part", None),
+];
+
+/// Words that are parted by spaces.
+fn words_of(alloc: Global, line: &str) -> Result<Vec<String>, AllocError> {
+    let mut words = Vec::new(alloc);
+    for word in line.split(' ') {
+        words.push(String::from_str(alloc, word)?)?;
+    }
+    Ok(words)
+}
+
+fn looked_at<'a>(job: &Job<'a>) -> Looked<'a> {
+    let names = [
+        job.path,
+        job.file,
+        job.view,
+        job.answers,
+        job.orders,
+        job.part,
+    ];
+    let history = if job.is_history_given {
+        Some(job.history)
+    } else {
+        None
+    };
+    (
+        job.command,
+        job.image.is_some(),
+        names,
+        history,
+        job.progress,
+    )
+}
+
+/// Whether words ask for this.
+fn is_asked(
+    alloc: Global,
+    line: &str,
+    wanted: Option<Looked<'static>>,
+) -> Result<bool, AllocError> {
+    let words = words_of(alloc, line)?;
+    let asked = job(alloc, words.as_slice()).ok();
+    Ok(match (asked, wanted) {
+        (Some(job), Some(wanted)) => looked_at(&job) == wanted,
+        (None, None) => true,
+        _ => false,
+    })
+}
 
 #[test]
 fn words_are_read_as_a_job(rt: HostRuntime) -> Result<(), Fail> {
-    let mut words: Vec<String> = Vec::new(rt.alloc());
-    for word in ["format", "disk.image", "--blocks", "64"] {
-        words.push(String::from_str(rt.alloc(), word)?)?;
-    }
+    let words = words_of(rt.alloc(), "format disk.image --blocks 64")?;
     let wanted = Job {
         command: Task::Format,
         image: Some("disk.image"),
@@ -38,82 +152,8 @@ fn words_are_read_as_a_job(rt: HostRuntime) -> Result<(), Fail> {
         salvage: false,
     };
     assert_eq!(rt; job(rt.alloc(), words.as_slice()).ok(), Some(wanted));
-    Ok(())
-}
-
-#[test]
-fn words_more_are_as_given(rt: HostRuntime) -> Result<(), Fail> {
-    let mut words: Vec<String> = Vec::new(rt.alloc());
-    for word in ["put", "disk.image", "notes.txt", "/notes", "--progress"] {
-        words.push(String::from_str(rt.alloc(), word)?)?;
+    for (line, wanted) in ROWS {
+        assert!(rt; is_asked(rt.alloc(), line, wanted)?, "{line}");
     }
-    let asked = job(rt.alloc(), words.as_slice()).ok();
-    assert_eq!(rt; asked.map(|job| job.command), Some(Task::Put));
-    assert_eq!(rt; asked.and_then(|job| job.path), Some("/notes"));
-    assert_eq!(rt; asked.and_then(|job| job.file), Some("notes.txt"));
-    assert_eq!(rt; asked.map(|job| job.progress), Some(true));
-    Ok(())
-}
-
-#[test]
-fn a_view_is_as_given(rt: HostRuntime) -> Result<(), Fail> {
-    let mut words: Vec<String> = Vec::new(rt.alloc());
-    for word in ["get", "disk.image", "/notes", "notes.txt", "@5"] {
-        words.push(String::from_str(rt.alloc(), word)?)?;
-    }
-    let asked = job(rt.alloc(), words.as_slice()).ok();
-    assert_eq!(rt; asked.map(|job| job.command), Some(Task::Get));
-    assert_eq!(rt; asked.and_then(|job| job.path), Some("/notes"));
-    assert_eq!(rt; asked.and_then(|job| job.file), Some("notes.txt"));
-    assert_eq!(rt; asked.and_then(|job| job.view), Some("@5"));
-    Ok(())
-}
-
-#[test]
-fn the_streams_of_a_driver_are_as_given(rt: HostRuntime) -> Result<(), Fail> {
-    let mut words: Vec<String> = Vec::new(rt.alloc());
-    for word in ["serve", "answers", "orders", "--history", "16"] {
-        words.push(String::from_str(rt.alloc(), word)?)?;
-    }
-    let asked = job(rt.alloc(), words.as_slice()).ok();
-    assert_eq!(rt; asked.map(|job| job.command), Some(Task::Serve));
-    assert_eq!(rt; asked.and_then(|job| job.answers), Some("answers"));
-    assert_eq!(rt; asked.and_then(|job| job.orders), Some("orders"));
-    assert_eq!(rt; asked.map(|job| job.is_history_given), Some(true));
-    assert_eq!(rt; asked.map(|job| job.history), Some(16));
-    Ok(())
-}
-
-/// The task and the file of a part that words ask for, and whether they name an image.
-fn part_asked(alloc: Global, words: &[&str]) -> Result<Option<(Task, bool, bool)>, Fail> {
-    let mut all: Vec<String> = Vec::new(alloc);
-    for word in words {
-        all.push(String::from_str(alloc, word)?)?;
-    }
-    let asked = job(alloc, all.as_slice()).ok();
-    Ok(asked.map(|job| (
-        job.command,
-        job.part == Some("disk.part"),
-        job.image.is_some(),
-    )))
-}
-
-#[test]
-fn a_part_takes_the_place_of_an_image_or_of_a_driver(rt: HostRuntime) -> Result<(), Fail> {
-    let alloc = rt.alloc();
-    let made = part_asked(alloc, &["format", "--part", "disk.part"])?;
-    assert_eq!(rt; made, Some((Task::FormatPart, true, false)));
-    let served = part_asked(alloc, &["serve", "--part=disk.part"])?;
-    assert_eq!(rt; served, Some((Task::ServePart, true, false)));
-    assert_eq!(rt; part_asked(alloc, &["format"])?, None);
-    assert_eq!(rt;
-        part_asked(alloc, &["format", "x", "--part", "disk.part"])?,
-        None
-    );
-    assert_eq!(rt; part_asked(alloc, &["serve", "answers"])?, None);
-    assert_eq!(rt;
-        part_asked(alloc, &["serve", "a", "o", "--part", "disk.part"])?,
-        None
-    );
     Ok(())
 }

@@ -1,6 +1,7 @@
 //! Nodes written to a flash and read back.
 use bad_blocks::BadBlocks;
-use flash_model::{FaultKind, Geometry, PlannedFault, SimFlash};
+use flash_model::{FaultKind, Geometry, PlannedFault};
+use flash_simulation::SimFlash;
 use fs_types::Fault;
 use node_cache::NodeCache;
 use node_store::{Nodes, Storage, Store};

@@ -2,7 +2,7 @@
 use Rattle.std.proofs.Common.{◌≡◌, List, inl, inr, sym, subst}
 use Rattle.fs_types.specs.Names.{Path}
 use Rattle.fs_types.specs.declared.event.Event.{Event}
-use Rattle.flash_model.specs.declared.sim_flash.SimFlash.{SimFlash}
+use Rattle.flash_simulation.specs.declared.sim_flash.SimFlash.{SimFlash}
 use Rattle.host_files.specs.Files.{Held}
 use Rattle.host_files.specs.Sources.{Found}
 use Rattle.image_jobs.specs.declared.failure.Failure.{Failure}

@@ -9,8 +9,8 @@ use Rattle.fs_types.specs.Names.{Path, path_refusal}
 use Rattle.fs_types.specs.declared.event.Answer.{Answer}
 use Rattle.fs_types.specs.declared.event.Event.{Event}
 use Rattle.flash_model.specs.Reading.{OnlyReads}
-use Rattle.flash_model.specs.Simulation.{device_of}
-use Rattle.flash_model.specs.declared.sim_flash.SimFlash.{SimFlash}
+use Rattle.flash_simulation.specs.Simulation.{device_of}
+use Rattle.flash_simulation.specs.declared.sim_flash.SimFlash.{SimFlash}
 use Rattle.flash_image.specs.Images.{image_of}
 use Rattle.system.specs.Mounts.{IsMountOf}
 use Rattle.system.specs.Systems.{IsSystem}

@@ -1,8 +1,8 @@
 -- Files of the host that are put into an image, all in one change group.
 use Rattle.std.specs.Prelude.{◌≡◌, ◌⊎◌, ℕ, Bool, true, false, if◌then◌else◌, Option, Some, None, Ok, Err, IfSome, List, [], ◌∷◌, is_some, ◌++◌, Contains, ◌&&◌, ◌||◌}
 use Rattle.fs_types.specs.Names.{Path}
-use Rattle.flash_model.specs.Simulation.{device_of}
-use Rattle.flash_model.specs.declared.sim_flash.SimFlash.{SimFlash}
+use Rattle.flash_simulation.specs.Simulation.{device_of}
+use Rattle.flash_simulation.specs.declared.sim_flash.SimFlash.{SimFlash}
 use Rattle.image_jobs.specs.Failures.{of_system, of_refusal}
 use Rattle.host_files.specs.Files.{Held, AreBytesRead}
 use Rattle.script_runs.specs.Scripts.{IsUnmounted}

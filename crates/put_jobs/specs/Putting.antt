@@ -1,8 +1,8 @@
 -- How files of the host are put into the file of an image.
 use Rattle.std.specs.Prelude.{◌≡◌, ◌⊎◌, ℕ, Bool, false, Option, Result, Ok, Err, List}
 use Rattle.fs_types.specs.Names.{Path}
-use Rattle.flash_model.specs.Simulation.{device_of}
-use Rattle.flash_model.specs.declared.sim_flash.SimFlash.{SimFlash}
+use Rattle.flash_simulation.specs.Simulation.{device_of}
+use Rattle.flash_simulation.specs.declared.sim_flash.SimFlash.{SimFlash}
 use Rattle.flash_image.specs.Images.{image_of}
 use Rattle.image_jobs.specs.Images.{IsSpelledFlash, LoadCause, IsUnclaimed, SavesChange, ChangeUnsaved}
 use Rattle.host_files.specs.Files.{Held}

@@ -5,7 +5,7 @@ use Rattle.fs_types.specs.Names.{Path}
 use Rattle.fs_types.specs.declared.event.Answer.{Answer}
 use Rattle.fs_types.specs.declared.event.Event.{Event}
 use Rattle.flash_model.specs.Device.{Device}
-use Rattle.flash_model.specs.Simulation.{device_of}
+use Rattle.flash_simulation.specs.Simulation.{device_of}
 use Rattle.system.specs.declared.systems.System.{System}
 use Rattle.undofs.specs.Sessions.{Serves}
 use Rattle.image_jobs.specs.Failures.{of_refusal}

@@ -1,7 +1,7 @@
 //! Files of the host are put into an image.
 ghost use Rattle.std.specs.Prelude.{◌≡◌, ◌⊎◌, ◌++◌, false, List, IfSome, IfOk, OnOk, IfErr, map};
-ghost use Rattle.flash_model.specs.Simulation.{device_of};
-ghost use Rattle.flash_model.specs.declared.sim_flash.SimFlash.{SimFlash};
+ghost use Rattle.flash_simulation.specs.Simulation.{device_of};
+ghost use Rattle.flash_simulation.specs.declared.sim_flash.SimFlash.{SimFlash};
 ghost use Rattle.system.specs.Systems.{IsSystem};
 ghost use Rattle.host_files.specs.Files.{KeepsOthers, ReadsClaimed, takes_away};
 ghost use Rattle.put_jobs.specs.Puts.{Is, IsNever, stop_of, stop_of_reply, refused_by, is_mkdir, makes_directory, is_due, group_start, PutsBy, PutCause, PlaceCause, FoundCause};
@@ -21,7 +21,7 @@ use crate::place::place_of;
 use crate::refused::tell_stopped;
 use crate::thing::thing_of;
 use crate::trim::trim_made;
-use flash_model::SimFlash;
+use flash_simulation::SimFlash;
 use fs_types::{Answer, Call, Event, Fault, Path, Reply, Stat};
 use host_files::{ImageFiles, Source, Sources, takes_away};
 use image_jobs::{Failure, SourceFault, flash_of, save_changed, take_image};

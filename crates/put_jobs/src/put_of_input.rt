@@ -1,7 +1,7 @@
 //! The input is put into an image, as a file.
 ghost use Rattle.std.specs.Prelude.{◌≤◌, ℕ, Option, List, vec_len, IfOk, IfErr, IfSome};
-ghost use Rattle.flash_model.specs.Simulation.{device_of};
-ghost use Rattle.flash_model.specs.declared.sim_flash.SimFlash.{SimFlash};
+ghost use Rattle.flash_simulation.specs.Simulation.{device_of};
+ghost use Rattle.flash_simulation.specs.declared.sim_flash.SimFlash.{SimFlash};
 ghost use Rattle.system.specs.Systems.{IsSystem};
 ghost use Rattle.host_files.specs.Files.{KeepsOthers, ReadsClaimed};
 ghost use Rattle.image_jobs.specs.Images.{DecodeCause, host_at};
@@ -14,7 +14,8 @@ ghost use Rattle.fs_types.specs.declared.limits.TheConstants.{MAX_FILE_BYTES};
 use crate::input::read_input;
 use crate::put::{Mounted, begin_group, end_group, told_path};
 use crate::refused::tell_event;
-use flash_model::{Flash, SimFlash};
+use flash_model::Flash;
+use flash_simulation::SimFlash;
 use fs_types::{Bytes, Call, Event, MAX_FILE_BYTES, Path};
 use host_files::ImageFiles;
 use image_jobs::{Failure, flash_of, save_changed, take_image};

@@ -1,8 +1,8 @@
 //! Lots of things that are known, put into an image.
 ghost use Rattle.std.specs.Prelude.{◌≡◌, IfOk, IfErr, IfSome};
 ghost use Rattle.std.specs.List.{flat_map};
-ghost use Rattle.flash_model.specs.Simulation.{device_of};
-ghost use Rattle.flash_model.specs.declared.sim_flash.SimFlash.{SimFlash};
+ghost use Rattle.flash_simulation.specs.Simulation.{device_of};
+ghost use Rattle.flash_simulation.specs.declared.sim_flash.SimFlash.{SimFlash};
 ghost use Rattle.system.specs.Systems.{IsSystem};
 ghost use Rattle.host_files.specs.Files.{KeepsOthers, ReadsClaimed};
 ghost use Rattle.image_jobs.specs.Failures.{of_refusal};
@@ -13,7 +13,7 @@ ghost use Rattle.put_jobs.specs.Groups.{WritesBy, WriteCause, EventsEnd, PutsLot
 ghost use Rattle.put_jobs.specs.Served.{place};
 
 use crate::put::{Mounted, begin_group, end_group, put_ready};
-use flash_model::SimFlash;
+use flash_simulation::SimFlash;
 use host_files::ImageFiles;
 use image_jobs::{Failure, flash_of, save_changed, take_image};
 use job_messages::tell_refusal;

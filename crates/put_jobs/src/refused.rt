@@ -1,6 +1,6 @@
 //! What is told of the events of a put, where they are refused.
 ghost use Rattle.std.specs.Prelude.{IfSome};
-ghost use Rattle.flash_model.specs.Simulation.{device_of};
+ghost use Rattle.flash_simulation.specs.Simulation.{device_of};
 ghost use Rattle.system.specs.Systems.{IsSystem};
 
 use crate::put::{Mounted, ask_all};

@@ -1,6 +1,6 @@
 //! What nothing keeps is erased, once a put has made a version.
 ghost use Rattle.std.specs.Prelude.{IfSome};
-ghost use Rattle.flash_model.specs.Simulation.{device_of};
+ghost use Rattle.flash_simulation.specs.Simulation.{device_of};
 ghost use Rattle.system.specs.Systems.{IsSystem};
 ghost use Rattle.put_jobs.specs.Served.{place, IsTrimmed, IsTrimmedWhere};
 

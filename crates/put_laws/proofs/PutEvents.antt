@@ -8,7 +8,7 @@ use Rattle.fs_types.specs.declared.call.Call.{Call}
 use Rattle.fs_types.specs.declared.call.Stat.{Stat}
 use Rattle.fs_types.specs.declared.call.View.{View}
 use Rattle.fs_types.specs.declared.event.Event.{Event}
-use Rattle.flash_model.specs.declared.sim_flash.SimFlash.{SimFlash}
+use Rattle.flash_simulation.specs.declared.sim_flash.SimFlash.{SimFlash}
 use Rattle.inquiries.specs.declared.items.Item.{Item}
 use Rattle.put_lots.specs.Lots.{lots_of}
 use Rattle.put_lots.specs.Things.{thing_events}

@@ -11,8 +11,8 @@ use Rattle.fs_types.specs.declared.fault.Fault.{Fault}
 use Rattle.plain_trees.specs.Trees.{Tree}
 use Rattle.plain_trees.proofs.Beneath.{None≢Some}
 use Rattle.flash_model.specs.Device.{Device}
-use Rattle.flash_model.specs.Simulation.{device_of}
-use Rattle.flash_model.specs.declared.sim_flash.SimFlash.{SimFlash}
+use Rattle.flash_simulation.specs.Simulation.{device_of}
+use Rattle.flash_simulation.specs.declared.sim_flash.SimFlash.{SimFlash}
 use Rattle.history_machine.specs.History.{Past, map_group, due_root}
 use Rattle.history_machine.specs.Machine.{Machine, mounted, next}
 use Rattle.working_state.specs.Seen.{tree_on}

@@ -7,9 +7,9 @@ use Rattle.fs_types.specs.declared.event.Event.{Event}
 use Rattle.plain_trees.specs.Trees.{Tree}
 use Rattle.history_machine.specs.History.{Past, changed}
 use Rattle.flash_model.specs.Device.{Device}
-use Rattle.flash_model.specs.Simulation.{device_of}
+use Rattle.flash_simulation.specs.Simulation.{device_of}
 use Rattle.flash_model.specs.declared.geometry.Geometry.{Geometry}
-use Rattle.flash_model.specs.declared.sim_flash.SimFlash.{SimFlash}
+use Rattle.flash_simulation.specs.declared.sim_flash.SimFlash.{SimFlash}
 use Rattle.mounting.specs.Saved.{saved_trees}
 use Rattle.host_files.specs.Files.{Held}
 use Rattle.host_files.specs.Sources.{Found}

@@ -1,12 +1,13 @@
 //! Bytes of a serial NOR part that are made of an image, and images made of them.
 ghost use Rattle.std.specs.Prelude.{◌≡◌, ◌≢◌, ◌⊎◌, IfOk, IfErr, OnOk};
 ghost use Rattle.fs_types.specs.declared.fault.Fault.{Fault};
-ghost use Rattle.flash_model.specs.Simulation.{device_of};
+ghost use Rattle.flash_simulation.specs.Simulation.{device_of};
 ghost use Rattle.host_files.specs.Files.{KeepsOthers};
 ghost use Rattle.raw_part.specs.Raws.{IsRaw};
 ghost use Rattle.raw_jobs.specs.Making.{RawCause, RawEnds, FromRawEnds, IsRawFile, RawFileCause, WritesImage};
 
-use flash_model::{Geometry, SimFlash};
+use flash_model::Geometry;
+use flash_simulation::SimFlash;
 use fs_types::Fault;
 use host_files::{FileFault, ImageFiles};
 use image_jobs::{Failure, claim, load, save_image, spare, write_image};

@@ -6,7 +6,7 @@ use Rattle.flash_model.specs.declared.geometry.Geometry.{Geometry}
 use Rattle.flash_model.specs.Contents.{PutsPage}
 use Rattle.flash_model.specs.Device.{Device, Page}
 use Rattle.flash_model.specs.Geometry.{IsGeometry, page_count}
-use Rattle.flash_model.specs.Simulation.{IsNew}
+use Rattle.flash_simulation.specs.Simulation.{IsNew}
 use Rattle.flash_image.specs.Images.{IsFresh}
 use Rattle.nor_part.specs.Layout.{page_in, part_sizes}
 use Rattle.raw_part.specs.Raws.{held_in, IsRawFlash}

@@ -1,13 +1,13 @@
 //! The flash that stands on a part.
 ghost use Rattle.std.specs.Prelude.{◌≡◌, ◌⊎◌, ◌↔◌, ◌+◌, ◌*◌, ◌≤◌, Err, IfOk, IfErr, length};
-ghost use Rattle.flash_model.specs.Contents.{IsWhole};
-ghost use Rattle.flash_model.specs.Simulation.{device_of};
-ghost use Rattle.flash_model.specs.Stored.{shown_page};
+ghost use Rattle.flash_model.specs.Contents.{IsWhole, shown_page};
+ghost use Rattle.flash_simulation.specs.Simulation.{device_of};
 ghost use Rattle.nor_part.specs.Layout.{mark_page, page_from, page_in};
 ghost use Rattle.nor_part.specs.Part as part;
 ghost use Rattle.raw_part.specs.Raws.{IsRawFlash, IsRawLength, held_in};
 
-use flash_model::{Geometry, PageView, SimFlash};
+use flash_model::{Geometry, PageView};
+use flash_simulation::SimFlash;
 use fs_types::Fault;
 use std::alloc::Global;
 

@@ -1,12 +1,13 @@
 //! The bytes of the part on which a flash stands.
 ghost use Rattle.std.specs.Prelude.{◌≡◌, ◌≢◌, ◌⊎◌, ◌↔◌, ◌+◌, ◌*◌, ◌<◌, ◌++◌, Err, IfOk, IfErr, OnOk};
 ghost use Rattle.flash_image.specs.Images.{parts};
-ghost use Rattle.flash_model.specs.Simulation.{device_of};
-ghost use Rattle.flash_model.specs.Stored.{shown_page};
+ghost use Rattle.flash_simulation.specs.Simulation.{device_of};
+ghost use Rattle.flash_model.specs.Contents.{shown_page};
 ghost use Rattle.nor_part.specs.Layout.{part_sizes};
 ghost use Rattle.raw_part.specs.Raws.{IsRaw, data_text, mark_text, part_page};
 
-use flash_model::{Flash, PageView, SimFlash};
+use flash_model::{Flash, PageView};
+use flash_simulation::SimFlash;
 use fs_types::Fault;
 use std::alloc::{AllocError, Global};
 

@@ -7,8 +7,7 @@ use Rattle.node_format.specs.Headers.{field, body_magic, body_header, IsNode}
 use Rattle.node_format.specs.Items.{Item}
 use Rattle.node_format.specs.Links.{Link}
 use Rattle.node_format.specs.declared.place.Place.TheVariants.{Dir}
-use Rattle.node_store.specs.Examining.{HasBodyHeader}
-use Rattle.node_store.specs.Fronts.{IsFront}
+use Rattle.nodes.specs.Parts.{HasBodyHeader, IsFront}
 use Rattle.block_trees.specs.Bodies.{index_of}
 use Rattle.block_trees.specs.Chains.{link_of}
 use Rattle.block_trees.specs.Reached.{Names}

@@ -10,9 +10,9 @@ use Rattle.block_trees.specs.Bodies.{Blocks}
 use Rattle.block_trees.specs.Chains.{link_of}
 use Rattle.block_trees.specs.Reached.{Reached}
 use Rattle.directory.specs.Depths.{HasDirectories, loud_of}
-use Rattle.node_store.specs.NodePages.{pages_for}
-use Rattle.node_store.specs.Words.{Looks}
-use Rattle.node_store.specs.declared.nodes.Nodes.{Ghosts}
+use Rattle.nodes.specs.PageCounts.{pages_for}
+use Rattle.nodes.specs.Words.{Looks}
+use Rattle.nodes.specs.declared.nodes.Nodes.{Ghosts}
 use Rattle.reclaim.specs.Calls.{HasReadAll}
 use Rattle.reclaim.specs.Passes.{Pass}
 use Rattle.reclaim.specs.Sound.{HoldsLink}

@@ -6,7 +6,7 @@ use Rattle.std.proofs.lemmas.Bool.{lt-ltb}
 use Rattle.fs_types.specs.Names.{Name}
 use Rattle.node_format.specs.Items.{Item, is_before}
 use Rattle.node_format.specs.Links.{Link, link_at, first_of}
-use Rattle.node_store.specs.Fronts.{IsFront}
+use Rattle.nodes.specs.Parts.{IsFront}
 use Rattle.block_trees.specs.Chains.{link_of}
 use Rattle.reclaim.specs.Looks.{may_follow, are_after}
 

@@ -9,7 +9,7 @@ use Rattle.fs_types.specs.declared.limits.TheConstants.{NODE_ENTRIES}
 use Rattle.node_format.specs.declared.headers.TheConstants.{SLOTS}
 use Rattle.node_format.specs.declared.place.Place.{Place}
 use Rattle.node_format.proofs.HeaderLaws.{field-take}
-use Rattle.node_store.specs.Fronts.{IsFront}
+use Rattle.nodes.specs.Parts.{IsFront}
 use Rattle.block_trees.specs.Bodies.{Blocks, index_of, pointer_of, data_of}
 use Rattle.block_trees.specs.Reached.{BodyNames}
 use Rattle.reclaim.specs.Looks.{body_of, NamesNodes, SlotsHold}

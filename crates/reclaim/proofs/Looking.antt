@@ -5,7 +5,7 @@ use Rattle.std.specs.Option.{option_map, option_map_or, option_eq}
 use Rattle.std.proofs.lemmas.Bool.{true≢false, cases_lt, and_parts, ltb-true, lt-ltb, eqb-true, ne_eqb}
 use Rattle.fs_types.specs.declared.fault.Fault.{Fault}
 use Rattle.fs_types.specs.declared.fault.Fault.TheVariants.{ReadFailed, PowerCut, NoMemory, Damaged}
-use Rattle.node_store.specs.Faults.{IsLookFault, IsReadFault}
+use Rattle.nodes.specs.Faults.{IsLookFault, IsReadFault}
 use Rattle.node_format.specs.Links.{Link}
 use Rattle.block_trees.specs.Bodies.{Blocks, index_of, pointer_of, data_of}
 use Rattle.block_trees.specs.Chains.{link_of, next_of}

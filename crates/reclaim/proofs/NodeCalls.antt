@@ -5,9 +5,9 @@ use Rattle.std.proofs.lemmas.Result.{IfErr-weaker}
 use Rattle.fs_types.specs.declared.fault.Fault.{Fault}
 use Rattle.fs_types.specs.declared.fault.Fault.TheVariants.{NoMemory, Damaged}
 use Rattle.block_trees.specs.Bodies.{Blocks}
-use Rattle.node_store.specs.Faults.{IsLookFault, IsReadFault}
-use Rattle.node_store.specs.Words.{Looks, LooksWithin}
-use Rattle.node_store.specs.declared.nodes.Nodes.{Ghosts}
+use Rattle.nodes.specs.Faults.{IsLookFault, IsReadFault}
+use Rattle.nodes.specs.Words.{Looks, LooksWithin}
+use Rattle.nodes.specs.declared.nodes.Nodes.{Ghosts}
 use Rattle.reclaim.specs.Calls.{LooksAtCost, MarksOn}
 use Rattle.reclaim.specs.Kinds.{Knows, HasAsked}
 use Rattle.reclaim.specs.Passes.{Pass, Advances, IsMarkFault}

@@ -6,8 +6,8 @@ use Rattle.node_format.specs.Headers.{IsNode}
 use Rattle.node_format.specs.Links.{Link}
 use Rattle.block_trees.specs.Bodies.{Blocks}
 use Rattle.block_trees.specs.Reached.{Reached, Names}
-use Rattle.node_store.specs.Words.{Looks}
-use Rattle.node_store.specs.declared.nodes.Nodes.{Ghosts}
+use Rattle.nodes.specs.Words.{Looks}
+use Rattle.nodes.specs.declared.nodes.Nodes.{Ghosts}
 use Rattle.reclaim.specs.Facts.{AreFacts}
 use Rattle.reclaim.specs.Heads.{IsNew, TakesNode, HeadsAreTold, longest, places_read}
 use Rattle.reclaim.specs.Levels.{GoesOn, Stands, AreLeveled}

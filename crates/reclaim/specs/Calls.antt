@@ -2,9 +2,9 @@
 use Rattle.std.specs.Prelude.{◌≡◌, ℕ, ◌+◌, ◌≤◌, Result, IfErr}
 use Rattle.std.specs.List.{sum_by}
 use Rattle.fs_types.specs.declared.fault.Fault.{Fault}
-use Rattle.node_store.specs.Faults.{IsLookFault}
-use Rattle.node_store.specs.Words.{Looks}
-use Rattle.node_store.specs.declared.nodes.Nodes.{Ghosts}
+use Rattle.nodes.specs.Faults.{IsLookFault}
+use Rattle.nodes.specs.Words.{Looks}
+use Rattle.nodes.specs.declared.nodes.Nodes.{Ghosts}
 use Rattle.reclaim.specs.Kinds.{Knows, HasAsked}
 use Rattle.reclaim.specs.Passes.{Pass, IsPass, IsFinished}
 use Rattle.reclaim.specs.Verified.{once_reads, once_pages}

@@ -6,7 +6,7 @@ use Rattle.std.specs.FinSet as set
 use Rattle.node_format.specs.Items.{Item}
 use Rattle.node_format.specs.declared.place.Place.{Place}
 use Rattle.node_format.specs.declared.place.Place.TheVariants.{Dir, File}
-use Rattle.node_store.specs.NodePages.{pages_for}
+use Rattle.nodes.specs.PageCounts.{pages_for}
 use Rattle.block_trees.specs.Bodies.{Blocks, index_of, pointer_of}
 use Rattle.block_trees.specs.Chains.{link_items}
 use Rattle.block_trees.specs.Reached.{BodyNames}

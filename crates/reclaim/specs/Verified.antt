@@ -12,8 +12,7 @@ use Rattle.block_trees.specs.Reached.{Reached}
 use Rattle.reclaim.specs.Sound.{HoldsLink, IsSoundNode, IsPlain}
 use Rattle.reclaim.specs.Tables.{HasSeen}
 use Rattle.node_format.specs.Headers.{body_header}
-use Rattle.node_store.specs.Examining.{most_pages}
-use Rattle.node_store.specs.NodePages.{pages_for}
+use Rattle.nodes.specs.PageCounts.{most_pages, pages_for}
 
 -- each root has a tree with linked bodies, on blocks of so many bytes
 abbrev pub AreRoots : ℕ → Blocks → List ℕ → Type 0

@@ -5,7 +5,7 @@ use Rattle.std.specs.Ordering.{nat_cmp}
 use Rattle.node_format.specs.Headers.{body_header}
 use Rattle.block_trees.specs.Bodies.{Blocks}
 use Rattle.directory.specs.Depths.{HasDirectories, loud_of}
-use Rattle.node_store.specs.declared.nodes.Nodes.{Ghosts}
+use Rattle.nodes.specs.declared.nodes.Nodes.{Ghosts}
 use Rattle.reclaim.specs.Calls.{HasReadAll}
 use Rattle.reclaim.specs.Heads.{HeadsAreTold}
 use Rattle.reclaim.specs.Levels.{AreLeveled}

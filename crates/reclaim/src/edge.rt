@@ -3,9 +3,9 @@ ghost use Rattle.std.specs.Prelude.{◌≡◌, ◌≢◌, ℕ, ◌+◌, ◌≤�
 ghost use Rattle.std.specs.Option.{option_map};
 ghost use Rattle.node_format.specs.Links.{Link, link_at};
 ghost use Rattle.block_trees.specs.Chains.{link_of};
-ghost use Rattle.node_store.specs.Fronts.{IsFront};
-ghost use Rattle.node_store.specs.Faults.{IsLookFault};
-ghost use Rattle.node_store.specs.Words.{LooksWithin};
+ghost use Rattle.nodes.specs.Parts.{IsFront};
+ghost use Rattle.nodes.specs.Faults.{IsLookFault};
+ghost use Rattle.nodes.specs.Words.{LooksWithin};
 ghost use Rattle.reclaim.specs.Looks as spec;
 ghost use Rattle.fs_types.specs.declared.limits.TheConstants.{MAX_NAME_BYTES};
 
@@ -13,7 +13,7 @@ use crate::fronts::brings_front;
 use arrayvec::ArrayVec;
 use fs_types::{Fault, MAX_NAME_BYTES};
 use node_format::{Entries, EntryList, first_name};
-use node_store::Nodes;
+use nodes::Nodes;
 
 /// What a node of a directory says to the node after it: its last name, none where it has no entry,
 /// and the block of that node, 0 where none comes.

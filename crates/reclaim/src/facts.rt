@@ -1,15 +1,15 @@
 //! All that a verification asks of a node.
 ghost use Rattle.std.specs.Prelude.{◌≡◌, ◌≢◌, ℕ, ◌+◌, ◌≤◌, Some, None, OnOk, IfOk, IfErr, IsErrOf};
-ghost use Rattle.node_store.specs.Examining.{most_pages};
-ghost use Rattle.node_store.specs.Faults.{IsReadFault};
-ghost use Rattle.node_store.specs.Words.{LooksWithin};
+ghost use Rattle.nodes.specs.PageCounts.{most_pages};
+ghost use Rattle.nodes.specs.Faults.{IsReadFault};
+ghost use Rattle.nodes.specs.Words.{LooksWithin};
 ghost use Rattle.reclaim.specs.Facts.{AreFacts};
 
 use crate::looks::{Parts, parts_in};
 use crate::named::{list_directories, list_names};
 use fs_types::Fault;
 use node_format::BODY_HEADER;
-use node_store::Examines;
+use nodes::Examines;
 use std::alloc::Global;
 
 /// The parts of a node, the blocks that it names, and those of them that it names as directories.

@@ -1,11 +1,11 @@
 //! The beginning of the node in a block.
 ghost use Rattle.std.specs.Prelude.{◌≡◌, ℕ, ◌+◌, ◌≤◌, true, false, List, Some, None, IfOk, IfErr};
-ghost use Rattle.node_store.specs.Faults.{IsLookFault};
-ghost use Rattle.node_store.specs.Words.{LooksWithin};
-ghost use Rattle.node_store.specs.Fronts.{IsFront};
+ghost use Rattle.nodes.specs.Faults.{IsLookFault};
+ghost use Rattle.nodes.specs.Words.{LooksWithin};
+ghost use Rattle.nodes.specs.Parts.{IsFront};
 
 use fs_types::Fault;
-use node_store::Nodes;
+use nodes::Nodes;
 
 /// Brings the beginning of the node in a block, for `fronted` to lend; false where there is none. Where
 /// the beginning of one is there but no whole node, what is brought may be anything.

@@ -4,7 +4,7 @@ ghost use Rattle.block_trees.specs.Reached.{Reached};
 ghost use Rattle.reclaim.specs.Passes.{Pass as Marking, IsPass, PassStays, PassMarks};
 ghost use Rattle.reclaim.specs.Sound.{SoundHasTrees, TreesAreSound, TreesHoldNodes};
 
-use node_store::Nodes;
+use nodes::Nodes;
 
 /// Where all that the roots of a pass reach keeps its nodes, the pass goes on; a finished one has
 /// marked exactly what its roots reach.

@@ -9,15 +9,15 @@ ghost use Rattle.block_trees.specs.Chains.{link_items};
 ghost use Rattle.reclaim.specs.Sound.{HoldsSlot, IsSoundBody};
 ghost use Rattle.reclaim.specs.Looks as spec;
 ghost use Rattle.reclaim.specs.Naming.{has_slot};
-ghost use Rattle.node_store.specs.Faults.{IsLookFault};
-ghost use Rattle.node_store.specs.Words.{LooksWithin};
+ghost use Rattle.nodes.specs.Faults.{IsLookFault};
+ghost use Rattle.nodes.specs.Words.{LooksWithin};
 
 use crate::edge::{Edge, edge_in, is_chained, may_go_on};
 use crate::fronts::brings_front;
 use crate::slots::{has_pointer, index_in, pointer_in, used_in};
 use fs_types::{Fault, MAX_FILE_BYTES};
 use node_format::{Entries, EntryList, Place, SLOTS};
-use node_store::Nodes;
+use nodes::Nodes;
 use std::alloc::{AllocError, Global};
 
 /// The index of the body node with this beginning, and how many data bytes it has. None where it is of

@@ -5,8 +5,8 @@ ghost use Rattle.node_format.specs.declared.headers.TheConstants.{SLOTS};
 ghost use Rattle.block_trees.specs.Bodies.{index_of, pointer_of};
 ghost use Rattle.block_trees.specs.Chains.{link_items, next_of};
 ghost use Rattle.block_trees.specs.Reached.{Names};
-ghost use Rattle.node_store.specs.Faults.{IsReadFault};
-ghost use Rattle.node_store.specs.Words.{LooksWithin};
+ghost use Rattle.nodes.specs.Faults.{IsReadFault};
+ghost use Rattle.nodes.specs.Words.{LooksWithin};
 ghost use Rattle.reclaim.specs.Facts.{AreNamed};
 ghost use Rattle.reclaim.specs.Kinds.{HoldsBodyNode, NamesBody, read_pages};
 ghost use Rattle.reclaim.specs.Naming.{place_names, item_names, place_heads, item_heads, place_directories, item_directories, next_names, slots_named, body_named};
@@ -15,7 +15,7 @@ ghost use Rattle.reclaim.specs.Tables.{NamesDirectory};
 use crate::slots::{has_pointer, index_in, pointer_in};
 use fs_types::Fault;
 use node_format::{Entries, EntryList, Place, SLOTS};
-use node_store::Nodes;
+use nodes::Nodes;
 use std::alloc::{AllocError, Global};
 
 /// The blocks that a node names, and those of them that it names as nodes of bodies.

@@ -6,8 +6,8 @@ ghost use Rattle.block_trees.specs.Bodies.{Blocks};
 ghost use Rattle.block_trees.specs.Reached.{Reached, Names};
 ghost use Rattle.block_trees.specs.Trees.{IsRoot};
 ghost use Rattle.node_format.specs.Headers.{body_header};
-ghost use Rattle.node_store.specs.Faults.{IsReadFault};
-ghost use Rattle.node_store.specs.Words.{LooksWithin};
+ghost use Rattle.nodes.specs.Faults.{IsReadFault};
+ghost use Rattle.nodes.specs.Words.{LooksWithin};
 ghost use Rattle.reclaim.specs.Calls.{LooksAtCost, MarksOn};
 ghost use Rattle.reclaim.specs.Kinds.{Knows};
 ghost use Rattle.reclaim.specs.MoreRoots.{AddsRoot};
@@ -16,7 +16,7 @@ ghost use Rattle.reclaim.specs.Passes.{IsMarked, IsPass, IsFinished, HasRead, Ha
 use crate::named::{Named, read_named};
 use allocator::{BlockSet, Marks};
 use fs_types::{ANCHORS, Fault};
-use node_store::Nodes;
+use nodes::Nodes;
 use std::alloc::Global;
 use std::marker::Model;
 

@@ -5,8 +5,8 @@ ghost use Rattle.node_format.specs.declared.place.Place.TheVariants.{Dir};
 ghost use Rattle.block_trees.specs.Laws.{IsShallow};
 ghost use Rattle.directory.specs.Depths.{AreQuiet};
 ghost use Rattle.directory.specs.Lookups.{LeadsToDirectories};
-ghost use Rattle.node_store.specs.Faults.{IsLookFault, IsReadFault};
-ghost use Rattle.node_store.specs.Words.{LooksWithin};
+ghost use Rattle.nodes.specs.Faults.{IsLookFault, IsReadFault};
+ghost use Rattle.nodes.specs.Words.{LooksWithin};
 ghost use Rattle.reclaim.specs.Calls.{LooksAtCost};
 ghost use Rattle.reclaim.specs.Passes.{IsPass, IsFinished, Advances, LacksNode};
 ghost use Rattle.reclaim.specs.Verified.{AreAllowed, HasCost, once_reads, once_pages, all_reads, all_pages};
@@ -23,7 +23,7 @@ use allocator::BlockSet;
 use directory::any_is_deeper;
 use fs_types::{ANCHORS, Fault, MAX_NAMES};
 use node_format::BODY_HEADER;
-use node_store::{Examines, Nodes};
+use nodes::{Examines, Nodes};
 use std::alloc::Global;
 
 // Whether a block is a data block.

@@ -1,5 +1,5 @@
 /// The fields of a payload between the sizes and the lists, as they are read.
-#[derive(Clone, Copy, Debug)]
+#[derive(Clone, Copy)]
 pub(crate) struct Front {
     pub(crate) limit: u16,
     pub(crate) cursor: u16,

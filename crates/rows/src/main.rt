@@ -5,18 +5,18 @@
 //! not give its replies is told with what it gave, and the status is 1.
 #![tactic(auto)]
 
+mod counted_nodes;
 mod error;
 mod look;
-mod nodes;
 mod row;
 mod runs;
 mod sight;
 mod tool_calls;
 
 use anyhow::{Context, Result};
+use counted_nodes::run_with_nodes;
 use error::RowError;
 use host_files::{HostFiles, ImageFiles};
-use nodes::run_with_nodes;
 use row::{Row, Side};
 use runs::{append_difference, run_on_flash, run_on_image, run_plain};
 use std::fs::File;

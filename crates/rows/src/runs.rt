@@ -5,7 +5,7 @@ use crate::row::{Row, Side};
 use crate::sight::Sight;
 use crate::tool_calls::append_given;
 use flash_image::decode;
-use flash_model::SimFlash;
+use flash_simulation::SimFlash;
 use fs_types::{Answer, Fault, Reply};
 use host_files::{Channels, Folders, ImageFiles, Parts, Sources};
 use plain_machine::{PlainMachine, Space};

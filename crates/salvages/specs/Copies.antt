@@ -2,11 +2,11 @@
 use Rattle.std.specs.Prelude.{◌≡◌, ℕ, ◌<◌, ◌≤◌, true, false, []}
 use Rattle.fs_types.specs.declared.limits.TheConstants.{ANCHORS}
 use Rattle.flash_model.specs.declared.geometry.Geometry.{Geometry}
-use Rattle.flash_model.specs.declared.sim_flash.SimFlash.{SimFlash}
+use Rattle.flash_simulation.specs.declared.sim_flash.SimFlash.{SimFlash}
 use Rattle.flash_model.specs.Geometry.{page_count}
 use Rattle.flash_model.specs.Device.{Device, erased, block_of}
 use Rattle.flash_model.specs.Plan.{plan_of_entries}
-use Rattle.flash_model.specs.Simulation.{device_of, plan_of}
+use Rattle.flash_simulation.specs.Simulation.{device_of, plan_of}
 
 -- a flash in memory of these sizes on which power is on, no block is worn and no fault is planned; nothing was asked of it
 pub record IsSure (sizes : Geometry) (flash : SimFlash) : Type 0 where

@@ -3,11 +3,12 @@ ghost use Rattle.std.specs.Prelude.{◌≡◌, ◌<◌, length, IfOk, OnOk, IfEr
 ghost use Rattle.flash_model.specs.Geometry.{IsGeometry, page_count};
 ghost use Rattle.flash_model.specs.Contents.{PutsPage};
 ghost use Rattle.flash_model.specs.Reading.{OnlyReads};
-ghost use Rattle.flash_model.specs.Simulation.{device_of, plan_of};
+ghost use Rattle.flash_simulation.specs.Simulation.{device_of, plan_of};
 ghost use Rattle.salvages.specs.Copies.{IsSure, HasDataOf, AreAnchorsErased};
 ghost use Rattle.salvages.specs.Causes.{ReadCause};
 
-use flash_model::{DevFault, Flash, PageState, PageView, SimFlash};
+use flash_model::{DevFault, Flash, PageState, PageView};
+use flash_simulation::SimFlash;
 use fs_types::{ANCHORS, Fault};
 use std::alloc::Global;
 

@@ -3,7 +3,7 @@ ghost use Rattle.std.specs.Prelude.{◌≡◌, ℕ, ◌+◌, ◌*◌, ◌^◌, �
 ghost use Rattle.fs_types.specs.declared.limits.TheConstants.{ANCHORS};
 ghost use Rattle.flash_model.specs.Device.{block_of};
 ghost use Rattle.flash_model.specs.Geometry.{IsGeometry};
-ghost use Rattle.flash_model.specs.Simulation.{device_of, plan_of};
+ghost use Rattle.flash_simulation.specs.Simulation.{device_of, plan_of};
 ghost use Rattle.record_format.specs.Payloads.{is_record, longest, written};
 ghost use Rattle.commit_pair.specs.Newest.{committed_on};
 ghost use Rattle.commit_pair.specs.Parts.{room};
@@ -11,7 +11,8 @@ ghost use Rattle.commit_pair.specs.Programming.{piece, Fills};
 ghost use Rattle.salvages.specs.Copies.{AreAnchorsErased, HasPagesOnly};
 ghost use Rattle.salvages.specs.Placing.{HasFirstPages};
 
-use flash_model::{Flash, Geometry, PageView, SimFlash};
+use flash_model::{Flash, Geometry, PageView};
+use flash_simulation::SimFlash;
 use record_format::{
     HEAD_SIZE, PageHead, Record, page_laws, payload_laws, write_page, write_payload,
 };

@@ -14,7 +14,8 @@ use crate::kept_records::{keep_record, list_lost_names, list_lost_serials, list_
 use crate::looks::find_lost;
 use crate::record_pages::put_record;
 use commit_pair::Anchors;
-use flash_model::{Flash, SimFlash};
+use flash_model::Flash;
+use flash_simulation::SimFlash;
 use fs_types::{CpName, Fault};
 use record_format::{OLD_FORMAT, Record};
 use std::alloc::Global;

@@ -12,8 +12,8 @@ use Rattle.fs_types.specs.declared.limits.TheConstants.{ANCHORS}
 use Rattle.fs_types.specs.declared.fault.Fault.{Fault}
 use Rattle.fs_types.specs.declared.fault.Fault.TheVariants.{NoAnchors, FlashFull, ReadFailed, PowerCut}
 use Rattle.flash_model.specs.Geometry.{IsGeometry}
-use Rattle.flash_model.specs.Simulation.{device_of, plan_of}
-use Rattle.flash_model.specs.declared.sim_flash.SimFlash.{SimFlash}
+use Rattle.flash_simulation.specs.Simulation.{device_of, plan_of}
+use Rattle.flash_simulation.specs.declared.sim_flash.SimFlash.{SimFlash}
 use Rattle.bad_blocks.specs.Mode.{bad_anchors}
 use Rattle.mounting.specs.Formats.{FormatCause, HaveFailed, LacksAnchors, LacksBlocks}
 use Rattle.system.specs.Mounts.{MountCause}

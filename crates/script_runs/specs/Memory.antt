@@ -1,7 +1,7 @@
 -- A script that is run on a flash in memory of its own.
 use Rattle.std.specs.Prelude.{◌≡◌, ◌⊎◌, ℕ, Result, List}
 use Rattle.fs_types.specs.declared.fault.Fault.{Fault}
-use Rattle.flash_model.specs.declared.sim_flash.SimFlash.{SimFlash}
+use Rattle.flash_simulation.specs.declared.sim_flash.SimFlash.{SimFlash}
 use Rattle.flash_model.specs.declared.geometry.Geometry.{Geometry}
 use Rattle.script_runs.specs.Flashes.{IsNewFlash, IsFormatOf, IsUnformatted}
 use Rattle.script_runs.specs.Plans.{FollowsPlan}

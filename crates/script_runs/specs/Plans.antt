@@ -2,10 +2,10 @@
 use Rattle.std.specs.Prelude.{◌≡◌, ◌+◌, ℕ, true, List, [], ◌∷◌, length, filter, Bool, Option, None, Some}
 use Rattle.flash_model.specs.Device.{Device}
 use Rattle.flash_model.specs.Plan.{Schedule, begun}
-use Rattle.flash_model.specs.Simulation.{device_of, plan_of}
+use Rattle.flash_simulation.specs.Simulation.{device_of, plan_of}
 use Rattle.flash_model.specs.declared.fault_kind.Operation.{Operation}
 use Rattle.flash_model.specs.declared.fault_kind.PlannedFault.{PlannedFault}
-use Rattle.flash_model.specs.declared.sim_flash.SimFlash.{SimFlash}
+use Rattle.flash_simulation.specs.declared.sim_flash.SimFlash.{SimFlash}
 
 -- a plan when operations of these classes have begun, in order: each takes from it what has come due
 abbrev pub begun_all : Schedule → List Operation → Schedule

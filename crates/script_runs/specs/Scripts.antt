@@ -14,9 +14,9 @@ use Rattle.fs_types.specs.declared.fault.Fault.TheVariants.{ReadFailed, PowerCut
 use Rattle.flash_model.specs.Device.{Device}
 use Rattle.flash_model.specs.Plan.{Schedule, planned, IsPlanFull}
 use Rattle.flash_model.specs.Reading.{OnlyReads}
-use Rattle.flash_model.specs.Simulation.{device_of, plan_of}
+use Rattle.flash_simulation.specs.Simulation.{device_of, plan_of}
 use Rattle.flash_model.specs.declared.fault_kind.FaultKind.{FaultKind}
-use Rattle.flash_model.specs.declared.sim_flash.SimFlash.{SimFlash}
+use Rattle.flash_simulation.specs.declared.sim_flash.SimFlash.{SimFlash}
 use Rattle.script.specs.Lines.{line_of}
 use Rattle.script.specs.Replies.{text_of}
 use Rattle.script.specs.Streams.{TakesLine, TakesPart, lines_of}

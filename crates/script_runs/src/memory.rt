@@ -4,7 +4,7 @@ ghost use Rattle.script_runs.specs.Scripts.{streams_at};
 
 use crate::following::format_as_planned;
 use crate::scripts::{ScriptFault, run_script};
-use flash_model::SimFlash;
+use flash_simulation::SimFlash;
 use script::{DEFAULT_SIZES, DEFAULT_VERSIONS};
 use std::alloc::Global;
 use std::io::{Read, Write};

@@ -1,7 +1,7 @@
 //! Images of the flashes that scripts begin on.
 use crate::scripts::Script;
 use flash_image::{decode, encode};
-use flash_model::SimFlash;
+use flash_simulation::SimFlash;
 use fs_types::Fault;
 use std::alloc::Global;
 use undofs::format;

@@ -2,7 +2,8 @@
 //! work on.
 use crate::texts::answer_of;
 use crate::trees::{Root, Walk, show_tree};
-use flash_model::{Flash, SimFlash};
+use flash_model::Flash;
+use flash_simulation::SimFlash;
 use fs_types::{Answer, Call, CpName, Event, Fault, MAX_FILE_BYTES, Reply};
 use plain_machine::{PlainMachine, Space};
 use script::{LineAnswer, print_answer};

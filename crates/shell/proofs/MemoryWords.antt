@@ -2,7 +2,7 @@
 use Rattle.std.proofs.Common.{◌≡◌, [], ◌∷◌, Some, codes, refl}
 use Rattle.clap.specs.Words.{fault_of}
 use Rattle.clap.proofs.OnLiterals.{clap_on_literals}
-use Rattle.jobs.specs.Grammar.{uffs}
+use Rattle.command_words.specs.Grammar.{uffs}
 use Rattle.jobs.specs.Jobs.{given}
 
 pub memory_fault : fault_of uffs (codes "memory" ∷ []) ≡ []

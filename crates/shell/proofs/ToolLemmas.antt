@@ -6,7 +6,7 @@ use Rattle.clap.specs.Words.{HasKind, Kinds, IsAmong, fault_of, kind_of}
 use Rattle.clap.specs.declared.error.Error.{Error}
 use Rattle.clap.specs.declared.error.kind.ErrorKind.{ErrorKind}
 use Rattle.fs_types.specs.declared.fault.Fault.{Fault}
-use Rattle.jobs.specs.Grammar.{uffs}
+use Rattle.command_words.specs.Grammar.{uffs}
 use Rattle.jobs.specs.Jobs.{SaysJob, given, has_no_image}
 use Rattle.jobs.specs.declared.tasks.Job.{Job}
 use Rattle.jobs.specs.declared.tasks.Task.{Task}

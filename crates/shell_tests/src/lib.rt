@@ -1,17 +1,22 @@
-//! Tests of scripts, sessions with restarts and cuts, and the program on files in memory.
+//! Tests of what a row cannot make: streams and files that fail, want of memory, sessions, flashes of other
+//! types, and images and folders as they are read.
 #![tactic(auto)]
 
 #[cfg(test)]
 mod counted_flash;
 #[cfg(test)]
+mod failing_files;
+#[cfg(test)]
+mod flashes;
+#[cfg(test)]
 mod flat_part;
 #[cfg(test)]
-mod programs;
+mod folders;
 #[cfg(test)]
-mod retries;
+mod images;
 #[cfg(test)]
-mod scripts;
+mod memory;
 #[cfg(test)]
 mod sessions;
 #[cfg(test)]
-mod shared_trees;
+mod streams;

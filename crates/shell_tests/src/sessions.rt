@@ -1,17 +1,13 @@
 //! Sessions of calls, steps of reclaiming and restarts, with ample memory: their whole logs.
-use crate::scripts::formatted;
-use flash_model::{FaultKind, Geometry, Planned, PlannedFault, SimFlash};
+use crate::flashes::{SIZES, formatted};
+use flash_model::{FaultKind, Planned, PlannedFault};
+use flash_simulation::SimFlash;
 use fs_types::{Answer, Event, Fault};
 use script::{Line, LineAnswer, print_answer, read_line};
 use std::alloc::Global;
+use std::process::Abort;
 use std::test::Fail;
 use undofs::{format, run_session};
-
-const SIZES: Geometry = Geometry {
-    page: 256,
-    pages: 16,
-    blocks: 32,
-};
 
 /// The event that a line of a script spells.
 fn event_of(alloc: Global, line: &str) -> Result<Event, Fault> {
@@ -174,42 +170,49 @@ const SESSIONS: [(Begin, &str, &str); 12] = [
     ),
 ];
 
-#[test]
-fn sessions_log_each_event(rt: HostRuntime) -> Result<(), Fail> {
+/// Asserts that each session has its log.
+fn assert_logs<R: Abort>(rt: &R, alloc: Global) -> Result<(), Fail> {
     for (begin, script, wanted) in SESSIONS {
-        let mut flash = begin.flash(rt.alloc())?;
-        let log = logged(rt.alloc(), &mut flash, script)?;
+        let mut flash = begin.flash(alloc)?;
+        let log = logged(alloc, &mut flash, script)?;
         assert_eq!(rt; log.as_str(), wanted, "{script}");
     }
     Ok(())
 }
 
-/// The first mount of a session does not put the power on; a restart does.
-#[test]
-fn a_session_follows_one_that_ended_in_a_cut(rt: HostRuntime) -> Result<(), Fail> {
-    let mut flash = formatted(rt.alloc(), SIZES, 8)?;
-    let log = logged(rt.alloc(), &mut flash, "mkdir /a\nsync\nmkdir /b\n")?;
+/// Asserts that the first mount of a session does not put the power on, which a restart does.
+fn assert_cut_before<R: Abort>(rt: &R, alloc: Global) -> Result<(), Fail> {
+    let mut flash = formatted(alloc, SIZES, 8)?;
+    let log = logged(alloc, &mut flash, "mkdir /a\nsync\nmkdir /b\n")?;
     assert_eq!(rt; log.as_str(), "mounted\nok\nok\nok\n");
     flash.plan_fault(1, FaultKind::EraseCutTorn)?;
-    let log = logged(rt.alloc(), &mut flash, "ls /\nmkdir /c\nls /\n")?;
+    let log = logged(alloc, &mut flash, "ls /\nmkdir /c\nls /\n")?;
     let wanted = "mounted\nentries 1 a/\nerr POWERCUT 24\nerr POWERCUT 24\n";
     assert_eq!(rt; log.as_str(), wanted);
-    let log = logged(rt.alloc(), &mut flash, "ls /\nrestart\nls /\n")?;
+    let log = logged(alloc, &mut flash, "ls /\nrestart\nls /\n")?;
     let wanted = "err POWERCUT 24\nunmounted\nmounted\nentries 1 a/\n";
     assert_eq!(rt; log.as_str(), wanted);
     Ok(())
 }
 
-#[test]
-fn answers_that_a_log_holds_stay(rt: HostRuntime) -> Result<(), Fail> {
-    let mut flash = formatted(rt.alloc(), SIZES, 8)?;
-    let mut log = Vec::new(rt.alloc());
+/// Asserts that answers which a log holds stay.
+fn assert_log_goes_on<R: Abort>(rt: &R, alloc: Global) -> Result<(), Fail> {
+    let mut flash = formatted(alloc, SIZES, 8)?;
+    let mut log = Vec::new(alloc);
     log.push(Answer::Unmounted)?;
     log.push(Answer::Refused(Fault::Busy))?;
-    let events = events_of(rt.alloc(), "mkdir /a\nrestart\n")?;
-    run_session(rt.alloc(), &mut flash, &events, &mut log)?;
-    let text = printed(rt.alloc(), log)?;
+    let events = events_of(alloc, "mkdir /a\nrestart\n")?;
+    run_session(alloc, &mut flash, &events, &mut log)?;
+    let text = printed(alloc, log)?;
     let wanted = "unmounted\nerr EBUSY 12\nmounted\nok\nmounted\n";
     assert_eq!(rt; text.as_str(), wanted);
     Ok(())
+}
+
+#[test]
+fn sessions_log_each_event(rt: HostRuntime) -> Result<(), Fail> {
+    let alloc = rt.alloc();
+    assert_logs(&rt, alloc)?;
+    assert_cut_before(&rt, alloc)?;
+    assert_log_goes_on(&rt, alloc)
 }

@@ -9,9 +9,8 @@ use Rattle.std.proofs.lemmas.Slice.Eq.{bytes_eq-Decides}
 use Rattle.std.proofs.Math.Nat.{lt_of_mul-lt-mul_right, lt-div-mul-add}
 use Rattle.std.proofs.Math.Seq.{take-add, take-length}
 use Rattle.plain_trees.specs.Contents.{same_bytes}
-use Rattle.node_store.specs.NodePages.{pages_for}
-use Rattle.node_store.specs.Parts.{pages_of_range}
-use Rattle.node_store.proofs.PartFaults.{fewer_pages}
+use Rattle.nodes.specs.PageCounts.{pages_for, pages_of_range}
+use Rattle.nodes.proofs.PageCountLaws.{fewer_pages}
 
 -- what was the same up to a place is so up to the end of a part that is the same
 pub so_far : (from to : ℕ) (xs ys part : List ℕ) → from ≤ to → take from xs ≡ take from ys → part ≡ take (to - from) (drop from xs) → same_bytes part (take (to - from) (drop from ys)) ≡ true → take to xs ≡ take to ys

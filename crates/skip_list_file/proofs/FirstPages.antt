@@ -3,9 +3,9 @@ use Rattle.std.proofs.Common.{◌≡◌, ℕ, suc, ◌+◌, ◌*◌, ◌<◌, �
 use Rattle.fs_types.specs.declared.fault.Fault.{Fault}
 use Rattle.fs_types.specs.declared.fault.Fault.TheVariants.{FlashFull, ReadOnly, ReadFailed, PowerCut, NoMemory}
 use Rattle.node_format.specs.Headers.{field, IsNode}
-use Rattle.node_store.specs.Faults.{IsLookFault, IsWriteFault}
-use Rattle.node_store.specs.Fronts.{IsFront}
-use Rattle.node_store.specs.FrontLaws.{front_at}
+use Rattle.nodes.specs.Faults.{IsLookFault, IsWriteFault}
+use Rattle.nodes.specs.Parts.{IsFront}
+use Rattle.nodes.specs.FrontLaws.{front_at}
 use Rattle.block_trees.specs.Bodies.{index_of, pointer_of}
 use Rattle.skip_list_file.specs.Writing.{IsWritingFault}
 use Rattle.skip_list_file.proofs.Chains.{body_at}

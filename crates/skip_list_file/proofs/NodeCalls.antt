@@ -4,10 +4,10 @@ use Rattle.std.proofs.Common.{refl, ap, arith}
 use Rattle.std.proofs.lemmas.Result.{IfErr-weaker}
 use Rattle.fs_types.specs.declared.fault.Fault.{Fault}
 use Rattle.fs_types.specs.declared.fault.Fault.TheVariants.{Damaged}
-use Rattle.node_store.specs.Faults.{IsLookFault, IsReadFault}
-use Rattle.node_store.specs.WordLaws.{looks_causes}
-use Rattle.node_store.specs.Words.{Looks, Works, LooksWithin, WorksWithin}
-use Rattle.node_store.specs.declared.nodes.Nodes.{Ghosts}
+use Rattle.nodes.specs.Faults.{IsLookFault, IsReadFault}
+use Rattle.nodes.specs.WordLaws.{looks_causes}
+use Rattle.nodes.specs.Words.{Looks, Works, LooksWithin, WorksWithin}
+use Rattle.nodes.specs.declared.nodes.Nodes.{Ghosts}
 use Rattle.skip_list_file.specs.Calls.{LooksAlong, WorksAlong}
 use Rattle.skip_list_file.specs.Reading.{HasDigits}
 use Rattle.skip_list_file.specs.Writing.{IsWritingFault}

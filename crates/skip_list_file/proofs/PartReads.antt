@@ -4,8 +4,8 @@ use Rattle.std.specs.Prelude.{max, OnOk}
 use Rattle.std.proofs.lemmas.List.{length-drop, drop-drop}
 use Rattle.fs_types.specs.declared.fault.Fault.{Fault}
 use Rattle.node_format.specs.Headers.{body_header, IsNode}
-use Rattle.node_store.specs.NodeLaws.{size_within}
-use Rattle.node_store.specs.Parts.{HasPart, LacksPart}
+use Rattle.nodes.specs.SizeLaws.{size_within}
+use Rattle.nodes.specs.Parts.{HasPart, LacksPart}
 use Rattle.block_trees.specs.Bodies.{index_of, data_of}
 use Rattle.skip_list_file.proofs.Chains.{body_at}
 

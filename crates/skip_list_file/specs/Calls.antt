@@ -1,9 +1,9 @@
 -- What a call along a chain asks of nodes: its reads are bounded by the binary digits of the index of the head.
 use Rattle.std.specs.Prelude.{◌≡◌, ℕ, ◌+◌, ◌≤◌, Result, OnOk, IfErr}
 use Rattle.fs_types.specs.declared.fault.Fault.{Fault}
-use Rattle.node_store.specs.Faults.{IsLookFault}
-use Rattle.node_store.specs.Words.{Looks, Works}
-use Rattle.node_store.specs.declared.nodes.Nodes.{Ghosts}
+use Rattle.nodes.specs.Faults.{IsLookFault}
+use Rattle.nodes.specs.Words.{Looks, Works}
+use Rattle.nodes.specs.declared.nodes.Nodes.{Ghosts}
 use Rattle.skip_list_file.specs.Reading.{HasDigits}
 use Rattle.skip_list_file.specs.Writing.{IsWritingFault}
 

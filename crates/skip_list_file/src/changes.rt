@@ -8,7 +8,7 @@ ghost use Rattle.block_trees.specs.Bodies.{head_index};
 ghost use Rattle.skip_list_file.specs.Calls.{WorksAlong};
 ghost use Rattle.skip_list_file.specs.Reading.{nodes_between, HoldsBody};
 ghost use Rattle.skip_list_file.specs.Writing as spec;
-ghost use Rattle.node_store.specs.Words.{Keeps};
+ghost use Rattle.nodes.specs.Words.{Keeps};
 ghost use Rattle.fs_types.specs.declared.limits.TheConstants.{MAX_FILE_BYTES};
 
 use crate::body::Body;
@@ -17,7 +17,7 @@ use crate::new_nodes::write_node;
 use crate::start::{Start, find_front, start_at};
 use fs_types::Fault;
 use node_format::BODY_HEADER;
-use node_store::Nodes;
+use nodes::Nodes;
 use std::alloc::Global;
 
 /// Writes the nodes of a changed body from its start on, in ascending order.

@@ -4,10 +4,9 @@ ghost use Rattle.node_format.specs.Headers.{body_header};
 ghost use Rattle.plain_trees.specs.Contents.{same_bytes};
 ghost use Rattle.block_trees.specs.Bodies as trees;
 ghost use Rattle.block_trees.specs.Bodies.{index_of, data_of, head_index, IsBody};
-ghost use Rattle.node_store.specs.Faults.{IsLookFault};
-ghost use Rattle.node_store.specs.Words.{LooksWithin};
-ghost use Rattle.node_store.specs.NodePages.{pages_for};
-ghost use Rattle.node_store.specs.Parts.{pages_of_range};
+ghost use Rattle.nodes.specs.Faults.{IsLookFault};
+ghost use Rattle.nodes.specs.Words.{LooksWithin};
+ghost use Rattle.nodes.specs.PageCounts.{pages_for, pages_of_range};
 ghost use Rattle.skip_list_file.specs.Calls.{LooksAlong};
 ghost use Rattle.skip_list_file.specs.Reading.{AsksPageEach, HoldsBody};
 
@@ -15,7 +14,7 @@ use crate::body::Body;
 use crate::range_reads::{capacity_in, find};
 use fs_types::Fault;
 use node_format::BODY_HEADER;
-use node_store::Peeks;
+use nodes::Peeks;
 use std::alloc::Global;
 
 /// Whether two slices have the same bytes.

@@ -5,8 +5,8 @@ ghost use Rattle.node_format.specs.BodyNodes.{HasSlot, IsBodySpelling};
 ghost use Rattle.node_format.specs.declared.headers.TheConstants.{SLOTS};
 ghost use Rattle.plain_trees.specs.Contents.{read_from};
 ghost use Rattle.block_trees.specs.Bodies.{head_index};
-ghost use Rattle.node_store.specs.Faults.{IsWriteFault};
-ghost use Rattle.node_store.specs.Words.{WorksWithin};
+ghost use Rattle.nodes.specs.Faults.{IsWriteFault};
+ghost use Rattle.nodes.specs.Words.{WorksWithin};
 ghost use Rattle.skip_list_file.specs.Calls.{LooksAlong, WorksAlong};
 ghost use Rattle.skip_list_file.specs.Writing as spec;
 ghost use Rattle.skip_list_file.specs.Writing.{IsWritingFault, ReadsKept};
@@ -16,7 +16,7 @@ use crate::old_nodes::read_kept;
 use crate::table::Table;
 use fs_types::Fault;
 use node_format::{BODY_HEADER, body_room};
-use node_store::Nodes;
+use nodes::Nodes;
 use std::alloc::Global;
 
 /// Puts the bytes that stand from `offset` on over those of a slice that stand from `start` on, where

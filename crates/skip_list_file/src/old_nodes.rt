@@ -7,14 +7,14 @@ ghost use Rattle.skip_list_file.specs.Calls.{LooksAlong};
 ghost use Rattle.skip_list_file.specs.Reading as spec;
 ghost use Rattle.skip_list_file.specs.Reading.{nodes_between, HoldsBody};
 ghost use Rattle.skip_list_file.specs.Writing.{HoldsOld, ReadsKept};
-ghost use Rattle.node_store.specs.Faults.{IsLookFault};
-ghost use Rattle.node_store.specs.Words.{LooksWithin};
+ghost use Rattle.nodes.specs.Faults.{IsLookFault};
+ghost use Rattle.nodes.specs.Words.{LooksWithin};
 
 use crate::body::Body;
 use crate::change::Change;
 use crate::range_reads::{copy_part, find, pointer_at};
 use fs_types::Fault;
-use node_store::Nodes;
+use nodes::Nodes;
 use std::alloc::Global;
 
 /// The blocks of the nodes that hold a body's bytes from a place on, the last one first: one read for

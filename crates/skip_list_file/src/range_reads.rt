@@ -7,16 +7,15 @@ ghost use Rattle.block_trees.specs.Bodies.{index_of, pointer_of, data_of, back, 
 ghost use Rattle.block_trees.specs.Bodies as trees;
 ghost use Rattle.skip_list_file.specs.Calls.{LooksAlong};
 ghost use Rattle.skip_list_file.specs.Reading as spec;
-ghost use Rattle.node_store.specs.Faults.{IsLookFault};
-ghost use Rattle.node_store.specs.Words.{LooksWithin};
-ghost use Rattle.node_store.specs.NodePages.{pages_for};
-ghost use Rattle.node_store.specs.Parts.{pages_of_range};
+ghost use Rattle.nodes.specs.Faults.{IsLookFault};
+ghost use Rattle.nodes.specs.Words.{LooksWithin};
+ghost use Rattle.nodes.specs.PageCounts.{pages_for, pages_of_range};
 
 use crate::body::Body;
 use fields::u32_at;
 use fs_types::{Bytes, Fault};
 use node_format::{BODY_HEADER, BodyNode, SLOTS};
-use node_store::Nodes;
+use nodes::Nodes;
 use std::alloc::Global;
 
 /// The fewest bytes that are taken for the beginning of a scan where they begin with a node's first byte.

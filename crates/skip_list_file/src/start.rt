@@ -11,7 +11,7 @@ use crate::old_nodes::list_blocks;
 use crate::range_reads::find;
 use crate::table::{Table, start_table};
 use fs_types::Fault;
-use node_store::Nodes;
+use nodes::Nodes;
 use std::alloc::Global;
 
 /// What the nodes of a changed body are written after: the index of the first of them, the head of

@@ -4,13 +4,13 @@ ghost use Rattle.block_trees.specs.Bodies.{back, IsChain, IsLinked};
 ghost use Rattle.node_format.specs.declared.headers.TheConstants.{SLOTS};
 ghost use Rattle.skip_list_file.specs.Reading.{AsksPageEach};
 ghost use Rattle.skip_list_file.specs.Writing as spec;
-ghost use Rattle.node_store.specs.Faults.{IsLookFault};
-ghost use Rattle.node_store.specs.Words.{LooksWithin};
+ghost use Rattle.nodes.specs.Faults.{IsLookFault};
+ghost use Rattle.nodes.specs.Words.{LooksWithin};
 
 use crate::range_reads::pointer_at;
 use fs_types::Fault;
 use node_format::SLOTS;
-use node_store::Nodes;
+use nodes::Nodes;
 
 /// The last block for each power of two: slot `x` is the block of the node of the greatest index
 /// below the next one that 2 to the `x` divides.

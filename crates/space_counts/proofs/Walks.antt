@@ -12,7 +12,7 @@ use Rattle.fs_types.specs.declared.fault.Fault.TheVariants.{Damaged}
 use Rattle.fs_types.specs.declared.limits.TheConstants.{ANCHORS}
 use Rattle.allocator.specs.Ring.{IsDataBlock}
 use Rattle.node_format.specs.Headers.{body_header}
-use Rattle.node_store.specs.Faults.{IsReadFault, IsLookFault}
+use Rattle.nodes.specs.Faults.{IsReadFault, IsLookFault}
 use Rattle.block_trees.specs.Bodies.{Blocks}
 use Rattle.block_trees.specs.Reached.{Reached, IsFirst, IsNamed}
 use Rattle.block_trees.specs.Trees.{IsRoot}

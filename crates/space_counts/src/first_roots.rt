@@ -2,14 +2,14 @@
 ghost use Rattle.std.specs.Prelude.{◌≡◌, ◌≢◌, ℕ, ◌+◌, ◌-◌, ◌≤◌, ◌<◌, [], ◌∷◌, ◌++◌, length, slice_index, Contains, OnOk, IfOk, IfErr};
 ghost use Rattle.block_trees.specs.Trees.{IsRoot};
 ghost use Rattle.node_format.specs.Headers.{body_header};
-ghost use Rattle.node_store.specs.Faults.{IsLookFault};
-ghost use Rattle.node_store.specs.Frames.{OnlyLooks};
+ghost use Rattle.nodes.specs.Faults.{IsLookFault};
+ghost use Rattle.nodes.specs.Frames.{OnlyLooks};
 ghost use Rattle.reclaim.specs.Verified.{AreRoots};
 ghost use Rattle.space_counts.specs.FirstRoots.{AreFirstRoots};
 ghost use Rattle.space_counts.specs.Walks.{IsWalked, ReadsOn};
 
 use fs_types::Fault;
-use node_store::Nodes;
+use nodes::Nodes;
 use reclaim::Pass;
 use std::alloc::Global;
 

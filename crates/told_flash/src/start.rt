@@ -3,14 +3,14 @@ ghost use Rattle.std.specs.Prelude.{◌≡◌, ◌⊎◌, ◌<◌, ◌^◌, ℕ,
 ghost use Rattle.std.specs.Io.KnownBytes.{Consumes};
 ghost use Rattle.byteorder.specs.Endian.{little_bytes};
 ghost use Rattle.flash_model.specs.Device.{Device};
-ghost use Rattle.flash_model.specs.Simulation.{device_of};
+ghost use Rattle.flash_simulation.specs.Simulation.{device_of};
 ghost use Rattle.flash_image.specs.Images.{image_of, HasImage, HoldsTheSame, IsFresh};
 ghost use Rattle.told_flash.specs.Starts.{start_text, IsStartFault};
 
 use crate::told_flash::ToldFlash;
 use fields::u64_at;
 use flash_image::{ImageFault, decode};
-use flash_model::SimFlash;
+use flash_simulation::SimFlash;
 use std::alloc::Global;
 use std::io;
 use std::io::Read;

@@ -1,6 +1,7 @@
 //! A flash whose driver is at the other end of two streams.
 use crate::driver::Driver;
-use flash_model::{DevFault, Flash, Geometry, PageState, SimFlash};
+use flash_model::{DevFault, Flash, Geometry, PageState};
+use flash_simulation::SimFlash;
 use mirrored_flash::Mirror;
 use std::io::{Read, Write};
 
@@ -24,7 +25,7 @@ pub struct ToldFlash<R, W> {
 
 impl<R, W> ToldFlash<R, W> {
     ghost use Rattle.std.specs.Prelude.{◌≡◌, true, false};
-    ghost use Rattle.flash_model.specs.Simulation.{device_of};
+    ghost use Rattle.flash_simulation.specs.Simulation.{device_of};
     ghost use Rattle.told_flash.specs.Drivers.{driver_answers, driver_orders, driver_lost};
     ghost use Rattle.told_flash.specs.Flashes.{told_device, driver_of};
 

@@ -1,8 +1,8 @@
 //! How much nodes of directories lead to.
 ghost use Rattle.std.specs.Prelude.{◌≡◌, ◌≢◌, ◌++◌, [], ℕ, ◌+◌, ◌≤◌, ◌<◌, List, length, slice_get, Some, None, OnOk, IfOk, IfErr};
 ghost use Rattle.std.specs.List.{flat_map};
-ghost use Rattle.node_store.specs.Faults.{IsLookFault};
-ghost use Rattle.node_store.specs.Frames.{OnlyLooks};
+ghost use Rattle.nodes.specs.Faults.{IsLookFault};
+ghost use Rattle.nodes.specs.Frames.{OnlyLooks};
 ghost use Rattle.block_trees.specs.Bodies.{Blocks};
 ghost use Rattle.block_trees.specs.Reached.{Reached};
 ghost use Rattle.reclaim.specs.Naming.{item_directories, next_names};
@@ -15,7 +15,7 @@ ghost use Rattle.tree_counts.specs.declared.tree_size.TreeSize.{TreeSize as Size
 use crate::tree_size::TreeSize;
 use fs_types::Fault;
 use node_format::{Entries, EntryList, Place};
-use node_store::{Nodes, brings};
+use nodes::{Nodes, brings};
 use std::alloc::{AllocError, Global};
 
 /// How much nodes of directories lead to, as far as it was found: over the entries of a node, the nodes

@@ -2,15 +2,15 @@
 ghost use Rattle.std.specs.Prelude.{◌≡◌, ℕ, ◌-◌, [], ◌∷◌, IfOk, IfErr};
 ghost use Rattle.block_trees.specs.Trees.{IsRoot, root_tree};
 ghost use Rattle.node_format.specs.Headers.{body_header};
-ghost use Rattle.node_store.specs.Faults.{IsLookFault};
-ghost use Rattle.node_store.specs.Frames.{OnlyLooks};
+ghost use Rattle.nodes.specs.Faults.{IsLookFault};
+ghost use Rattle.nodes.specs.Frames.{OnlyLooks};
 ghost use Rattle.tree_counts.specs.Sizes.{size_of};
 ghost use Rattle.tree_counts.specs.Counted.{ReadsOnce};
 
 use crate::node_sizes::{NodeSizes, size_from};
 use crate::tree_size::TreeSize;
 use fs_types::{CHAIN_NODES, Fault, MAX_NAMES};
-use node_store::Nodes;
+use nodes::Nodes;
 use std::alloc::Global;
 
 /// The most nodes of directories on a way from a root.

@@ -4,8 +4,8 @@ use Rattle.std.proofs.Common.{arith}
 use Rattle.fs_types.specs.declared.fault.Fault.{Fault}
 use Rattle.plain_trees.specs.Trees.{Tree}
 use Rattle.node_format.specs.Headers.{body_header}
-use Rattle.node_store.specs.Words.{Keeps, WorksWithin}
-use Rattle.node_store.specs.declared.nodes.Nodes.{Ghosts}
+use Rattle.nodes.specs.Words.{Keeps, WorksWithin}
+use Rattle.nodes.specs.declared.nodes.Nodes.{Ghosts}
 use Rattle.directory.specs.Trails.{IsChangeFault}
 use Rattle.tree_edits.specs.Roots.{IsNewRoot, IsApplied}
 

@@ -4,8 +4,8 @@ use Rattle.fs_types.specs.declared.fault.Fault.{Fault}
 use Rattle.fs_types.specs.declared.named_file.NamedFile.{NamedFile}
 use Rattle.fs_types.specs.Names.{Path, is_path}
 use Rattle.plain_trees.specs.Trees.{Tree}
-use Rattle.node_store.specs.Words as words
-use Rattle.node_store.specs.declared.nodes.Nodes.{Ghosts}
+use Rattle.nodes.specs.Words as words
+use Rattle.nodes.specs.declared.nodes.Nodes.{Ghosts}
 use Rattle.node_format.specs.Headers.{body_header}
 use Rattle.node_format.specs.Items.{is_place}
 use Rattle.node_format.specs.declared.place.Place.{Place}

@@ -2,7 +2,7 @@
 ghost use Rattle.std.specs.Prelude.{◌≡◌, ◌-◌, Ok};
 ghost use Rattle.node_format.specs.Headers.{body_header};
 ghost use Rattle.node_format.specs.declared.place.Place.TheVariants.{Dir};
-ghost use Rattle.node_store.specs.Words.{IsHeld, IsRoot};
+ghost use Rattle.nodes.specs.Words.{IsHeld, IsRoot};
 ghost use Rattle.tree_edits.specs.Edits.{IsEditable, ReadsFew, effect, source, edit_need};
 ghost use Rattle.tree_edits.specs.Roots.{IsApplied, tree_of};
 
@@ -11,7 +11,7 @@ use crate::files::{overwrite, put_empty, resize, write_file};
 use crate::many_files::write_files;
 use directory::{move_entry, put_directory, remove_entry};
 use fs_types::Fault;
-use node_store::Nodes;
+use nodes::Nodes;
 use std::alloc::Global;
 
 /// Applies an edit to the tree of a root, as what was looked up allows, and answers the new root. It

@@ -13,14 +13,14 @@ ghost use Rattle.directory.specs.Lookups.{look_up};
 ghost use Rattle.directory.specs.Trails.{IsTrail, IsChangeFault};
 ghost use Rattle.tree_edits.specs.Edits.{AreWritable, chosen, files_nodes};
 ghost use Rattle.tree_edits.specs.Roots.{IsApplied, tree_of, IsNewFile, AreNewFiles, IsLinked};
-ghost use Rattle.node_store.specs.Words.{IsHeld, IsRoot, Keeps, WorksWithin};
+ghost use Rattle.nodes.specs.Words.{IsHeld, IsRoot, Keeps, WorksWithin};
 ghost use Rattle.skip_list_file.specs.Writing.{IsWritingFault};
 
 use crate::files::write_body;
 use directory::{NamedPlace, Trail, put_entry, put_in_directory};
 use fs_types::{Fault, NamedFile, Path};
 use node_format::Place;
-use node_store::Nodes;
+use nodes::Nodes;
 use std::alloc::Global;
 
 /// The place of a file of these bytes: its body is written beside those that are there.

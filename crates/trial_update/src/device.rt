@@ -1,7 +1,7 @@
 //! A device with a cut that is to come: its update, its starts, and what it may show.
 use crate::shown::{Shown, look, tree};
 use crate::trial::{NewFile, Started, begin_update, keep, start};
-use flash_model::SimFlash;
+use flash_simulation::SimFlash;
 use std::alloc::Global;
 use undofs::{CpName, Fault, Flash, Fs, Geometry, Path, View, format};
 

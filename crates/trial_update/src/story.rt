@@ -2,7 +2,8 @@
 use crate::device::{MayShow, Names, boot, new_device, update};
 use crate::shown::Shown;
 use crate::trial::{NewFile, Started};
-use flash_model::{Counters, FaultKind, Planned, SimFlash};
+use flash_model::{Counters, FaultKind, Planned};
+use flash_simulation::SimFlash;
 use std::alloc::Global;
 use undofs::{Fault, Flash, Path};
 

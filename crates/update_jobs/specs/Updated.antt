@@ -2,8 +2,8 @@
 use Rattle.std.specs.Prelude.{◌≡◌, ◌⊎◌, ℕ, Option, Result, Ok, Err, List, take}
 use Rattle.std.specs.Io.KnownBytes.{Appends}
 use Rattle.flash_model.specs.Device.{Device}
-use Rattle.flash_model.specs.Simulation.{device_of}
-use Rattle.flash_model.specs.declared.sim_flash.SimFlash.{SimFlash}
+use Rattle.flash_simulation.specs.Simulation.{device_of}
+use Rattle.flash_simulation.specs.declared.sim_flash.SimFlash.{SimFlash}
 use Rattle.inquiries.specs.declared.asking.AskFault.{AskFault}
 use Rattle.updates.specs.Asked.{TellsUpdate, UpdateCause}
 use Rattle.image_jobs.specs.Images.{IsSpelledFlash, LoadCause}

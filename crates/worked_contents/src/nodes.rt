@@ -1,6 +1,7 @@
 //! Nodes as they are put on a flash, lawful or not.
 use fields::push_u32;
-use flash_model::{Flash, PageView, SimFlash};
+use flash_model::{Flash, PageView};
+use flash_simulation::SimFlash;
 use fs_types::Fault;
 use std::alloc::{AllocError, Global};
 

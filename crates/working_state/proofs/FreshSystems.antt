@@ -27,7 +27,8 @@ use Rattle.allocator.specs.Ring.{Ring, IsDataBlock, is_busy, free_count, IsNext}
 use Rattle.allocator.specs.RingLaws.{distance_earlier}
 use Rattle.node_store.specs.declared.storage.Storage.{Storage}
 use Rattle.node_store.specs.NodeLaws.{pages_for-most}
-use Rattle.node_store.specs.NodePages.{node_of, pages_for}
+use Rattle.node_store.specs.NodePages.{node_of}
+use Rattle.nodes.specs.PageCounts.{pages_for}
 use Rattle.node_store.specs.Fitting.{Fits, StillFits}
 use Rattle.node_store.specs.Storage as parts
 use Rattle.node_store.specs.Storage.{Evolved, Pays, Spends, Adds, unpaid}

@@ -1,5 +1,5 @@
 use Rattle.std.proofs.Common.{inl, inr, refl}
-use Rattle.flash_model.specs.Simulation.{device_of}
+use Rattle.flash_simulation.specs.Simulation.{device_of}
 use Rattle.archive_jobs.proofs.TarLemmas.{tar_written, tar_ended}
 use Rattle.archive_jobs.proofs.printing.tell_archive.Goals as goal
 

@@ -1,5 +1,5 @@
 use Rattle.std.proofs.Common.{◌∙◌, inl}
-use Rattle.flash_model.specs.Simulation.{device_of}
+use Rattle.flash_simulation.specs.Simulation.{device_of}
 use Rattle.copy_jobs.proofs.CopyLemmas.{limit_by, copied_by, stopped_by}
 use Rattle.copy_jobs.proofs.copying.copy_of.Goals as goal
 

@@ -2,7 +2,7 @@ use Rattle.std.proofs.Common.{ap, refl, subst, sym, ◌∙◌, arith}
 use Rattle.allocator.specs.BlockSet.{BlockSet}
 use Rattle.block_trees.specs.Bodies.{Blocks}
 use Rattle.directory.specs.Depths.{AreQuiet}
-use Rattle.node_store.specs.WordLaws.{looks_after, looks_wider, looks_answered, looks_refused, looks_idle}
+use Rattle.nodes.specs.WordLaws.{looks_after, looks_wider, looks_answered, looks_refused, looks_idle}
 use Rattle.std.proofs.lemmas.Result.{err_from_is_err_and}
 use Rattle.directory.proofs.Counting.{loud_le}
 use Rattle.directory.proofs.LevelNodes.{left_here, ends_here, way_begins, way_step, way_read, way_here, stays_put, among_put, loud_step, measure_falls}

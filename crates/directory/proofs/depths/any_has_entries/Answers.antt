@@ -1,7 +1,7 @@
 use Rattle.std.proofs.Common.{◌≡◌, ◌∙◌, sym, true, arith, ◌+◌, ◌≤◌, rules}
 use Rattle.std.specs.FinSet as set
 use Rattle.std.proofs.lemmas.Result.{err_from_is_err_and}
-use Rattle.node_store.specs.WordLaws.{looks_after, looks_wider, looks_answered, looks_refused}
+use Rattle.nodes.specs.WordLaws.{looks_after, looks_wider, looks_answered, looks_refused}
 use Rattle.directory.proofs.Counting.{one_here, count_few, count_most}
 use Rattle.directory.proofs.depths.any_has_entries.Goals as goal
 

@@ -4,7 +4,7 @@ use Rattle.std.proofs.lemmas.Nat.{mul-le}
 use Rattle.block_trees.specs.Bodies.{Blocks}
 use Rattle.block_trees.specs.Chains.{link_items}
 use Rattle.directory.specs.Depths.{AreNamedBy, AreQuiet, loud_of}
-use Rattle.node_store.specs.WordLaws.{looks_after, looks_wider, looks_answered, looks_refused, looks_idle}
+use Rattle.nodes.specs.WordLaws.{looks_after, looks_wider, looks_answered, looks_refused, looks_idle}
 use Rattle.directory.proofs.LevelNodes.{later_has}
 use Rattle.directory.proofs.Levels.{IsLevel, one_level_more, first_level, next_is_level, no_first_items, last_shallow, last_deeper, empty_shallow}
 use Rattle.std.proofs.lemmas.Result.{err_from_is_err_and, IfOk-weaker}

@@ -1,8 +1,8 @@
 use Rattle.std.proofs.Common.{◌≡◌, ◌≤◌, ◌+◌, ◌*◌, ℕ, true, List, length, Ok}
 use Rattle.std.specs.Prelude.{Contains}
 use Rattle.std.specs.FinSet as set
-use Rattle.node_store.specs.Faults.{IsLookFault}
-use Rattle.node_store.specs.Words.{LooksWithin}
+use Rattle.nodes.specs.Faults.{IsLookFault}
+use Rattle.nodes.specs.Words.{LooksWithin}
 use Rattle.directory.specs.Depths.{HasDirectories, loud_of}
 use Rattle.directory.proofs.Levels.{IsLevel}
 use Rattle.directory.proofs.depths.any_is_deeper.Given as goal

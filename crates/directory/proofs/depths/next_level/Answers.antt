@@ -2,11 +2,11 @@ use Rattle.std.proofs.Common.{◌≡◌, ◌+◌, ℕ, ap, subst, sym, ◌∙◌
 use Rattle.std.specs.FinSet as set
 use Rattle.allocator.specs.BlockSet.{BlockSet}
 use Rattle.std.proofs.lemmas.Result.{err_from_is_err_and}
-use Rattle.node_store.specs.Faults.{IsLookFault}
-use Rattle.node_store.specs.Words.{LooksWithin}
+use Rattle.nodes.specs.Faults.{IsLookFault}
+use Rattle.nodes.specs.Words.{LooksWithin}
 use Rattle.block_trees.specs.Bodies.{Blocks}
 use Rattle.directory.specs.Depths.{count_below, is_loud, AreQuiet, AreNamedBy}
-use Rattle.node_store.specs.WordLaws.{looks_after, looks_wider, looks_answered, looks_refused, looks_idle}
+use Rattle.nodes.specs.WordLaws.{looks_after, looks_wider, looks_answered, looks_refused, looks_idle}
 use Rattle.directory.proofs.Counting.{loud_few, loud_le, count_most}
 use Rattle.directory.proofs.LevelNodes.{IsLevelRead, level_begins, level_skips, level_step, level_more, all_named, later_has}
 use Rattle.directory.proofs.depths.next_level.Goals as goal

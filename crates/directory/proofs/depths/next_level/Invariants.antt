@@ -1,6 +1,6 @@
 use Rattle.std.proofs.Common.{◌≡◌, Ok}
-use Rattle.node_store.specs.Faults.{IsLookFault}
-use Rattle.node_store.specs.Words.{LooksWithin}
+use Rattle.nodes.specs.Faults.{IsLookFault}
+use Rattle.nodes.specs.Words.{LooksWithin}
 use Rattle.directory.specs.Depths.{count_below, is_loud}
 use Rattle.directory.proofs.LevelNodes.{IsLevelRead}
 use Rattle.directory.proofs.depths.next_level.Given as goal

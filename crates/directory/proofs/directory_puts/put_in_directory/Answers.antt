@@ -5,7 +5,7 @@ use Rattle.plain_trees.proofs.Needs.{nodes_for-le}
 use Rattle.node_format.specs.Items.{Item}
 use Rattle.block_trees.specs.Trees.{items_in}
 use Rattle.directory.specs.Puts.{count_missing, HasRoomFor, IsPutEach}
-use Rattle.node_store.specs.WordLaws.{works_after, works_looking, works_refused, works_wider}
+use Rattle.nodes.specs.WordLaws.{works_after, works_looking, works_refused, works_wider}
 use Rattle.directory.specs.Trails.{IsChangeFault}
 use Rattle.directory.proofs.TrailEdits.{write_refused}
 use Rattle.directory.proofs.NodeCalls.{look_refused}

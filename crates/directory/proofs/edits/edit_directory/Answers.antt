@@ -7,7 +7,7 @@ use Rattle.node_format.specs.Edits.{IsEdited}
 use Rattle.block_trees.specs.Trees.{entries_in, items_in}
 use Rattle.directory.specs.Counts.{written_nodes}
 use Rattle.directory.specs.Trails.{takes, IsChangeFault}
-use Rattle.node_store.specs.WordLaws.{works_after, works_looking, works_refused, works_wider}
+use Rattle.nodes.specs.WordLaws.{works_after, works_looking, works_refused, works_wider}
 use Rattle.directory.proofs.NodeCalls.{look_refused}
 use Rattle.directory.proofs.TrailEdits.{write_refused}
 use Rattle.directory.proofs.ListEdits.{takes_some, still_takes, lawful_few, full_tail, edit_done, nodes_written, written_most}

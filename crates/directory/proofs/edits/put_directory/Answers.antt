@@ -4,8 +4,8 @@ use Rattle.fs_types.specs.Names.{Path}
 use Rattle.block_trees.specs.Bodies.{Blocks}
 use Rattle.block_trees.specs.Chains.{link_of}
 use Rattle.node_format.specs.declared.place.Place.TheVariants.{Dir}
-use Rattle.node_store.specs.Words.{Keeps, WorksWithin}
-use Rattle.node_store.specs.Faults.{IsWriteFault}
+use Rattle.nodes.specs.Words.{Keeps, WorksWithin}
+use Rattle.nodes.specs.Faults.{IsWriteFault}
 use Rattle.directory.specs.declared.lookups.Found.TheVariants.{Missing}
 use Rattle.directory.specs.Lookups.{look_up}
 use Rattle.directory.specs.Trails.{has_room}
@@ -15,7 +15,7 @@ use Rattle.directory.proofs.NewDirectories.{rewritten_before}
 use Rattle.directory.proofs.TrailEdits.{look_later, trail_later, path_nodes-later, write_refused}
 use Rattle.directory.proofs.WrittenNodes.{empty_written, chained_is}
 use Rattle.directory.proofs.edits.put_directory.Goals as goal
-use Rattle.node_store.specs.WordLaws.{keeps_nodes, works_after}
+use Rattle.nodes.specs.WordLaws.{keeps_nodes, works_after}
 
 missing_below : (f : Blocks) (root : ℕ) (path : Path) → look_up f root path ≡ Ok (Missing false) → 0 < length path
 missing_below f root [] missing = absurd cc

@@ -1,11 +1,11 @@
 use Rattle.std.proofs.Common.{ℕ, List, Some, sym, subst, rules}
 use Rattle.fs_types.specs.Names.{Path}
-use Rattle.node_store.specs.Words.{Keeps}
+use Rattle.nodes.specs.Words.{Keeps}
 use Rattle.directory.specs.Trails.{TakesName, IsHeldTrail}
 use Rattle.directory.proofs.EditedPaths.{only_reaches}
 use Rattle.directory.proofs.TrailEdits.{room_taken}
 use Rattle.directory.proofs.edits.put_entry.Goals as goal
-use Rattle.node_store.specs.WordLaws.{keeps_nodes}
+use Rattle.nodes.specs.WordLaws.{keeps_nodes}
 
 pub rewrite_from-requires-clause-taken : goal.rewrite_from-requires-clause-taken
 rewrite_from-requires-clause-taken g c =

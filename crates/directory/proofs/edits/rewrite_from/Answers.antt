@@ -5,14 +5,14 @@ use Rattle.std.proofs.lemmas.List.{get_or_default}
 use Rattle.std.proofs.lemmas.Result.{err_from_is_err_and}
 use Rattle.fs_types.specs.Names.{Name}
 use Rattle.node_format.specs.declared.place.Place.TheVariants.{Dir}
-use Rattle.node_store.specs.Words.{Keeps}
+use Rattle.nodes.specs.Words.{Keeps}
 use Rattle.block_trees.specs.Trees.{entries_in, items_in}
 use Rattle.block_trees.specs.Rewritten.{IsDirectoryEdit, IsRewritten}
 use Rattle.directory.specs.Counts.{edit_nodes, read_nodes, path_nodes}
 use Rattle.directory.specs.Trails.{takes}
 use Rattle.directory.proofs.TrailEdits.{level_held, level_items, level_held_later, level_takes, rewritten_up, rewritten_last, path_nodes-last, path_nodes-linked, path_nodes-below, read_nodes-most}
 use Rattle.directory.proofs.edits.rewrite_from.Goals as goal
-use Rattle.node_store.specs.WordLaws.{keeps_nodes, works_after, works_wider}
+use Rattle.nodes.specs.WordLaws.{keeps_nodes, works_after, works_wider}
 
 pub edit_directory-requires-clause-held : goal.edit_directory-requires-clause-held
 edit_directory-requires-clause-held g c =

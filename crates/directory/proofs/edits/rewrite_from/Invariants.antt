@@ -1,7 +1,7 @@
 use Rattle.std.proofs.Common.{◌≡◌, Ok, true, false, ◌≤◌, drop}
 use Rattle.std.specs.Prelude.{slice_index}
 use Rattle.std.specs.Option.{is_some}
-use Rattle.node_store.specs.Words.{WorksWithin}
+use Rattle.nodes.specs.Words.{WorksWithin}
 use Rattle.node_format.specs.Items.{is_place}
 use Rattle.node_format.specs.declared.place.Place.TheVariants.{Dir}
 use Rattle.block_trees.specs.Rewritten.{IsRewritten}

@@ -2,7 +2,7 @@ use Rattle.std.proofs.Common.{◌≡◌, ◌+◌, ◌-◌, ◌*◌, ◌<◌, len
 use Rattle.std.proofs.lemmas.Result.{IfOk-weaker}
 use Rattle.fs_types.specs.declared.limits.TheConstants.{NODE_ENTRIES}
 use Rattle.plain_trees.specs.Trees.{nodes_for}
-use Rattle.node_store.specs.WordLaws.{works_after, works_idle, works_wider}
+use Rattle.nodes.specs.WordLaws.{works_after, works_idle, works_wider}
 use Rattle.directory.proofs.WrittenNodes.{no_group, one_group, first_group}
 use Rattle.directory.proofs.list_writes.write_list.Goals as goal
 

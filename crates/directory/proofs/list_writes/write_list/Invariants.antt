@@ -1,8 +1,8 @@
 use Rattle.std.proofs.Common.{◌≡◌, ◌+◌, ◌-◌, ◌*◌, ◌≤◌, ◌⊎◌, Ok, length, drop}
 use Rattle.fs_types.specs.declared.limits.TheConstants.{NODE_ENTRIES}
 use Rattle.plain_trees.specs.Trees.{nodes_for}
-use Rattle.node_store.specs.Faults.{IsWriteFault}
-use Rattle.node_store.specs.Words.{WorksWithin}
+use Rattle.nodes.specs.Faults.{IsWriteFault}
+use Rattle.nodes.specs.Words.{WorksWithin}
 use Rattle.directory.specs.Written.{PutsBefore}
 use Rattle.directory.proofs.list_writes.write_list.Given as goal
 

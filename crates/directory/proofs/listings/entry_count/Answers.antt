@@ -2,7 +2,7 @@ use Rattle.std.proofs.Common.{◌+◌, inl, inr, Err, ap, arith}
 use Rattle.std.proofs.lemmas.Bool.{eq-eqb, ne_eqb}
 use Rattle.std.proofs.lemmas.Result.{err_from_is_err_and}
 use Rattle.fs_types.specs.declared.fault.Fault.{Fault}
-use Rattle.node_store.specs.WordLaws.{looks_both, looks_after, looks_wider, looks_answered, looks_refused}
+use Rattle.nodes.specs.WordLaws.{looks_both, looks_after, looks_wider, looks_answered, looks_refused}
 use Rattle.directory.proofs.Sights.{refused_is}
 use Rattle.directory.proofs.Walks.{walk_most}
 use Rattle.directory.proofs.Listed.{counted_begun, counted_on, counted_all, none_first, none_on, read_on}

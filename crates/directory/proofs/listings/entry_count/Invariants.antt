@@ -1,7 +1,7 @@
 use Rattle.std.proofs.Common.{◌≡◌, ◌≤◌, ◌-◌, ◌+◌, ◌*◌, ℕ, List, length, Ok}
 use Rattle.fs_types.specs.declared.limits.TheConstants.{NODE_ENTRIES}
-use Rattle.node_store.specs.Faults.{IsReadFault}
-use Rattle.node_store.specs.Words.{LooksWithin}
+use Rattle.nodes.specs.Faults.{IsReadFault}
+use Rattle.nodes.specs.Words.{LooksWithin}
 use Rattle.block_trees.specs.Chains.{most_after}
 use Rattle.directory.specs.Seeking.{entries_along}
 use Rattle.directory.proofs.Walks.{IsWalk}

@@ -1,6 +1,6 @@
 use Rattle.std.proofs.Common.{◌≡◌, ◌-◌, ◌+◌, ℕ, List, Ok}
-use Rattle.node_store.specs.Faults.{IsReadFault}
-use Rattle.node_store.specs.Words.{LooksWithin}
+use Rattle.nodes.specs.Faults.{IsReadFault}
+use Rattle.nodes.specs.Words.{LooksWithin}
 use Rattle.block_trees.specs.Chains.{most_after}
 use Rattle.block_trees.specs.Trees.{names_of}
 use Rattle.directory.specs.Seeking.{entries_along}

@@ -1,5 +1,5 @@
 use Rattle.std.proofs.lemmas.Result.{err_from_is_err_and}
-use Rattle.node_store.specs.WordLaws.{looks_answered, looks_refused}
+use Rattle.nodes.specs.WordLaws.{looks_answered, looks_refused}
 use Rattle.directory.proofs.lookups.lookup.Goals as goal
 
 pub returns-in_err-found-clause-refused : goal.returns-in_err-found-clause-refused

@@ -2,7 +2,7 @@ use Rattle.std.proofs.Common.{◌≡◌, ◌+◌, Bool, true, false, Err, refl, 
 use Rattle.std.specs.Prelude.{not}
 use Rattle.std.proofs.lemmas.Result.{err_from_is_err_and}
 use Rattle.fs_types.specs.declared.fault.Fault.{Fault}
-use Rattle.node_store.specs.WordLaws.{looks_both, looks_after, looks_wider, looks_answered, looks_refused}
+use Rattle.nodes.specs.WordLaws.{looks_both, looks_after, looks_wider, looks_answered, looks_refused}
 use Rattle.fs_types.specs.declared.fault.Fault.TheVariants.{Damaged}
 use Rattle.directory.proofs.NodeCalls.{looks_refuse}
 use Rattle.directory.proofs.Sights.{begins, ends_found, ends_counted, ends_none, ends_alone, ends_long, goes_on, no_first, read_most, read_more, refused_is}

@@ -17,7 +17,7 @@ use Rattle.directory.specs.Moves.{IsEditedTwice, edited_twice_count}
 use Rattle.directory.specs.Reads.{IsReadTo}
 use Rattle.directory.specs.Trails.{takes, IsChangeFault}
 use Rattle.directory.specs.Written.{PutsDirectory}
-use Rattle.node_store.specs.WordLaws.{works_after, works_looking, works_refused, works_wider}
+use Rattle.nodes.specs.WordLaws.{works_after, works_looking, works_refused, works_wider}
 use Rattle.directory.proofs.TrailEdits.{write_refused}
 use Rattle.directory.proofs.NodeCalls.{look_refused}
 use Rattle.directory.proofs.ReadLists.{all_read}

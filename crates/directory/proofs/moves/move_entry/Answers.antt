@@ -6,7 +6,7 @@ use Rattle.std.specs.List.{sum_by}
 use Rattle.directory.specs.Counts.{nodes_in, edit_nodes, read_nodes}
 use Rattle.fs_types.specs.Names.{Name, Path, same_name}
 use Rattle.node_format.specs.declared.place.Place.TheVariants.{Dir}
-use Rattle.node_store.specs.Words.{Keeps}
+use Rattle.nodes.specs.Words.{Keeps}
 use Rattle.block_trees.specs.Trees.{entries_in, items_in}
 use Rattle.block_trees.specs.Rewritten.{IsDirectoryEdit, IsMoved}
 use Rattle.directory.specs.Trails.{IsHeldTrail, takes}
@@ -16,7 +16,7 @@ use Rattle.directory.proofs.TrailEdits.{first_is, level_takes, level_held_later}
 use Rattle.directory.proofs.Forks.{parted, fork_of}
 use Rattle.directory.proofs.Branches.{moved_up, level_along}
 use Rattle.directory.proofs.moves.move_entry.Goals as goal
-use Rattle.node_store.specs.WordLaws.{keeps_nodes, works_after, works_both, works_wider}
+use Rattle.nodes.specs.WordLaws.{keeps_nodes, works_after, works_both, works_wider}
 
 pub rewrite_fork-requires-clause-fork : goal.rewrite_fork-requires-clause-fork
 rewrite_fork-requires-clause-fork g c =

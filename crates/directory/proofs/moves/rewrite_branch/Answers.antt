@@ -1,7 +1,7 @@
 use Rattle.std.proofs.Common.{arith}
 use Rattle.directory.proofs.Branches.{branch_of}
 use Rattle.std.proofs.lemmas.Result.{err_from_is_err_and}
-use Rattle.node_store.specs.WordLaws.{works_wider, works_answered, works_idle, works_refused}
+use Rattle.nodes.specs.WordLaws.{works_wider, works_answered, works_idle, works_refused}
 use Rattle.directory.proofs.moves.rewrite_branch.Goals as goal
 
 pub returns-clause-branch : goal.returns-clause-branch

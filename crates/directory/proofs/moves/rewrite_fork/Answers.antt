@@ -8,7 +8,7 @@ use Rattle.directory.specs.Counts.{nodes_in, edit_nodes}
 use Rattle.fs_types.specs.Names.{Name, Path, same_name}
 use Rattle.node_format.specs.declared.place.Place.TheVariants.{Dir}
 use Rattle.node_format.specs.Items.{Item, named_place}
-use Rattle.node_store.specs.Words.{Keeps}
+use Rattle.nodes.specs.Words.{Keeps}
 use Rattle.block_trees.specs.Trees.{entries_in, items_in}
 use Rattle.block_trees.specs.Reached.{IsHeld}
 use Rattle.block_trees.specs.Rewritten.{IsSecondEdit, IsBranch, IsFreshChain, IsMoved}
@@ -18,7 +18,7 @@ use Rattle.directory.proofs.TrailEdits.{level_held, way_later, taken_later, path
 use Rattle.directory.proofs.Forks.{first_name}
 use Rattle.directory.proofs.Branches.{fork_room, gone_there}
 use Rattle.directory.proofs.moves.rewrite_fork.Goals as goal
-use Rattle.node_store.specs.WordLaws.{keeps_nodes, works_after, works_both, works_refused, works_wider}
+use Rattle.nodes.specs.WordLaws.{keeps_nodes, works_after, works_both, works_refused, works_wider}
 
 pub rewrite_branch-requires-2-clause-way : goal.rewrite_branch-requires-2-clause-way
 rewrite_branch-requires-2-clause-way g c =

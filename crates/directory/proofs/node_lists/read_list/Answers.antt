@@ -5,7 +5,7 @@ use Rattle.block_trees.specs.Bodies.{Blocks}
 use Rattle.block_trees.specs.Chains.{link_of, items_in}
 use Rattle.directory.specs.Counts.{read_nodes}
 use Rattle.directory.specs.Reads.{MayAppend, IsAppended, IsEnough, is_enough}
-use Rattle.node_store.specs.WordLaws.{looks_both, looks_after, looks_wider, looks_answered, looks_refused}
+use Rattle.nodes.specs.WordLaws.{looks_both, looks_after, looks_wider, looks_answered, looks_refused}
 use Rattle.directory.proofs.ReadLists.{GoesOn, may_begin, begins, may_go_on, goes_on, ends_enough, ends_last, nodes_read, one_more_read, first_read}
 use Rattle.directory.proofs.node_lists.read_list.Goals as goal
 

@@ -1,7 +1,7 @@
 use Rattle.std.proofs.Common.{◌-◌, Ok}
 use Rattle.fs_types.specs.declared.limits.TheConstants.{CHAIN_NODES}
-use Rattle.node_store.specs.Faults.{IsLookFault}
-use Rattle.node_store.specs.Words.{LooksWithin}
+use Rattle.nodes.specs.Faults.{IsLookFault}
+use Rattle.nodes.specs.Words.{LooksWithin}
 use Rattle.directory.proofs.ReadLists.{GoesOn}
 use Rattle.directory.proofs.node_lists.read_list.Given as goal
 

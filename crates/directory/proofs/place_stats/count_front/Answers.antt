@@ -1,6 +1,6 @@
 use Rattle.std.proofs.Common.{ℕ, Option, List, sym, ap, subst, ◌∙◌}
 use Rattle.std.specs.Option.{option_map_or}
-use Rattle.node_store.specs.Fronts.{IsFront}
+use Rattle.nodes.specs.Parts.{IsFront}
 use Rattle.directory.proofs.FrontReads.{front_says}
 use Rattle.directory.proofs.place_stats.count_front.Goals as goal
 

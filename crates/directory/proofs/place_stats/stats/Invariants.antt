@@ -1,5 +1,5 @@
 use Rattle.std.proofs.Common.{◌≡◌, ◌≤◌, ◌+◌, take, map}
-use Rattle.node_store.specs.Words.{Looks}
+use Rattle.nodes.specs.Words.{Looks}
 use Rattle.directory.specs.Places.{with_stat, nodes_of_all}
 use Rattle.directory.proofs.place_stats.stats.Given as goal
 

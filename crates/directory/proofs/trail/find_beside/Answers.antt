@@ -2,7 +2,7 @@ use Rattle.std.proofs.Common.{◌≡◌, length, sym, ap, ◌∙◌, arith}
 use Rattle.std.proofs.lemmas.Result.{IfOk-weaker, IfErr-weaker}
 use Rattle.directory.specs.Moves.{common}
 use Rattle.directory.specs.Beside.{parting}
-use Rattle.node_store.specs.WordLaws.{looks_wider}
+use Rattle.nodes.specs.WordLaws.{looks_wider}
 use Rattle.directory.proofs.BesidePaths.{beside, goes_beside}
 use Rattle.directory.proofs.trail.find_beside.Goals as goal
 

@@ -4,7 +4,7 @@ use Rattle.fs_types.specs.declared.fault.Fault.{Fault}
 use Rattle.fs_types.specs.declared.fault.Fault.TheVariants.{Damaged}
 use Rattle.block_trees.specs.Bodies.{Blocks}
 use Rattle.block_trees.specs.Chains.{chain}
-use Rattle.node_store.specs.WordLaws.{looks_after, looks_wider, looks_answered, looks_refused, looks_idle}
+use Rattle.nodes.specs.WordLaws.{looks_after, looks_wider, looks_answered, looks_refused, looks_idle}
 use Rattle.directory.proofs.NodeCalls.{looks_refuse}
 use Rattle.directory.proofs.Directories.{child_below}
 use Rattle.directory.specs.Lookups.{look_up, way_nodes}

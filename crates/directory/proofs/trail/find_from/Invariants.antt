@@ -1,5 +1,5 @@
 use Rattle.std.proofs.Common.{◌≡◌, ◌≤◌, ◌+◌, ℕ, length, drop, Ok}
-use Rattle.node_store.specs.Words.{LooksWithin}
+use Rattle.nodes.specs.Words.{LooksWithin}
 use Rattle.directory.specs.Lookups.{look_up, way_nodes, LeadsToDirectories, IsLookupFault}
 use Rattle.directory.specs.Trails.{IsWay}
 use Rattle.directory.proofs.Ways.{Goes}

@@ -1,4 +1,4 @@
-use Rattle.flash_model.specs.Simulation.{device_of}
+use Rattle.flash_simulation.specs.Simulation.{device_of}
 use Rattle.flash_image.proofs.Stops.{has_image}
 use Rattle.flash_image.proofs.Apart.{image-read, fault-found}
 use Rattle.flash_image.proofs.decoding.decode.Goals as goal

@@ -1,6 +1,6 @@
 use Rattle.std.proofs.Common.{◌≡◌, Bool, ◌*◌, ◌++◌, inr, ap, sym, ◌∙◌}
 use Rattle.std.proofs.lemmas.Result.{IfOk-weaker, MatchResult-weaker}
-use Rattle.flash_model.specs.Simulation.{device_of}
+use Rattle.flash_simulation.specs.Simulation.{device_of}
 use Rattle.flash_image.specs.Images.{parts, place_text, block_text, worn_text}
 use Rattle.flash_image.proofs.Filling.{block-fills, block-worn, block-spells}
 use Rattle.flash_image.proofs.decoding.read_block.Goals as goal

@@ -2,7 +2,7 @@ use Rattle.std.proofs.Common.{◌≡◌, ◌≢◌, ◌++◌, List, ℕ, [], inr
 use Rattle.std.proofs.lemmas.Result.{err_from_is_err_and}
 use Rattle.flash_model.specs.declared.geometry.Geometry.{Geometry}
 use Rattle.flash_model.specs.Device.{Device}
-use Rattle.flash_model.specs.Simulation.{device_of}
+use Rattle.flash_simulation.specs.Simulation.{device_of}
 use Rattle.flash_image.specs.Images.{header, blocks_text}
 use Rattle.flash_image.proofs.Magic.{sizes-end, not-empty}
 use Rattle.flash_image.proofs.Stops.{has_image, stops}

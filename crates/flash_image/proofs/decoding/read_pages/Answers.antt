@@ -1,8 +1,8 @@
 use Rattle.std.proofs.Common.{◌≡◌, ◌≤◌, ◌+◌, ◌*◌, ◌++◌, List, ℕ, ap, sym, refl, ◌∙◌, arith}
 use Rattle.flash_model.specs.declared.geometry.Geometry.{Geometry}
 use Rattle.flash_model.specs.Device.{Device}
-use Rattle.flash_model.specs.Stored.{shown_page}
-use Rattle.flash_model.specs.Simulation.{device_of}
+use Rattle.flash_model.specs.Contents.{shown_page}
+use Rattle.flash_simulation.specs.Simulation.{device_of}
 use Rattle.flash_image.specs.Images.{place_text}
 use Rattle.flash_image.proofs.Parts.{parts-none}
 use Rattle.flash_image.proofs.Filling.{put_page-fills, put_page-spells}

@@ -1,5 +1,5 @@
 use Rattle.std.proofs.Common.{◌≡◌, ◌*◌, ◌++◌}
-use Rattle.flash_model.specs.Simulation.{device_of, plan_of}
+use Rattle.flash_simulation.specs.Simulation.{device_of, plan_of}
 use Rattle.flash_image.specs.Images.{parts, place_text}
 use Rattle.flash_image.specs.Reading.{FillsPages}
 use Rattle.flash_image.proofs.decoding.read_pages.Given as goal

@@ -1,6 +1,6 @@
 use Rattle.std.proofs.Common.{◌≡◌, ◌<◌, ◌≤◌, ◌+◌, ◌*◌, ℕ, ap, ◌∙◌, length, arith}
 use Rattle.flash_model.specs.declared.geometry.Geometry.{Geometry}
-use Rattle.flash_model.specs.Simulation.{device_of}
+use Rattle.flash_simulation.specs.Simulation.{device_of}
 use Rattle.flash_image.specs.Images.{place_text, page_text}
 use Rattle.flash_image.proofs.Growing.{length-begun, length-grown, place_text-most}
 use Rattle.flash_image.proofs.Stops.{has_image}

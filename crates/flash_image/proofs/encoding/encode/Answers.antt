@@ -1,5 +1,5 @@
 use Rattle.std.proofs.Common.{◌++◌, List, ℕ, ap, ◌∙◌, refl}
-use Rattle.flash_model.specs.Simulation.{device_of}
+use Rattle.flash_simulation.specs.Simulation.{device_of}
 use Rattle.flash_image.specs.Images.{block_text, header}
 use Rattle.flash_image.proofs.Growing.{begun, grown}
 use Rattle.flash_image.proofs.encoding.encode.Goals as goal

@@ -1,7 +1,7 @@
 use Rattle.std.proofs.Common.{◌≡◌, ◌+◌, ℕ, ap, sym, ◌∙◌, length, arith}
 use Rattle.std.proofs.lemmas.List.{length-append}
 use Rattle.flash_model.specs.declared.geometry.Geometry.{Geometry}
-use Rattle.flash_model.specs.Simulation.{device_of}
+use Rattle.flash_simulation.specs.Simulation.{device_of}
 use Rattle.flash_image.specs.Images.{parts, block_text, header}
 use Rattle.flash_image.proofs.Texts.{length-header}
 use Rattle.flash_image.proofs.Growing.{length-begun, length-grown}

@@ -1,6 +1,6 @@
 use Rattle.std.proofs.Common.{◌++◌, ◌+◌, ◌*◌, List, ℕ, ap, sym, ◌∙◌, append_assoc}
 use Rattle.flash_model.specs.declared.geometry.Geometry.{Geometry}
-use Rattle.flash_model.specs.Simulation.{device_of}
+use Rattle.flash_simulation.specs.Simulation.{device_of}
 use Rattle.flash_image.specs.Images.{parts, place_text, page_text, worn_text}
 use Rattle.flash_image.proofs.Growing.{begun, grown}
 use Rattle.flash_image.proofs.encoding.push_block.Goals as goal

@@ -1,5 +1,5 @@
 use Rattle.std.proofs.Common.{inl}
-use Rattle.flash_model.specs.Simulation.{device_of}
+use Rattle.flash_simulation.specs.Simulation.{device_of}
 use Rattle.folder_jobs.specs.declared.copying.Copied.{Copied}
 use Rattle.folder_jobs.proofs.GetLemmas.{file_saved}
 use Rattle.folder_jobs.proofs.getting.copy_to.Goals as goal

@@ -1,4 +1,4 @@
-use Rattle.flash_model.specs.Simulation.{device_of, plan_of}
+use Rattle.flash_simulation.specs.Simulation.{device_of, plan_of}
 use Rattle.inquiry_jobs.proofs.planned.ask_as_planned.Given as goal
 
 abbrev pub ghosts-ask_from : goal.ghosts-ask_from

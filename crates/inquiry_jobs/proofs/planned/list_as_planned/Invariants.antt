@@ -1,4 +1,4 @@
-use Rattle.flash_model.specs.Simulation.{device_of, plan_of}
+use Rattle.flash_simulation.specs.Simulation.{device_of, plan_of}
 use Rattle.inquiry_jobs.proofs.planned.list_as_planned.Given as goal
 
 abbrev pub ghosts-list_from : goal.ghosts-list_from

@@ -1,9 +1,8 @@
 use Rattle.std.proofs.Common.{◌≡◌, ◌+◌, ◌*◌, ℕ, ap, subst, ◌∙◌, arith}
 use Rattle.std.proofs.lemmas.Nat.{mod_below}
 use Rattle.flash_model.specs.declared.geometry.Geometry.{Geometry}
-use Rattle.flash_model.specs.Contents.{PutsPage}
-use Rattle.flash_model.specs.Stored.{shown_page}
-use Rattle.flash_model.specs.Simulation.{device_of}
+use Rattle.flash_model.specs.Contents.{PutsPage, shown_page}
+use Rattle.flash_simulation.specs.Simulation.{device_of}
 use Rattle.mirrored_flash.proofs.Shown.{SetsBelow, SetsBelow-more, SetsBelow-own}
 use Rattle.mirrored_flash.proofs.shown_pages.set_pages.Goals as goal
 

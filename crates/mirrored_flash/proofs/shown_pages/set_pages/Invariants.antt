@@ -1,5 +1,5 @@
-use Rattle.flash_model.specs.Stored.{shown_page}
-use Rattle.flash_model.specs.Simulation.{device_of}
+use Rattle.flash_model.specs.Contents.{shown_page}
+use Rattle.flash_simulation.specs.Simulation.{device_of}
 use Rattle.mirrored_flash.proofs.Shown.{SetsBelow}
 use Rattle.mirrored_flash.proofs.shown_pages.set_pages.Given as goal
 

@@ -3,7 +3,7 @@ use Rattle.std.proofs.lemmas.Result.{err_from_is_err_and}
 use Rattle.node_store.specs.CachingLaws.{read_truthful, fetched, unfetched, fetched_truthful, fetched_room, fetched_bytes}
 use Rattle.node_store.specs.FittingLaws.{still_fits}
 use Rattle.std.proofs.Common.{ℕ, ◌+◌, ◌≤◌}
-use Rattle.node_store.specs.NodePages.{pages_for}
+use Rattle.nodes.specs.PageCounts.{pages_for}
 use Rattle.node_store.proofs.cached_reads.fetch_node.Goals as goal
 
 pub returns-in_err-node-clause-fetches : goal.returns-in_err-node-clause-fetches

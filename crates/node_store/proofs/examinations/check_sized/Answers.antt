@@ -2,7 +2,8 @@ use Rattle.std.proofs.Common.{◌≡◌, ◌+◌, ◌-◌, ◌<◌, ◌++◌, ta
 use Rattle.std.proofs.lemmas.Result.{err_from_is_err_and}
 use Rattle.flash_model.specs.declared.geometry.Geometry.{Geometry}
 use Rattle.flash_model.specs.Reading.{OnlyReads_on, OnlyReads_itself}
-use Rattle.node_store.specs.NodePages.{and_page, joined, pages_for, bytes_at}
+use Rattle.node_store.specs.NodePages.{and_page, joined, bytes_at}
+use Rattle.nodes.specs.PageCounts.{pages_for}
 use Rattle.node_store.specs.ReadingLaws.{Brings_on, no_next}
 use Rattle.node_store.proofs.Examined.{joined_next}
 use Rattle.node_store.proofs.examinations.check_sized.Goals as goal

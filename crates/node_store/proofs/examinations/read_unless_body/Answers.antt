@@ -5,7 +5,7 @@ use Rattle.flash_model.specs.declared.geometry.Geometry.{Geometry}
 use Rattle.flash_model.specs.Geometry.{IsGeometry}
 use Rattle.flash_model.specs.Reading.{OnlyReads_on}
 use Rattle.node_format.specs.Headers.{field, body_magic, body_header}
-use Rattle.node_store.specs.Examining.{HasBodyHeader}
+use Rattle.nodes.specs.Parts.{HasBodyHeader}
 use Rattle.node_store.specs.NodePages.{node_of}
 use Rattle.node_store.specs.ReadingLaws.{brings_wants}
 use Rattle.node_store.proofs.Examined.{first_asked, wants_on, node_stays, asked_on, header_on}

@@ -2,7 +2,7 @@ use Rattle.std.proofs.Common.{◌≡◌, ℕ, ◌+◌, ◌*◌, ◌<◌, ◌≤�
 use Rattle.std.proofs.lemmas.Result.{err_from_is_err_and}
 use Rattle.flash_model.specs.declared.flash.DevFault.TheVariants.{Failed}
 use Rattle.allocator.specs.Ring.{Ring, free_count}
-use Rattle.node_store.specs.NodePages.{pages_for}
+use Rattle.nodes.specs.PageCounts.{pages_for}
 use Rattle.node_store.specs.Writing.{WritesBlock}
 use Rattle.node_store.specs.Storage.{storage, Evolved, PassesBad, Pays}
 use Rattle.node_store.specs.StorageLaws.{took_good, took_bad, took_added, took_passed, pays_good, pays_bad, less_free}

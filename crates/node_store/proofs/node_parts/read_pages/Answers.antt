@@ -4,7 +4,8 @@ use Rattle.std.proofs.lemmas.Result.{err_from_is_err_and}
 use Rattle.flash_model.specs.declared.geometry.Geometry.{Geometry}
 use Rattle.flash_model.specs.Device.{bytes_of}
 use Rattle.flash_model.specs.Reading.{OnlyReads_on}
-use Rattle.node_store.specs.NodePages.{and_page, pages_for, joined}
+use Rattle.node_store.specs.NodePages.{and_page, joined}
+use Rattle.nodes.specs.PageCounts.{pages_for}
 use Rattle.node_store.specs.NodeLaws.{AreWhole, lawful_has_room, first_joined}
 use Rattle.node_store.specs.ReadingLaws.{Brings_on, no_next}
 use Rattle.node_store.proofs.PartBytes.{next_page, all_copied}

@@ -3,7 +3,8 @@ use Rattle.std.specs.Prelude.{min}
 use Rattle.std.proofs.lemmas.Result.{err_from_is_err_and}
 use Rattle.flash_model.specs.declared.geometry.Geometry.{Geometry}
 use Rattle.flash_model.specs.Reading.{OnlyReads_on}
-use Rattle.node_store.specs.NodePages.{and_page, pages_for, bytes_at}
+use Rattle.node_store.specs.NodePages.{and_page, bytes_at}
+use Rattle.nodes.specs.PageCounts.{pages_for}
 use Rattle.node_store.specs.ReadingLaws.{Brings_on, no_next, cut_next}
 use Rattle.node_store.proofs.node_reads.read_sized.Goals as goal
 

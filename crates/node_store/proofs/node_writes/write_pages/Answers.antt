@@ -2,7 +2,8 @@ use Rattle.std.proofs.Common.{◌≡◌, ℕ, ◌+◌, ◌-◌, ◌*◌, ◌<◌
 use Rattle.std.proofs.lemmas.Result.{err_from_is_err_and}
 use Rattle.std.proofs.lemmas.List.{take_at, take_rest}
 use Rattle.flash_model.specs.declared.geometry.Geometry.{Geometry}
-use Rattle.node_store.specs.NodePages.{page_bytes, pages_for}
+use Rattle.node_store.specs.NodePages.{page_bytes}
+use Rattle.nodes.specs.PageCounts.{pages_for}
 use Rattle.node_store.specs.WritingLaws.{IsWriting_start, program_next, all_written, program_fails, place_below, counts_once}
 use Rattle.node_store.proofs.node_writes.write_pages.Goals as goal
 use Rattle.node_store.proofs.node_writes.write_pages.Goals.{After-program}

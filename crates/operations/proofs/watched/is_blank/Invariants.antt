@@ -1,6 +1,6 @@
 use Rattle.std.proofs.Common.{◌≡◌, ℕ, ◌+◌, ◌*◌, ◌<◌}
 use Rattle.flash_model.specs.Device.{erased}
-use Rattle.flash_model.specs.Simulation.{device_of}
+use Rattle.flash_simulation.specs.Simulation.{device_of}
 use Rattle.operations.proofs.watched.is_blank.Given as goal
 
 abbrev pub invariant-loop-place : goal.invariant-loop-place

@@ -3,11 +3,10 @@ use Rattle.std.specs.Prelude.{IfSome}
 use Rattle.std.proofs.lemmas.List.{take_at}
 use Rattle.std.proofs.lemmas.Nat.{mul-le}
 use Rattle.flash_model.specs.declared.geometry.Geometry.{Geometry}
-use Rattle.flash_model.specs.Contents.{PutsPage}
+use Rattle.flash_model.specs.Contents.{PutsPage, page_of}
 use Rattle.flash_model.specs.Device.{Page}
 use Rattle.flash_model.specs.Geometry.{page_count}
-use Rattle.flash_model.specs.Simulation.{device_of}
-use Rattle.flash_model.specs.Stored.{page_of}
+use Rattle.flash_simulation.specs.Simulation.{device_of}
 use Rattle.part_file.specs.Layout.{data_place}
 use Rattle.part_file.specs.Pages.{HasPage}
 use Rattle.part_file.specs.Parts.{sizes_of, backing_of}

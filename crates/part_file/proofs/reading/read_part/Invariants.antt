@@ -1,5 +1,5 @@
 use Rattle.std.proofs.Common.{◌≡◌, length}
-use Rattle.flash_model.specs.Simulation.{device_of}
+use Rattle.flash_simulation.specs.Simulation.{device_of}
 use Rattle.part_file.specs.Parts.{sizes_of, backing_of}
 use Rattle.part_file.proofs.PagesRead.{HasRead}
 use Rattle.part_file.proofs.reading.read_part.Given as goal

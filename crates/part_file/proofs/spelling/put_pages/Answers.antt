@@ -1,10 +1,9 @@
 use Rattle.std.proofs.Common.{◌≡◌, ◌<◌, ◌+◌, ℕ, List, length, refl, sym, ap, subst, ◌∙◌, arith}
 use Rattle.flash_model.specs.declared.geometry.Geometry.{Geometry}
-use Rattle.flash_model.specs.Contents.{IsWhole}
+use Rattle.flash_model.specs.Contents.{IsWhole, shown_page}
 use Rattle.flash_model.specs.Device.{Page}
 use Rattle.flash_model.specs.Geometry.{page_count}
-use Rattle.flash_model.specs.Simulation.{device_of}
-use Rattle.flash_model.specs.Stored.{shown_page}
+use Rattle.flash_simulation.specs.Simulation.{device_of}
 use Rattle.part_file.specs.Pages.{IsPart, page_put}
 use Rattle.part_file.proofs.BlankParts.{blank_is}
 use Rattle.part_file.proofs.Putting.{first_pages, first_above, first_more, put_length, whole_page}

@@ -1,5 +1,5 @@
 use Rattle.std.proofs.Common.{◌≡◌, length}
-use Rattle.flash_model.specs.Simulation.{device_of}
+use Rattle.flash_simulation.specs.Simulation.{device_of}
 use Rattle.part_file.specs.Pages.{IsPart}
 use Rattle.part_file.proofs.Putting.{first_pages}
 use Rattle.part_file.proofs.spelling.put_pages.Given as goal

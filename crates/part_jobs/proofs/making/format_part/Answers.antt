@@ -1,5 +1,5 @@
 use Rattle.std.proofs.Common.{inr, subst}
-use Rattle.flash_model.specs.Simulation.{device_of}
+use Rattle.flash_simulation.specs.Simulation.{device_of}
 use Rattle.host_files.specs.Files.{Held, KeepsOthers}
 use Rattle.part_jobs.specs.Making.{WritesPart}
 use Rattle.part_jobs.proofs.making.format_part.Goals as goal

@@ -1,5 +1,5 @@
 use Rattle.std.proofs.Common.{◌≡◌, rules, ap, sym, subst}
-use Rattle.flash_model.specs.Simulation.{device_of}
+use Rattle.flash_simulation.specs.Simulation.{device_of}
 use Rattle.node_store.specs.Fitting.{Fits}
 use Rattle.node_store.specs.declared.storage.Storage.{Storage}
 use Rattle.part_tests.proofs.stores.a_node_is_written_past_a_block_that_fails.Goals as goal

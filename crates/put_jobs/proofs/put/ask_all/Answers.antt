@@ -1,5 +1,5 @@
 use Rattle.std.proofs.Common.{◌∙◌, sym, refl}
-use Rattle.flash_model.specs.Simulation.{device_of}
+use Rattle.flash_simulation.specs.Simulation.{device_of}
 use Rattle.put_jobs.specs.Served.{place}
 use Rattle.put_jobs.proofs.PutLemmas.{asks_next, asks_all, asks_halted}
 use Rattle.put_jobs.proofs.put.ask_all.Goals as goal

@@ -1,6 +1,6 @@
 use Rattle.std.proofs.Common.{take}
 use Rattle.std.specs.Prelude.{IfSome}
-use Rattle.flash_model.specs.Simulation.{device_of}
+use Rattle.flash_simulation.specs.Simulation.{device_of}
 use Rattle.system.specs.Systems.{IsSystem}
 use Rattle.put_jobs.specs.Served.{place, ServesAll}
 use Rattle.put_jobs.proofs.put.ask_all.Given as goal

@@ -1,6 +1,6 @@
 use Rattle.std.specs.List.{flat_map}
 use Rattle.std.specs.Prelude.{IfSome}
-use Rattle.flash_model.specs.Simulation.{device_of}
+use Rattle.flash_simulation.specs.Simulation.{device_of}
 use Rattle.system.specs.Systems.{IsSystem}
 use Rattle.put_lots.specs.Things.{thing_events}
 use Rattle.put_jobs.specs.Served.{place, ServesAll}

@@ -1,5 +1,5 @@
 use Rattle.std.specs.Prelude.{IfSome}
-use Rattle.flash_model.specs.Simulation.{device_of}
+use Rattle.flash_simulation.specs.Simulation.{device_of}
 use Rattle.system.specs.Systems.{IsSystem}
 use Rattle.put_jobs.proofs.refused.tell_lot.Given as goal
 

@@ -1,4 +1,4 @@
-use Rattle.flash_model.specs.Simulation.{device_of}
+use Rattle.flash_simulation.specs.Simulation.{device_of}
 use Rattle.put_jobs.proofs.trim.trim.Goals as goal
 
 pub returns-clause-trims : goal.returns-clause-trims

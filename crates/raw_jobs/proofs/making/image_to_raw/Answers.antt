@@ -1,5 +1,5 @@
 use Rattle.std.proofs.Common.{inl, inr, refl, subst}
-use Rattle.flash_model.specs.Simulation.{device_of}
+use Rattle.flash_simulation.specs.Simulation.{device_of}
 use Rattle.host_files.specs.Files.{Held}
 use Rattle.raw_jobs.specs.Making.{WritesRaw}
 use Rattle.raw_jobs.proofs.Written.{raw_written}

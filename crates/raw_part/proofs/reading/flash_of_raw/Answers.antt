@@ -1,8 +1,7 @@
 use Rattle.std.proofs.Common.{◌≡◌, ◌*◌, ◌/◌, ◌≤◌, length, sym, subst, arith}
 use Rattle.flash_model.specs.declared.geometry.Geometry.{Geometry}
-use Rattle.flash_model.specs.Contents.{IsWhole}
-use Rattle.flash_model.specs.Simulation.{device_of}
-use Rattle.flash_model.specs.Stored.{shown_page}
+use Rattle.flash_model.specs.Contents.{IsWhole, shown_page}
+use Rattle.flash_simulation.specs.Simulation.{device_of}
 use Rattle.raw_part.proofs.Read.{one_read, all_read}
 use Rattle.nor_part.specs.Layout.{part_sizes}
 use Rattle.raw_part.proofs.reading.flash_of_raw.Goals as goal

@@ -1,5 +1,5 @@
 use Rattle.std.proofs.Common.{◌/◌, length}
-use Rattle.flash_model.specs.Simulation.{device_of}
+use Rattle.flash_simulation.specs.Simulation.{device_of}
 use Rattle.nor_part.specs.Layout.{part_sizes}
 use Rattle.raw_part.proofs.Read.{HasRead}
 use Rattle.raw_part.proofs.reading.flash_of_raw.Given as goal

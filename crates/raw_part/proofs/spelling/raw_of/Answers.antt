@@ -1,6 +1,6 @@
 use Rattle.std.proofs.Common.{◌≡◌, ap, arith}
 use Rattle.flash_model.specs.declared.geometry.Geometry.{Geometry}
-use Rattle.flash_model.specs.Simulation.{device_of}
+use Rattle.flash_simulation.specs.Simulation.{device_of}
 use Rattle.part_file.proofs.Putting.{whole_page}
 use Rattle.raw_part.proofs.Spelled.{sized, raw_is}
 use Rattle.raw_part.proofs.spelling.raw_of.Goals as goal

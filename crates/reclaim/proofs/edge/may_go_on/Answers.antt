@@ -1,9 +1,9 @@
 use Rattle.std.proofs.Common.{◌≡◌, ℕ, List, Some, None, refl, ap, subst, sym, ◌∙◌, arith}
 use Rattle.fields.proofs.Found.{found}
 use Rattle.fs_types.specs.Names.{Name}
-use Rattle.node_store.specs.Fronts.{IsFront}
+use Rattle.nodes.specs.Parts.{IsFront}
 use Rattle.std.proofs.lemmas.Result.{err_from_is_err_and}
-use Rattle.node_store.specs.WordLaws.{looks_wider, looks_answered, looks_idle}
+use Rattle.nodes.specs.WordLaws.{looks_wider, looks_answered, looks_idle}
 use Rattle.reclaim.specs.Looks.{may_follow}
 use Rattle.reclaim.proofs.Follows.{link_bytes}
 use Rattle.reclaim.proofs.Looking.{one_read}

@@ -1,7 +1,7 @@
 use Rattle.std.proofs.Common.{◌≢◌, ℕ, List, Option, Some, None, Ok, true, refl, sym, ap, subst, ◌∙◌, arith}
 use Rattle.std.specs.Prelude.{IfOk}
 use Rattle.std.proofs.lemmas.Result.{err_from_is_err_and, IfOk-weaker}
-use Rattle.node_store.specs.Faults.{IsReadFault}
+use Rattle.nodes.specs.Faults.{IsReadFault}
 use Rattle.reclaim.specs.Facts.{AreFacts}
 use Rattle.reclaim.proofs.BodyHeaders.{header_facts, header_there}
 use Rattle.reclaim.proofs.FrontNames.{has_bytes}

@@ -3,7 +3,7 @@ use Rattle.std.specs.Prelude.{IsTrue, slice_index}
 use Rattle.std.proofs.lemmas.Result.{IfOk-weaker}
 use Rattle.reclaim.specs.Looks.{index_reads, ArePartsOf, IsSoundAt, SlotsHold, NamesNodes, AreSoundParts}
 use Rattle.reclaim.proofs.FrontHeads.{slots_hold}
-use Rattle.node_store.specs.WordLaws.{looks_wider, looks_idle}
+use Rattle.nodes.specs.WordLaws.{looks_wider, looks_idle}
 use Rattle.reclaim.proofs.Looking.{parts_plain, parts_body}
 use Rattle.reclaim.proofs.looks.are_sound_parts.Goals as goal
 

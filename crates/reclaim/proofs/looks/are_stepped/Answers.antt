@@ -7,7 +7,7 @@ use Rattle.reclaim.specs.Looks.{AreSteppedTo, SlotsHold}
 use Rattle.reclaim.proofs.Looking.{stepped_not, stepped_more, slot_there}
 use Rattle.std.proofs.lemmas.Result.{err_from_is_err_and}
 use Rattle.std.proofs.lemmas.Bool.{true≢false}
-use Rattle.node_store.specs.WordLaws.{looks_after, looks_wider, looks_answered, looks_idle}
+use Rattle.nodes.specs.WordLaws.{looks_after, looks_wider, looks_answered, looks_idle}
 use Rattle.reclaim.proofs.looks.are_stepped.Goals as goal
 use Rattle.reclaim.proofs.looks.are_stepped.Goals.{then-has_pointer+in_ok-holds+else-not-holds, else-has_pointer}
 

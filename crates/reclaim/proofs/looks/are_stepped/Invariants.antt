@@ -1,7 +1,7 @@
 use Rattle.std.proofs.Common.{Ok, true, ◌≤◌, ◌+◌, ◌-◌}
 use Rattle.std.specs.Prelude.{slice_index}
-use Rattle.node_store.specs.Faults.{IsLookFault}
-use Rattle.node_store.specs.Words.{LooksWithin}
+use Rattle.nodes.specs.Faults.{IsLookFault}
+use Rattle.nodes.specs.Words.{LooksWithin}
 use Rattle.reclaim.specs.Looks.{AreSteppedTo, SlotsHold}
 use Rattle.reclaim.proofs.looks.are_stepped.Given as goal
 

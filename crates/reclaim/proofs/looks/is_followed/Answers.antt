@@ -2,7 +2,7 @@ use Rattle.std.proofs.Common.{ℕ, ap, ◌∙◌, arith}
 use Rattle.std.specs.Option.{option_map}
 use Rattle.std.proofs.lemmas.Result.{IfOk-weaker}
 use Rattle.fs_types.specs.Names.{Name}
-use Rattle.node_store.specs.WordLaws.{looks_wider, looks_idle}
+use Rattle.nodes.specs.WordLaws.{looks_wider, looks_idle}
 use Rattle.reclaim.specs.Looks.{edge_reads}
 use Rattle.reclaim.specs.declared.edge.Edge.{Edge}
 use Rattle.reclaim.proofs.Looking.{followed_none, followed_some}

@@ -1,6 +1,6 @@
 use Rattle.std.proofs.Common.{arith}
 use Rattle.std.specs.Prelude.{slice_index}
-use Rattle.node_store.specs.WordLaws.{looks_wider, looks_idle}
+use Rattle.nodes.specs.WordLaws.{looks_wider, looks_idle}
 use Rattle.reclaim.proofs.Looking.{at_long}
 use Rattle.reclaim.proofs.looks.is_sound_at.Goals as goal
 

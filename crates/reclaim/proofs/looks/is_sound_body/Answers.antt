@@ -5,7 +5,7 @@ use Rattle.reclaim.specs.Looks.{AreSteppedTo, SlotsHold}
 use Rattle.reclaim.specs.Naming.{has_slot}
 use Rattle.reclaim.proofs.Looking.{body_good, same_pair, or_has, or_lacks, stepped_not, stepped_more}
 use Rattle.std.proofs.lemmas.Result.{err_from_is_err_and}
-use Rattle.node_store.specs.WordLaws.{looks_after, looks_wider, looks_answered, looks_refused, looks_idle}
+use Rattle.nodes.specs.WordLaws.{looks_after, looks_wider, looks_answered, looks_refused, looks_idle}
 use Rattle.reclaim.proofs.looks.is_sound_body.Goals as goal
 
 pub returns-clause-exact : goal.returns-clause-exact

@@ -4,7 +4,7 @@ use Rattle.std.proofs.lemmas.Result.{err_from_is_err_and, IfOk-weaker}
 use Rattle.block_trees.specs.Bodies.{Blocks}
 use Rattle.reclaim.specs.Looks.{NamesNodes}
 use Rattle.reclaim.specs.Sound.{IsPlainNode}
-use Rattle.node_store.specs.WordLaws.{looks_after, looks_wider, looks_answered, looks_idle}
+use Rattle.nodes.specs.WordLaws.{looks_after, looks_wider, looks_answered, looks_idle}
 use Rattle.reclaim.proofs.Looking.{parts_same, alone_of, look_exact}
 use Rattle.reclaim.proofs.looks.look.Goals as goal
 use Rattle.reclaim.proofs.looks.look.Goals.{else-plain-via-then-plain+else-parts, else-plain-via-else-plain}

@@ -1,6 +1,6 @@
 use Rattle.std.proofs.Common.{◌≤◌, ◌+◌, ◌-◌, ◌^◌, take}
 use Rattle.std.specs.List.{sum_by}
-use Rattle.node_store.specs.Words.{Looks}
+use Rattle.nodes.specs.Words.{Looks}
 use Rattle.reclaim.specs.Passes.{Advances}
 use Rattle.reclaim.specs.Verified.{AreLooked, once_reads, once_pages}
 use Rattle.reclaim.specs.Verifying.{IsVerifying}

@@ -3,7 +3,7 @@ use Rattle.std.proofs.lemmas.Bool.{true≢false, eqb-true}
 use Rattle.std.proofs.lemmas.Result.{err_from_is_err_and, IfOk-weaker}
 use Rattle.fs_types.specs.declared.fault.Fault.{Fault}
 use Rattle.fs_types.specs.declared.fault.Fault.TheVariants.{Damaged}
-use Rattle.node_store.specs.WordLaws.{looks_after, looks_wider, looks_answered, looks_refused}
+use Rattle.nodes.specs.WordLaws.{looks_after, looks_wider, looks_answered, looks_refused}
 use Rattle.reclaim.specs.Heads.{TakesNode}
 use Rattle.reclaim.specs.Passes.{IsMarkFault}
 use Rattle.reclaim.specs.Verifying.{HasNoted, HasLookedAt}

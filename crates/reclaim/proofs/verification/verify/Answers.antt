@@ -9,7 +9,7 @@ use Rattle.allocator.specs.BlockSet.{BlockSet}
 use Rattle.fs_types.specs.declared.fault.Fault.{Fault}
 use Rattle.fs_types.specs.declared.fault.Fault.TheVariants.{Damaged}
 use Rattle.node_format.specs.declared.place.Place.TheVariants.{Dir}
-use Rattle.node_store.specs.NodePages.{pages_for}
+use Rattle.nodes.specs.PageCounts.{pages_for}
 use Rattle.block_trees.specs.Bodies.{Blocks}
 use Rattle.block_trees.specs.Laws.{IsShallow}
 use Rattle.block_trees.specs.Reached.{Reached}

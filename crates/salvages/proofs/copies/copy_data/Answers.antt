@@ -4,7 +4,7 @@ use Rattle.fs_types.specs.declared.limits.TheConstants.{ANCHORS}
 use Rattle.flash_model.specs.declared.geometry.Geometry.{Geometry}
 use Rattle.flash_model.specs.Geometry.{page_count}
 use Rattle.flash_model.specs.Reading.{OnlyReads_on}
-use Rattle.flash_model.specs.Simulation.{device_of}
+use Rattle.flash_simulation.specs.Simulation.{device_of}
 use Rattle.salvages.proofs.SureFlashes.{still_sure, data_from, anchors_to}
 use Rattle.salvages.proofs.copies.copy_data.Goals as goal
 

@@ -1,7 +1,7 @@
 use Rattle.std.proofs.Common.{◌≡◌, ℕ, ◌<◌, ◌≤◌, vec_len}
 use Rattle.flash_model.specs.Device.{erased}
 use Rattle.flash_model.specs.Reading.{OnlyReads}
-use Rattle.flash_model.specs.Simulation.{device_of}
+use Rattle.flash_simulation.specs.Simulation.{device_of}
 use Rattle.salvages.specs.Copies.{IsSure}
 use Rattle.salvages.proofs.copies.copy_data.Given as goal
 

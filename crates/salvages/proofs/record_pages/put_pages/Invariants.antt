@@ -1,5 +1,5 @@
 use Rattle.std.proofs.Common.{◌≡◌, ◌≤◌, vec_capacity}
-use Rattle.flash_model.specs.Simulation.{device_of, plan_of}
+use Rattle.flash_simulation.specs.Simulation.{device_of, plan_of}
 use Rattle.salvages.specs.Copies.{HasPagesOnly}
 use Rattle.salvages.specs.Placing.{HasFirstPages}
 use Rattle.salvages.proofs.record_pages.put_pages.Given as goal

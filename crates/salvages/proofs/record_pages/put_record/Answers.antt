@@ -1,6 +1,6 @@
 use Rattle.std.proofs.Common.{[], subst}
 use Rattle.flash_model.specs.declared.geometry.Geometry.{Geometry}
-use Rattle.flash_model.specs.Simulation.{device_of}
+use Rattle.flash_simulation.specs.Simulation.{device_of}
 use Rattle.record_format.specs.Payloads.{written}
 use Rattle.std.proofs.Common.{◌≤◌, ◌∙◌}
 use Rattle.commit_pair.specs.Programming.{Fills}

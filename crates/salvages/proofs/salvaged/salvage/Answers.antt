@@ -2,7 +2,7 @@ use Rattle.std.proofs.Common.{refl, subst, ◌∙◌}
 use Rattle.std.proofs.lemmas.Result.{err_from_is_err_and}
 use Rattle.flash_model.specs.declared.geometry.Geometry.{Geometry}
 use Rattle.flash_model.specs.Reading.{OnlyReads_on}
-use Rattle.flash_model.specs.Simulation.{device_of}
+use Rattle.flash_simulation.specs.Simulation.{device_of}
 use Rattle.commit_pair.proofs.Committed.{committed_stays}
 use Rattle.mounting.specs.Records.{knows_plain_only}
 use Rattle.salvages.specs.Copies.{IsSure, HasDataOf}

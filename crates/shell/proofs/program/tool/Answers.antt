@@ -1,6 +1,6 @@
 use Rattle.std.proofs.Common.{List, ℕ, Ok, Err, inl, inr, refl, map, string_bytes}
 use Rattle.clap.specs.Words.{fault_of}
-use Rattle.jobs.specs.Grammar.{uffs}
+use Rattle.command_words.specs.Grammar.{uffs}
 use Rattle.jobs.specs.Jobs.{AsksFor}
 use Rattle.jobs.specs.declared.tasks.Job.{Job}
 use Rattle.host_files.specs.Files.{ReadsClaimed}

@@ -3,7 +3,7 @@ use Rattle.std.proofs.lemmas.Result.{err_from_is_err_and}
 use Rattle.std.proofs.Math.Nat.{div-mul-le_self, le_of_eq}
 use Rattle.block_trees.specs.Bodies.{head_index, body, IsBody}
 use Rattle.node_format.specs.declared.place.Place.TheVariants.{File}
-use Rattle.node_store.specs.Words.{IsHeld, Keeps}
+use Rattle.nodes.specs.Words.{IsHeld, Keeps}
 use Rattle.skip_list_file.specs.declared.body.Body.{Body}
 use Rattle.skip_list_file.specs.Reading.{AreBlocks}
 use Rattle.skip_list_file.specs.Writing as spec
@@ -13,7 +13,7 @@ use Rattle.skip_list_file.proofs.Counted.{few_none, few_on, few_all, few_listed,
 use Rattle.skip_list_file.proofs.Growth.{IsBegun, body_stays, blocks_stay, begun_front, starts_before, starts_within, turn, written_whole, written_reaches, first_within, first_own, own_first, all_ends}
 use Rattle.skip_list_file.proofs.EditedBytes.{edited_length, edited_front}
 use Rattle.skip_list_file.proofs.changes.write_nodes.Goals as goal
-use Rattle.node_store.specs.WordLaws.{keeps_nodes}
+use Rattle.nodes.specs.WordLaws.{keeps_nodes}
 
 pub loop-index-init : goal.loop-index-init
 loop-index-init g c =

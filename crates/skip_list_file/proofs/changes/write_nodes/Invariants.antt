@@ -1,5 +1,5 @@
 use Rattle.std.proofs.Common.{◌≡◌, ◌+◌, ◌-◌, ◌*◌, length, min}
-use Rattle.node_store.specs.Words.{Works}
+use Rattle.nodes.specs.Words.{Works}
 use Rattle.skip_list_file.specs.Writing as spec
 use Rattle.skip_list_file.specs.Writing.{IsTable}
 use Rattle.skip_list_file.proofs.Counted.{AreFew}

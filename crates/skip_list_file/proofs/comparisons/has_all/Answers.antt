@@ -1,8 +1,8 @@
 use Rattle.std.proofs.Common.{◌≡◌, ℕ, ◌+◌, ◌-◌, ◌*◌, ◌/◌, ◌≤◌, min, List, length, take, refl, sym, ap, subst, ◌∙◌, arith}
 use Rattle.std.proofs.lemmas.Result.{err_from_is_err_and}
 use Rattle.node_format.specs.Headers.{body_header}
-use Rattle.node_store.specs.NodePages.{pages_for}
-use Rattle.node_store.specs.Words.{Looks}
+use Rattle.nodes.specs.PageCounts.{pages_for}
+use Rattle.nodes.specs.Words.{Looks}
 use Rattle.block_trees.specs.Bodies.{Blocks, index_of, data_of, back, body}
 use Rattle.block_trees.proofs.Bodies.{chain_node}
 use Rattle.plain_trees.specs.Contents.{same_bytes}

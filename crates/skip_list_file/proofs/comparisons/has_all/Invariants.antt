@@ -1,7 +1,7 @@
 use Rattle.std.proofs.Common.{◌≡◌, ℕ, ◌+◌, ◌*◌, ◌≤◌, take, min}
 use Rattle.block_trees.specs.Bodies.{body, head_index}
-use Rattle.node_store.specs.Words.{Looks}
-use Rattle.node_store.specs.NodePages.{pages_for}
+use Rattle.nodes.specs.Words.{Looks}
+use Rattle.nodes.specs.PageCounts.{pages_for}
 use Rattle.skip_list_file.specs.Reading.{AsksPageEach, HasDigits}
 use Rattle.skip_list_file.proofs.comparisons.has_all.Given as goal
 

@@ -3,8 +3,8 @@ use Rattle.std.specs.Int.{div_ceil}
 use Rattle.std.proofs.lemmas.List.{length-take-le}
 use Rattle.std.proofs.lemmas.Result.{err_from_is_err_and}
 use Rattle.node_format.specs.Headers.{body_header}
-use Rattle.node_store.specs.NodePages.{pages_for}
-use Rattle.node_store.specs.WordLaws.{looks_refused}
+use Rattle.nodes.specs.PageCounts.{pages_for}
+use Rattle.nodes.specs.WordLaws.{looks_refused}
 use Rattle.block_trees.specs.Bodies.{Blocks, data_of}
 use Rattle.skip_list_file.specs.Reading.{AsksPageEach}
 use Rattle.skip_list_file.proofs.NodeCalls.{within_after}

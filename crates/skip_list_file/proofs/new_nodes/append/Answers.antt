@@ -3,14 +3,14 @@ use Rattle.std.proofs.lemmas.Result.{err_from_is_err_and}
 use Rattle.block_trees.specs.Bodies.{Blocks, data_of, back, pointer_of}
 use Rattle.node_format.specs.Headers.{body_header}
 use Rattle.node_format.proofs.BodyFields.{spelled_node}
-use Rattle.node_store.specs.Words.{Keeps}
+use Rattle.nodes.specs.Words.{Keeps}
 use Rattle.skip_list_file.specs.Writing.{HoldsIndex}
 use Rattle.skip_list_file.proofs.Appended.{IsNext}
 use Rattle.skip_list_file.proofs.FirstPages.{write_refused}
 use Rattle.skip_list_file.proofs.Growth.{are_linked, back_stays, product_some, grown, is_next, head_full}
 use Rattle.skip_list_file.proofs.Marks.{linked_before, table_on}
 use Rattle.skip_list_file.proofs.new_nodes.append.Goals as goal
-use Rattle.node_store.specs.WordLaws.{keeps_nodes, works_answered}
+use Rattle.nodes.specs.WordLaws.{keeps_nodes, works_answered}
 
 pub write_new-requires-clause-whole : goal.write_new-requires-clause-whole
 write_new-requires-clause-whole g c =

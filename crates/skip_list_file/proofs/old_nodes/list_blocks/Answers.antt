@@ -2,7 +2,7 @@ use Rattle.std.proofs.Common.{◌≡◌, ℕ, ◌+◌, ◌-◌, Option, List, []
 use Rattle.std.proofs.lemmas.Result.{err_from_is_err_and}
 use Rattle.block_trees.specs.Bodies.{Blocks, pointer_of, back}
 use Rattle.skip_list_file.specs.Reading.{AreBlocks}
-use Rattle.node_store.specs.WordLaws.{looks_refused}
+use Rattle.nodes.specs.WordLaws.{looks_refused}
 use Rattle.skip_list_file.proofs.NodeCalls.{within_after}
 use Rattle.skip_list_file.proofs.Parts.{count_some}
 use Rattle.skip_list_file.proofs.Places.{HasPointer}

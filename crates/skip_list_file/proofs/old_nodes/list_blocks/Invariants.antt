@@ -1,6 +1,6 @@
 use Rattle.std.proofs.Common.{◌≡◌, ◌≤◌, ◌+◌, ◌-◌, length}
 use Rattle.std.specs.Prelude.{vec_len, vec_capacity}
-use Rattle.node_store.specs.Words.{Looks}
+use Rattle.nodes.specs.Words.{Looks}
 use Rattle.block_trees.specs.Bodies.{back}
 use Rattle.skip_list_file.specs.Reading.{AreBlocks, AsksPageEach}
 use Rattle.skip_list_file.proofs.old_nodes.list_blocks.Given as goal

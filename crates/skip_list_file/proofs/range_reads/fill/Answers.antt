@@ -2,13 +2,12 @@ use Rattle.std.proofs.Common.{◌≡◌, ◌≤◌, ◌<◌, ℕ, ◌+◌, ◌-�
 use Rattle.std.proofs.lemmas.Bool.{true≢false, lt-ltb, le-ltb}
 use Rattle.std.proofs.lemmas.Result.{err_from_is_err_and}
 use Rattle.node_format.specs.Headers.{body_header}
-use Rattle.node_store.specs.Parts.{pages_of_range}
-use Rattle.node_store.specs.WordLaws.{looks_refused}
+use Rattle.nodes.specs.PageCounts.{pages_of_range, pages_for}
+use Rattle.nodes.specs.WordLaws.{looks_refused}
 use Rattle.skip_list_file.proofs.NodeCalls.{within_after}
 use Rattle.skip_list_file.proofs.PartReads.{within_one}
 use Rattle.skip_list_file.proofs.range_reads.fill.Goals.{then-whole, else-whole}
 use borrow.Rule.Slice.PartMut.{put_mid}
-use Rattle.node_store.specs.NodePages.{pages_for}
 use Rattle.block_trees.specs.Bodies.{Blocks, index_of, pointer_of, data_of}
 use Rattle.block_trees.proofs.Bodies.{chain_node}
 use Rattle.skip_list_file.specs.Reading.{nodes_between}

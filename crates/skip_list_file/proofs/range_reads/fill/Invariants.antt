@@ -1,8 +1,7 @@
 use Rattle.std.proofs.Common.{◌≡◌, ◌≢◌, ◌+◌, ◌-◌, ◌*◌, ◌/◌, ◌%◌, ◌<◌, ◌≤◌, false, length, take, drop}
 use Rattle.node_format.specs.Headers.{body_header}
-use Rattle.node_store.specs.Words.{Looks}
-use Rattle.node_store.specs.NodePages.{pages_for}
-use Rattle.node_store.specs.Parts.{pages_of_range}
+use Rattle.nodes.specs.Words.{Looks}
+use Rattle.nodes.specs.PageCounts.{pages_for, pages_of_range}
 use Rattle.block_trees.specs.Bodies.{data_to}
 use Rattle.skip_list_file.specs.Reading.{nodes_between}
 use Rattle.skip_list_file.proofs.Parts.{IsLeft}

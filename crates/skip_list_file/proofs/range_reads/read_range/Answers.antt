@@ -3,10 +3,10 @@ use Rattle.std.proofs.lemmas.Result.{err_from_is_err_and}
 use Rattle.std.specs.Prelude.{min}
 use Rattle.std.proofs.lemmas.List.{take_at}
 use Rattle.node_format.specs.Headers.{body_header}
-use Rattle.node_store.specs.NodePages.{pages_for}
+use Rattle.nodes.specs.PageCounts.{pages_for}
 use Rattle.block_trees.specs.Bodies.{Blocks, data_to, IsChain}
 use Rattle.skip_list_file.specs.Reading.{HasDigits, nodes_between, nodes_of_range}
-use Rattle.node_store.specs.WordLaws.{looks_answered, looks_refused}
+use Rattle.nodes.specs.WordLaws.{looks_answered, looks_refused}
 use Rattle.skip_list_file.proofs.NodeCalls.{along_after, along_refused, along_wider, along_within}
 use Rattle.skip_list_file.proofs.Parts.{range_found, body_read, some_nodes}
 use Rattle.skip_list_file.proofs.range_reads.read_range.Goals as goal

@@ -3,7 +3,7 @@ use Rattle.std.proofs.lemmas.Result.{err_from_is_err_and}
 use Rattle.block_trees.specs.Bodies.{Blocks}
 use Rattle.skip_list_file.specs.Reading.{AreBlocks}
 use Rattle.skip_list_file.specs.Writing.{AreLinked, IsTable}
-use Rattle.node_store.specs.WordLaws.{looks_refused}
+use Rattle.nodes.specs.WordLaws.{looks_refused}
 use Rattle.skip_list_file.proofs.NodeCalls.{along_after, along_refused, along_wider, along_within}
 use Rattle.skip_list_file.proofs.Counted.{few_first, few_begun}
 use Rattle.skip_list_file.proofs.Growth.{are_linked, starts_before, holds_later}

@@ -1,7 +1,7 @@
 use Rattle.std.proofs.Common.{◌≡◌, ℕ, suc, ◌+◌, ◌-◌, ◌*◌, ◌/◌, ◌%◌, ◌^◌, sym, ap, subst, ◌∙◌, arith}
 use Rattle.std.proofs.lemmas.List.{length-set}
 use Rattle.block_trees.specs.Bodies.{Blocks, back, IsChain, IsLinked}
-use Rattle.node_store.specs.WordLaws.{looks_refused}
+use Rattle.nodes.specs.WordLaws.{looks_refused}
 use Rattle.skip_list_file.proofs.NodeCalls.{within_after}
 use Rattle.skip_list_file.proofs.Marks.{linked_before, mark_chain, mark_linked, mark_next, none_farther, set_named, few_more}
 use Rattle.std.proofs.lemmas.Result.{err_from_is_err_and}

@@ -1,5 +1,5 @@
 use Rattle.std.proofs.Common.{◌≡◌, ℕ, ◌+◌, ◌-◌, ◌%◌, ◌^◌, ◌<◌, ◌≤◌, length, slice_index}
-use Rattle.node_store.specs.Words.{Looks}
+use Rattle.nodes.specs.Words.{Looks}
 use Rattle.block_trees.specs.Bodies.{back}
 use Rattle.skip_list_file.specs.Reading.{AsksPageEach}
 use Rattle.skip_list_file.proofs.table.start_table.Given as goal

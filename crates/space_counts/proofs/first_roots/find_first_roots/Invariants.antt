@@ -1,5 +1,5 @@
 use Rattle.std.proofs.Common.{◌≡◌, ◌+◌, take}
-use Rattle.node_store.specs.Frames.{OnlyLooks}
+use Rattle.nodes.specs.Frames.{OnlyLooks}
 use Rattle.space_counts.specs.Walks.{IsWalked}
 use Rattle.space_counts.proofs.first_roots.find_first_roots.Given as goal
 

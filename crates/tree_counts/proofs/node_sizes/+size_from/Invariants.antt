@@ -1,6 +1,6 @@
 use Rattle.std.proofs.Common.{◌≡◌, ℕ, ◌+◌, ◌≤◌, List, length, take}
 use Rattle.block_trees.specs.Reached.{Reached}
-use Rattle.node_store.specs.Frames.{OnlyLooks}
+use Rattle.nodes.specs.Frames.{OnlyLooks}
 use Rattle.reclaim.specs.Passes.{AreReached}
 use Rattle.tree_counts.specs.Counted.{AreSizes, StillHas, IsGoneTo}
 use Rattle.tree_counts.proofs.Gone.{AreDoneBut, size_to}

@@ -1,5 +1,5 @@
 use Rattle.std.proofs.Common.{true, false, arith, ◌-◌, refl, inl}
-use Rattle.node_store.specs.WordLaws.{works_idle}
+use Rattle.nodes.specs.WordLaws.{works_idle}
 use Rattle.node_format.specs.Headers.{body_header}
 use Rattle.directory.proofs.LookupLaws.{rooted_leads}
 use Rattle.tree_edits.proofs.NewBytes.{keeps_itself}

@@ -3,7 +3,7 @@ use Rattle.std.proofs.lemmas.Result.{err_from_is_err_and}
 use Rattle.node_format.specs.Headers.{body_header}
 use Rattle.directory.proofs.Held.{held_later}
 use Rattle.directory.proofs.TrailEdits.{look_later, trail_later}
-use Rattle.node_store.specs.WordLaws.{works_both}
+use Rattle.nodes.specs.WordLaws.{works_both}
 use Rattle.tree_edits.proofs.ManyFiles.{keeps_on}
 use Rattle.tree_edits.proofs.AppliedEdits.{is_applied}
 use Rattle.tree_edits.proofs.NewBytes.{file_result, body_fault}

@@ -2,7 +2,7 @@ use Rattle.std.proofs.Common.{◌<◌, length, ap, sym, ◌∙◌, arith}
 use Rattle.std.proofs.lemmas.Bool.{eqb-true, eqb-false}
 use Rattle.std.specs.Option.{is_some}
 use Rattle.directory.specs.Trails.{has_room}
-use Rattle.node_store.specs.WordLaws.{works_wider, works_idle}
+use Rattle.nodes.specs.WordLaws.{works_wider, works_idle}
 use Rattle.tree_edits.proofs.ManyFiles.{linked_root, linked_below, path_nodes-stands}
 use Rattle.tree_edits.proofs.NewBytes.{keeps_itself}
 use Rattle.tree_edits.proofs.many_files.link_directory.Goals as goal

@@ -6,8 +6,8 @@ use Rattle.plain_trees.specs.Files.{bodies_need}
 use Rattle.plain_trees.specs.Contents.{body_need}
 use Rattle.tree_edits.specs.Edits.{chosen}
 use Rattle.tree_edits.specs.Roots.{AreNewFiles, IsNewFile}
-use Rattle.node_store.specs.WordLaws.{works_after, works_wider, works_answered, works_refused, works_idle}
-use Rattle.node_store.specs.Words.{WorksWithin}
+use Rattle.nodes.specs.WordLaws.{works_after, works_wider, works_answered, works_refused, works_idle}
+use Rattle.nodes.specs.Words.{WorksWithin}
 use Rattle.skip_list_file.specs.Writing.{IsWritingFault}
 use Rattle.tree_edits.proofs.ManyFiles.{chosen-more, chosen-same, more-are, more-need, need-more, length-more, news_push, news_later, new_before}
 use Rattle.tree_edits.proofs.many_files.write_bodies.Goals as goal

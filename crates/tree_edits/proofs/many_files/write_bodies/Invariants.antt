@@ -1,6 +1,6 @@
 use Rattle.std.proofs.Common.{◌-◌, Ok, length, take}
 use Rattle.node_format.specs.Headers.{body_header}
-use Rattle.node_store.specs.Words.{WorksWithin}
+use Rattle.nodes.specs.Words.{WorksWithin}
 use Rattle.skip_list_file.specs.Writing.{IsWritingFault}
 use Rattle.plain_trees.specs.Files.{bodies_need}
 use Rattle.tree_edits.specs.Edits.{chosen}

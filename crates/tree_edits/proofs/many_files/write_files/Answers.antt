@@ -5,7 +5,7 @@ use Rattle.plain_trees.specs.Trees.{nodes_for}
 use Rattle.node_format.specs.Headers.{body_header}
 use Rattle.node_format.specs.Items.{Item}
 use Rattle.node_format.specs.declared.place.Place.TheVariants.{Dir}
-use Rattle.node_store.specs.Words.{Keeps}
+use Rattle.nodes.specs.Words.{Keeps}
 use Rattle.block_trees.specs.Trees.{items_in}
 use Rattle.directory.specs.Counts.{nodes_in}
 use Rattle.directory.specs.Puts.{HasRoomFor, IsDirectoryPut}
@@ -20,7 +20,7 @@ use Rattle.tree_edits.proofs.AppliedEdits.{is_applied}
 use Rattle.tree_edits.proofs.ManyFiles.{keeps_on, list_nodes, news_room, news_counted, files_result}
 use Rattle.tree_edits.proofs.Needs.{path_nodes-later}
 use Rattle.tree_edits.proofs.many_files.write_files.Goals as goal
-use Rattle.node_store.specs.WordLaws.{keeps_nodes, works_both}
+use Rattle.nodes.specs.WordLaws.{keeps_nodes, works_both}
 
 pub put_in_directory-requires-clause-sound : goal.put_in_directory-requires-clause-sound
 put_in_directory-requires-clause-sound g c = c.write_bodies.ensures.calls.works.sound

@@ -1,5 +1,5 @@
 use Rattle.std.proofs.lemmas.Result.{err_from_is_err_and}
-use Rattle.node_store.specs.WordLaws.{works_answered, works_refused}
+use Rattle.nodes.specs.WordLaws.{works_answered, works_refused}
 use Rattle.tree_edits.proofs.many_files.write_place.Goals as goal
 
 pub returns-in_err-body-clause-calls : goal.returns-in_err-body-clause-calls

@@ -1,5 +1,5 @@
 use Rattle.std.proofs.Common.{inl, inr}
-use Rattle.flash_model.specs.Simulation.{device_of}
+use Rattle.flash_simulation.specs.Simulation.{device_of}
 use Rattle.update_jobs.proofs.telling.update_of.Goals as goal
 
 pub returns-in-Err-clause-err : goal.returns-in-Err-clause-err

@@ -1,6 +1,6 @@
 use Rattle.std.proofs.Common.{arith}
 use Rattle.std.proofs.lemmas.Result.{err_from_is_err_and}
-use Rattle.node_store.specs.WordLaws.{looks_refused}
+use Rattle.nodes.specs.WordLaws.{looks_refused}
 use Rattle.reclaim.proofs.Marking.{all_read}
 use Rattle.reclaim.proofs.NodeCalls.{at_cost, cost_answered}
 use Rattle.reclaim.proofs.pass.Pass.read_all.Goals as goal

@@ -3,9 +3,9 @@ use Rattle.std.proofs.lemmas.Result.{err_from_is_err_and}
 use Rattle.fs_types.specs.declared.fault.Fault.{Fault}
 use Rattle.fs_types.specs.declared.fault.Fault.TheVariants.{Damaged}
 use Rattle.block_trees.specs.Bodies.{Blocks}
-use Rattle.node_store.specs.Faults.{IsReadFault}
-use Rattle.node_store.specs.Words.{LooksWithin}
-use Rattle.node_store.specs.WordLaws.{looks_after, looks_refused}
+use Rattle.nodes.specs.Faults.{IsReadFault}
+use Rattle.nodes.specs.Words.{LooksWithin}
+use Rattle.nodes.specs.WordLaws.{looks_after, looks_refused}
 use Rattle.reclaim.specs.Passes.{IsPass, LacksNode}
 use Rattle.reclaim.proofs.Costs.{has_read}
 use Rattle.reclaim.proofs.NodeCalls.{looks_itself, advances_itself, advances_on, marks_itself, marks_on}

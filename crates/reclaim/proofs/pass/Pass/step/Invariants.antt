@@ -1,5 +1,5 @@
 use Rattle.std.proofs.Common.{◌≡◌, ◌+◌}
-use Rattle.node_store.specs.Words.{Looks}
+use Rattle.nodes.specs.Words.{Looks}
 use Rattle.reclaim.specs.Calls.{MarksOn}
 use Rattle.reclaim.specs.Passes.{Advances}
 use Rattle.reclaim.proofs.pass.Pass.step.Given as goal

@@ -1,0 +1,4 @@
+pub mod Stored
+pub mod StoredLaws
+pub mod Simulation
+pub mod WholePages

@@ -1,0 +1,9 @@
+pub mod Faults
+pub mod Frames
+pub mod FrameLaws
+pub mod Words
+pub mod WordLaws
+pub mod PageCounts
+pub mod Parts
+pub mod SizeLaws
+pub mod FrontLaws

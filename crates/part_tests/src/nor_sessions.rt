@@ -1,0 +1,124 @@
+//! Scripts over a serial NOR part in memory: one after the other, and with one operation of the part troubled.
+use nor_part::{MemoryNor, NorFlash, Trouble};
+use script_runs::run_script_on;
+use std::alloc::Global;
+use std::test::Fail;
+use undofs::{Flash, format};
+
+// Scripts that are run one after the other, each on what a restart finds of those before it.
+const SESSION: [(&str, &str); 5] = [
+    (
+        "mkdir /d\nopen /d/f 7\npwrite 0 300 4142\nclose 0\nread /d/f 299 9\ncheckpoint one\nsync\n",
+        "ok\nfd 0\nwrote 2\nok\ndata 004142\nok\nok\n",
+    ),
+    (
+        "stat /d/f\nundo\nstat /d/f\nredo\nstat /d/f\nlog\n",
+        "file 302\nok\nfile 0\nok\nfile 302\nlog next 5 dropped 0 versions 1 2 3 *4 checkpoints one\n",
+    ),
+    (
+        "begin\nmkdir /a\nmkdir /b\nrename /d/f /a/g\nend\nls /\nsync\nundo\nls /\n",
+        "ok\nok\nok\nok\nok\nentries 3 a/ b/ d/\nok\nok\nentries 1 d/\n",
+    ),
+    (
+        "ls /\nrollback one\nls /d\nundo\nls /d\nreclaim 99\nsync\n",
+        "entries 3 a/ b/ d/\nok\nentries 1 f\nok\nentries 0\ndone\nok\n",
+    ),
+    ("ls /a\nread /a/g 300 2\n", "entries 1 g\ndata 4142\n"),
+];
+
+// So many programs and erases of the part make a directory in the root and commit it: two nodes, each a
+// block that is erased in two sectors and a page with its mark, and the page of the record with its mark.
+const CHANGE: u64 = 2 * (2 + 2) + 2;
+
+// Those of them that are asked of data blocks.
+const OF_NODES: u64 = 8;
+
+/// A flash over a part of 64 sectors, with an empty file system.
+fn formatted(alloc: Global) -> Result<NorFlash<MemoryNor>, Fail> {
+    let part = MemoryNor::new(alloc, 64)?;
+    let mut flash = NorFlash::new(alloc, part)?;
+    format(alloc, &mut flash, 8)?;
+    Ok(flash)
+}
+
+/// What a script is answered.
+fn replies(alloc: Global, flash: &mut NorFlash<MemoryNor>, script: &str) -> Result<String, Fail> {
+    let mut reader = script.as_bytes();
+    let mut out: Vec<u8> = Vec::new(alloc);
+    run_script_on(alloc, &mut reader, &mut out, flash)?;
+    Ok(String::from_utf8(out)?)
+}
+
+/// A flash made anew over the same part, with power on and nothing planned.
+fn restarted(alloc: Global, mut flash: NorFlash<MemoryNor>) -> Result<NorFlash<MemoryNor>, Fail> {
+    flash.forget_plan();
+    flash.power_on();
+    Ok(flash.reopen(alloc)?)
+}
+
+#[test]
+fn a_session_runs(rt: HostRuntime) -> Result<(), Fail> {
+    let mut flash = formatted(rt.alloc())?;
+    for (script, wanted) in SESSION {
+        let told = replies(rt.alloc(), &mut flash, script)?;
+        assert_eq!(rt; told.as_str(), wanted, "{script}");
+        flash = restarted(rt.alloc(), flash)?;
+    }
+    Ok(())
+}
+
+/// What is answered where the part is troubled in a change and its commit, and what a script is told after a
+/// restart.
+fn troubled(
+    alloc: Global,
+    good: u64,
+    trouble: Trouble,
+    script: &str,
+) -> Result<(String, String), Fail> {
+    let mut flash = formatted(alloc)?;
+    replies(alloc, &mut flash, "mkdir /a\nsync\n")?;
+    flash.plan(good, trouble);
+    let told = replies(alloc, &mut flash, "mkdir /b\nsync\n")?;
+    let mut flash = restarted(alloc, flash)?;
+    let found = replies(alloc, &mut flash, script)?;
+    Ok((told, found))
+}
+
+/// Whether a change and its commit are found whole or not at all where power goes after so many operations:
+/// it is found where the commit answered Ok, and what is found can be taken back.
+fn is_cut(alloc: Global, good: u64, trouble: Trouble) -> Result<bool, Fail> {
+    let before = "entries 1 a/\nok\nentries 0\n";
+    let after = "entries 2 a/ b/\nok\nentries 1 a/\n";
+    let (told, found) = troubled(alloc, good, trouble, "ls /\nundo\nls /\n")?;
+    let is_done = told.as_str() == "ok\nok\n";
+    let is_last = good.saturating_add(1) == CHANGE && trouble == Trouble::CutAfter;
+    let wanted = if is_done || is_last { after } else { before };
+    Ok(is_done == (good == CHANGE) && found.as_str() == wanted)
+}
+
+/// Whether all is answered as if none had failed where an operation fails after so many: the block is left,
+/// and a restart finds the change.
+fn is_passed(alloc: Global, good: u64) -> Result<bool, Fail> {
+    let (told, left) = troubled(alloc, good, Trouble::Fails, "df\nls /\n")?;
+    let wanted = if good < OF_NODES {
+        "df data 24 bad 1 free 18 anchors 8\nentries 2 a/ b/\n"
+    } else if good < CHANGE {
+        "df data 24 bad 0 free 19 anchors 7\nentries 2 a/ b/\n"
+    } else {
+        "df data 24 bad 0 free 19 anchors 8\nentries 2 a/ b/\n"
+    };
+    Ok(told.as_str() == "ok\nok\n" && left.as_str() == wanted)
+}
+
+// Power goes before, in and after each program and erase of a change and its commit, and each of them fails.
+#[test]
+fn each_operation_is_troubled_once(rt: HostRuntime) -> Result<(), Fail> {
+    for good in 0..=CHANGE {
+        for trouble in [Trouble::CutBefore, Trouble::CutWithin, Trouble::CutAfter] {
+            let is_right = is_cut(rt.alloc(), good, trouble)?;
+            assert!(rt; is_right, "{trouble:?} {good}");
+        }
+        assert!(rt; is_passed(rt.alloc(), good)?, "{good}");
+    }
+    Ok(())
+}

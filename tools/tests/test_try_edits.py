@@ -13,6 +13,7 @@ sys.dont_write_bytecode = True
 sys.path.insert(0, TOOLS)
 
 import edit_files  # noqa: E402
+import edit_trials  # noqa: E402
 import try_edits  # noqa: E402
 
 LOW = """//! Numbers of which some are less than others.
@@ -135,7 +136,7 @@ def repository(room):
     write(f"{room}/HANDLES", "Handles allowed: none.\n")
     for path, (old, new, clause) in EDITS.items():
         write(f"{room}/crates/{path}", f"file: src/lib.rt\nold: {old}\nnew: {new}\nclause: {clause}\n")
-    for name in ("try_edits.py", "edit_files.py"):
+    for name in ("try_edits.py", "edit_trials.py", "edit_files.py"):
         shutil.copy(f"{TOOLS}/{name}", f"{room}/tools-{name}")
         os.makedirs(f"{room}/tools", exist_ok=True)
         os.rename(f"{room}/tools-{name}", f"{room}/tools/{name}")
@@ -163,8 +164,8 @@ class Reading(unittest.TestCase):
         self.folder = f"{self.room}/crates/low"
 
     def said_of(self, old, clause, said=SAID):
-        [[(edit, places)]] = try_edits.rounds_of(self.folder, [store_edit(old, clause)])
-        return try_edits.tried_once([(edit, places)], {"src/store.rt": STORE}, said)[edit.name].words
+        [[(edit, places)]] = edit_trials.rounds_of(self.folder, [store_edit(old, clause)])
+        return edit_trials.tried_once([(edit, places)], {"src/store.rt": STORE}, said)[edit.name].words
 
     def test_search_and_answers(self):
         self.assertEqual(self.said_of("        0", "len"), "refused by len, by search")
@@ -179,13 +180,13 @@ class Reading(unittest.TestCase):
         self.assertTrue(self.said_of("        0", "").startswith("NOT TRIED"))
 
     def test_waits(self):
-        one = [(it, try_edits.planted(it, self.folder, {})) for it in (store_edit("        0", "len"), store_edit("    one\n", "returns"))]
-        told = try_edits.tried_once(one, {"src/store.rt": STORE}, SAID)
-        self.assertEqual(told["    one\n.edit"], try_edits.LATER)
+        one = [(it, edit_trials.planted(it, self.folder, {})) for it in (store_edit("        0", "len"), store_edit("    one\n", "returns"))]
+        told = edit_trials.tried_once(one, {"src/store.rt": STORE}, SAID)
+        self.assertEqual(told["    one\n.edit"], edit_trials.LATER)
 
     def test_rounds(self):
         edits = [store_edit(old, "len") for old in ("        0", "result ≡ 0", "    one\n", "MOST: u8 = 9", "not there")]
-        found = [[edit.text for edit, _ in one] for one in try_edits.rounds_of(self.folder, edits)]
+        found = [[edit.text for edit, _ in one] for one in edit_trials.rounds_of(self.folder, edits)]
         self.assertEqual(found, [["        0", "    one\n"], ["result ≡ 0"], ["MOST: u8 = 9"], ["not there"]])
 
     def test_sums(self):

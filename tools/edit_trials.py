@@ -1,0 +1,209 @@
+"""Edits of a crate tried together, and what a check says of each: what try_edits.py judges by.
+
+All edits of a crate that change different functions are planted into one copy of it, which is checked once. Each has to
+have an open goal of its own there, by the clause that it names. The text of this file is in the sums of TRIED, so a
+change here has all edits tried anew.
+"""
+import os
+import re
+import shutil
+import subprocess
+import tempfile
+
+import edit_files
+from edit_files import TOP
+
+PARTS = ("src", "specs", "proofs")
+OPEN = re.compile(r"^note: (?:\./)?(src/\S+?):(\d+):\d+: it is not proved .*?\(`([^`]*)`\)", re.M)
+ANSWER = re.compile(r"^(?:\./)?proofs/(\S+)/(?:Answers|Invariants|Proof)\.antt:\d+:\d+: error: `([^`]*)`(.*(?:\n  .*)*)", re.M)
+HOLDS = re.compile(r"(?:expected type|reads) `Unit\b")
+WAITS = re.compile(r"^fn (\S+): no proof: it calls ", re.M)
+VERDICT = re.compile(r"^logic=(\S+).*$", re.M)
+LATER = "waits for a function that it calls"
+
+
+class Place:
+    """What an edit changes: the function of that number in a file, or no function of its own (number is None)."""
+
+    def __init__(self, file, number, name):
+        self.file, self.number, self.name = file, number, name
+
+    def module(self):
+        """The folder of proofs/ in which the answers of the file's functions stand."""
+        parts = self.file.removeprefix("src/").removesuffix(".rt").split("/")
+        return "/".join(parts[:-1] if parts[-1] in ("lib", "main", "mod") else parts)
+
+    def meets(self, other):
+        """Whether the open goals of both could not be told apart."""
+        if self.number is None or other.number is None or (self.file, self.number) == (other.file, other.number):
+            return True
+        one, two = sorted((self.module(), other.module()), key=len)
+        return self.name == other.name and (not one or f"{two}/".startswith(f"{one}/"))
+
+    def has_answers_in(self, folder):
+        """Whether a folder of proofs/ has the answers of this function."""
+        module = self.module()
+        return folder.split("/")[-1].split("+")[0] == self.name and (not module or folder.startswith(f"{module}/"))
+
+
+class Verdict:
+    """What a round says of an edit: whether it is refused as it has to be, how, and the words for it."""
+
+    def __init__(self, passed, words, how=""):
+        self.passed, self.words, self.how = passed, words, how
+
+
+def planted(edit, folder, texts):
+    """Puts an edit into the texts of a crate's files, and returns its places, or None where it cannot be applied."""
+    places = []
+    for file, old, new in edit.pairs:
+        if file not in texts and os.path.isfile(f"{folder}/{file}"):
+            texts[file] = edit_files.text_of(f"{folder}/{file}")
+        text = texts.get(file, "")
+        if text.count(old) != 1:
+            return None
+        line = text[: text.index(old)].count("\n")
+        found = [(at, it) for at, it in enumerate(edit_files.functions_in(text)) if it.first <= line <= it.last]
+        if not found or found[-1][1].is_const or not file.endswith(".rt"):
+            places.append(Place(file, None, ""))
+        else:
+            places.append(Place(file, found[-1][0], found[-1][1].name))
+        texts[file] = text.replace(old, new)
+    return places or None
+
+
+def rounds_of(folder, edits):
+    """Lists of edits with their places: in each the edits change functions of their own. One that cannot be applied is alone."""
+    rounds = []
+    for edit in edits:
+        places = planted(edit, folder, {})
+        fits = (one for one in rounds if places and all(it and not any(a.meets(b) for a in places for b in it) for _, it in one))
+        one = next(fits, None)
+        if one is None:
+            rounds.append([(edit, places)])
+        else:
+            one.append((edit, places))
+    return rounds
+
+
+class Copy:
+    """A copy of a crate and of those below it, in which its edits are tried."""
+
+    def __init__(self, crate, lines, way, room):
+        self.crate, self.way, self.room = crate, way, room
+        names = [*edit_files.libraries_of(crate, lines), crate]
+        for name in names:
+            for part in (*PARTS, "c"):
+                if os.path.isdir(f"{TOP}/crates/{name}/{part}"):
+                    shutil.copytree(f"{TOP}/crates/{name}/{part}", f"{room}/crates/{name}/{part}")
+        with open(f"{room}/crates.txt", "w", encoding="utf-8") as it:
+            it.writelines(" ".join(lines[name]).replace(" :", ":", 1) + "\n" for name in names)
+        shutil.copyfile(f"{TOP}/HANDLES", f"{room}/HANDLES")
+        self.folder = f"{room}/crates/{crate}"
+
+    def rt(self, *words, at):
+        """Calls `rt` in a folder of the copy, and returns its status and what it printed."""
+        how = {"cwd": at, "stdin": subprocess.DEVNULL, "stdout": subprocess.PIPE, "stderr": subprocess.STDOUT}
+        ran = subprocess.run([os.environ.get("RT", "rt"), *words], **how, encoding="utf-8", errors="replace")
+        return ran.returncode, ran.stdout
+
+    def said(self, one):
+        """What a check of the crate with these edits says, after the texts of the changed files."""
+        texts = {}
+        for edit, _ in one:
+            if planted(edit, f"{TOP}/crates/{self.crate}", texts) is None:
+                return {}, f"{edit.name} cannot be applied"
+        for part in PARTS:
+            shutil.rmtree(f"{self.folder}/{part}", ignore_errors=True)
+            if os.path.isdir(f"{TOP}/crates/{self.crate}/{part}"):
+                shutil.copytree(f"{TOP}/crates/{self.crate}/{part}", f"{self.folder}/{part}")
+        for file, text in texts.items():
+            with open(f"{self.folder}/{file}", "w", encoding="utf-8") as it:
+                it.write(text)
+        if self.way == "check":
+            status, said = self.rt("check", at=self.folder)
+            chunks = said.split("\nlogic=")
+            # (the libraries below it are told before it, if they had to be built)
+            own = "\nlogic=".join(chunks[-2:])
+            own = own if f"\ncrate {self.crate}: modules" in own else said[-2000:].replace("\nlogic=", "\n")
+        else:
+            # (the gate takes a crate only in the layout of `rt fmt`)
+            self.rt("fmt", at=self.folder)
+            status, said = self.rt("ci", at=self.room)
+            found = re.search(rf"^== {self.crate}$.*?^rt: {self.crate} (?:NOT )?PROVED$", said, re.M | re.S | re.I)
+            own = found[0] if found else said[-2000:].replace("\nlogic=", "\n")
+        texts = {it: edit_files.text_of(f"{self.folder}/{it}") for it in texts}
+        return texts, own
+
+
+def goals_of(places, texts, said):
+    """The open goals of the functions of these places, and their goals of which an answer no longer fits."""
+    is_alone = any(it.number is None for it in places)
+    spans = [(it.file, edit_files.functions_in(texts[it.file])[it.number]) for it in places if it.number is not None]
+    has = lambda file, line: is_alone or any(file == one and it.first < line <= it.last + 1 for one, it in spans)
+    search = [goal for file, line, goal in OPEN.findall(said) if has(file, int(line))]
+    told = [(folder, goal) for folder, goal, more in ANSWER.findall(said) if not HOLDS.search(more)]
+    answers = [goal for folder, goal in told if is_alone or any(it.has_answers_in(folder) for it in places)]
+    return search, answers
+
+
+def verdict_on(edit, places, texts, said, waiting):
+    """What a check says of one of the edits that were planted."""
+    search, answers = goals_of(places, texts, said)
+    clauses = edit.clauses
+    if len(clauses) != 1 or not clauses[0]:
+        return Verdict(False, f"NOT TRIED: it has {len(clauses)} lines `clause:` with a name, and not one")
+    for goals, how in ((search, "by search"), (answers, "by an answer")):
+        if clauses[0] in map(edit_files.clause_of, goals):
+            return Verdict(True, f"refused by {clauses[0]}, {how}", how)
+    if search or answers:
+        return Verdict(False, f"REFUSED BY ANOTHER CLAUSE: by {', '.join(dict.fromkeys(map(edit_files.clause_of, [*search, *answers])))}, and not by {clauses[0]}")
+    return LATER if any(it.name in waiting for it in places) else Verdict(False, "NOT REFUSED: no goal of what it changes is open")
+
+
+def tried_once(one, texts, said):
+    """What one check says of each edit of a round: a verdict, or LATER where it has to be tried without the others."""
+    found = VERDICT.findall(said)
+    if found and found[-1] == "proved":
+        return {edit.name: Verdict(False, "NOT REFUSED: the crate is still proved") for edit, _ in one}
+    if not found or found[-1] != "not-proved" or any(places is None for _, places in one):
+        if len(one) > 1:
+            return {edit.name: LATER for edit, _ in one}
+        lines = [it for it in said.split("\n") if re.search(r"error|cannot be applied|ran out|rt: ", it)] or said.strip().split("\n")
+        return {one[0][0].name: Verdict(False, f"NOT TRIED: {lines[0][:200]}")}
+    waiting = {it.rsplit("::", 1)[-1].split("+")[0] for it in WAITS.findall(said)}
+    told = {edit.name: verdict_on(edit, places, texts, said, waiting) for edit, places in one}
+    if len(one) == 1 and told[one[0][0].name] == LATER:
+        told[one[0][0].name] = Verdict(False, "NOT REFUSED: no goal of what it changes is open")
+    return told
+
+
+def way_for(crate, lines):
+    """How a crate is tried best: by `rt check` where it kept work here, and else by `rt ci`."""
+    work = f"{TOP}/crates/{crate}/out/incremental"
+    is_kept = os.path.isdir(work) and os.listdir(work)
+    below = (f"{TOP}/crates/{it}/out/rlib/stamp" for it in edit_files.libraries_of(crate, lines))
+    return "check" if is_kept and all(map(os.path.isfile, below)) else "ci"
+
+
+def try_crate(crate, edits, lines, by, keep, say):
+    """Tries edits of a crate, by a command of `rt` or the best one, and returns the verdicts by the edits' names.
+    `keep` takes what each check said, with its number, and `say` what came of each edit."""
+    way, checks, verdicts = by or way_for(crate, lines), 0, {}
+    with tempfile.TemporaryDirectory(prefix="undofs-edits-") as room:
+        copy = Copy(crate, lines, way, room)
+        left = rounds_of(f"{TOP}/crates/{crate}", edits)
+        while left:
+            one, checks = left.pop(0), checks + 1
+            texts, said = copy.said(one)
+            keep(checks, said)
+            told = tried_once(one, texts, said)
+            later = [it for it in one if told[it[0].name] == LATER]
+            # what waits is tried without those that it waits for
+            left += [later] if len(later) < len(one) and later else [[it] for it in later]
+            for edit, _ in one:
+                if told[edit.name] != LATER:
+                    verdicts[edit.name] = told[edit.name]
+                    say(f"{crate}/{edit.name}: {told[edit.name].words}")
+    say(f"{crate}: {len(edits)} edits in {checks} checks by rt {way}")
+    return verdicts

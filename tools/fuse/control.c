@@ -138,13 +138,12 @@ static int give_up_group(void) {
     return 0;
 }
 
-/* The open group ends, the line is given, and what was asked by hand is on the part once it is answered. */
-static int carry_out(enum verb verb, const char *line, const char *rest) {
-    if (verb == BEGIN || verb == BEGIN_UNSYNCED) return begin_group(verb == BEGIN_UNSYNCED);
-    if (verb == END) return end_group();
-    if (verb == ABANDON) return give_up_group();
-    int why = saves.is_failed ? UNDOFS_GONE : save_ends();
-    if (why == 0) why = give(verb, line, rest);
+/* What may make room on a full flash. */
+static int lets_go(enum verb verb) { return verb == FORGET || verb == FORGETFREE || verb == RMCHECKPOINT; }
+
+/* Outside a group. What was asked by hand is on the part once it is answered. */
+static int give_and_sync(enum verb verb, const char *line, const char *rest) {
+    int why = give(verb, line, rest);
     reads_forget();
     if (why == UNDOFS_TOOOLD && verb == GOTO) why = UNDOFS_NOSUCHVERSION; /* it was dropped: it is not there */
     if (why == 0) saves_note_change();
@@ -152,6 +151,19 @@ static int carry_out(enum verb verb, const char *line, const char *rest) {
     if (why == 0) why = saves_sync();
     if (why == 0 && verb == RMCHECKPOINT) version_times_synced(1); /* its name may be given anew before the times are written unasked */
     return why;
+}
+
+/* The open group ends, and the line is given. A group that finds no room for its end is in the way of none that makes room. */
+static int carry_out(enum verb verb, const char *line, const char *rest) {
+    if (verb == BEGIN || verb == BEGIN_UNSYNCED) return begin_group(verb == BEGIN_UNSYNCED);
+    if (verb == END) return end_group();
+    if (verb == ABANDON) return give_up_group();
+    int why = saves.is_failed ? UNDOFS_GONE : save_ends();
+    int is_short = why == UNDOFS_ENOSPC && lets_go(verb);
+    if (is_short) why = save_ends_short();
+    if (why == 0) why = give_and_sync(verb, line, rest);
+    int more = is_short ? save_goes_on() : 0;
+    return why == 0 && more != UNDOFS_ENOSPC ? more : why;
 }
 
 /* Pages that a program changed in a map come first: they belong to the version before. Then no page of what is open is the kernel's any

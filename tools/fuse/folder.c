@@ -198,8 +198,8 @@ static int folder_readdir(const char *path, void *buffer, fuse_fill_dir_t fill, 
 static int folder_statfs(const char *path, struct statvfs *s) {
     struct undofs_space space;
     (void)path;
-    int why = writes_give("/"); /* so that it has its blocks */
-    if (why == 0) why = undofs_df(saves.child, &space);
+    (void)writes_give("/"); /* so that it has its blocks */
+    int why = undofs_df(saves.child, &space);
     if (why != 0) return errno_of(why);
     memset(s, 0, sizeof *s);
     s->f_bsize = s->f_frsize = saves.block;

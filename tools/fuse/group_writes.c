@@ -98,6 +98,10 @@ uint64_t writes_blocks(void) {
     return blocks;
 }
 
+uint64_t writes_twice(void) { return written_twice(&buffer); }
+
+int writes_are_kept(void) { return buffer.most_nodes > 0; }
+
 /* Whether what is kept has room for certain with so many blocks more. */
 static int has_room_for(uint64_t more) { return !ways.is_short && space_has(writes_blocks() + more); }
 
@@ -159,6 +163,7 @@ int writes_give(const char *path) {
         why = give_lines(lines);
         for (size_t i = 0; i < count; i++) note_given(files[i], why);
     }
+    if (!writes_are_kept()) forget_ways_below("/"); /* they take nothing for what is given */
     return why;
 }
 
@@ -221,6 +226,7 @@ int writes_keep(const char *path, uint64_t at, const uint8_t *bytes, size_t coun
     if (why == 0) why = learn_ways(path);
     if (why != 0) return why;
     if (!has_room_for(more_for(file, at, *kept))) why = writes_give("/");
+    if (why == 0) why = learn_ways(path); /* if all was given */
     if (why == 0 && !has_room_for(more_for(file, at, *kept))) why = saves_find_room();
     if (why != 0) return why;
     if (!has_room_for(more_for(file, at, *kept))) return give_at_once(path, file, at, bytes, *kept);

@@ -20,8 +20,11 @@ void writes_drop(const char *path);
 /* Names changed: a folder may have an entry more. */
 void writes_note_names(void);
 
-/* How many blocks the file system takes at most for all that is kept. */
+/* How many blocks the file system takes at most for all that is kept; how many of these are counted twice, since a file is written anew
+ * while its nodes of before are in use; whether anything is kept. */
 uint64_t writes_blocks(void);
+uint64_t writes_twice(void);
+int writes_are_kept(void);
 
 /* Whether the length of a file is known with no question; and how long it is then. */
 int writes_know_length(const char *path, uint64_t *length);

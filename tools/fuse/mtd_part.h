@@ -1,5 +1,5 @@
 /* A driver over /dev/mtdN: NOR in the layout of docs/format.md, with sectors of the part's size, or NAND by raw_nand.h with the
- * free spare bytes of each page. It was tried over tests/mtd_shim.c alone, and on no part. */
+ * free spare bytes of each page. It was tried over tests/mtd_shim.c and under a kernel with simulated flash, and on no real part. */
 #ifndef MTD_PART_H
 #define MTD_PART_H
 

@@ -1,7 +1,22 @@
+#define _GNU_SOURCE
 #include "part.h"
 #include <errno.h>
 #include <string.h>
 #include <sys/stat.h>
+#include <time.h>
+
+/* As flat_file_open waits: who had the device may still bring its last changes to it. */
+static int open_device(struct part *part, const char *name, int is_nor, void (*tell_in_use)(void)) {
+    enum { TENTHS = 100, TOLD_AT = 10 };
+    const struct timespec tenth = {0, 100000000};
+    int why = mtd_part_open(&part->mtd, name, is_nor);
+    for (int tenths = 1; why == EBUSY && tenths < TENTHS; tenths++) {
+        if (tenths == TOLD_AT) tell_in_use();
+        nanosleep(&tenth, NULL);
+        why = mtd_part_open(&part->mtd, name, is_nor);
+    }
+    return why;
+}
 
 int part_open(struct part *part, const char *name, const struct undofs_sizes *sizes, int is_nor, void (*tell_in_use)(void)) {
     struct stat found;
@@ -9,7 +24,7 @@ int part_open(struct part *part, const char *name, const struct undofs_sizes *si
     part->is_new = 0;
     part->is_device = is_device;
     if (is_device) {
-        int why = mtd_part_open(&part->mtd, name, is_nor);
+        int why = open_device(part, name, is_nor, tell_in_use);
         if (why == 0) part->driver = mtd_part_driver(&part->mtd);
         return why;
     }

@@ -19,6 +19,7 @@
 enum {
     READ_ONLY = 16,
     IDLE = 1,         /* with no time to settle, a group ends so many seconds after its last change, where no close comes */
+    AGAIN = 5,        /* one that is refused its end is tried again after so many */
     LEAST_LINES = 2 << 20, /* at least so many bytes of lines are kept to be sent again, */
     SMALL = 1 << 16,       /* and room of more than so many is given back once the group is over */
 };
@@ -112,21 +113,29 @@ int saves_look_for_version(void) {
 
 /* ---- a full flash ---- */
 
-/* Gives the group up, makes room, and sends all of it again, so that it stays one version. */
-static int give_again(const struct undofs_lines *given) {
-    const struct touch touch = last_touch;
-    int why = UNDOFS_ENOSPC;
+/* The group that was given up cannot be sent again, as where blocks went bad meanwhile. */
+static void lose_group(void) {
+    syslog(LOG_ERR, "the flash is full: what was changed since the last version is lost");
+    (void)save_given_up();
+}
+
+/* Gives the group up, makes room, and sends all of it again, so that it stays one version. Then the lines are given, which have to leave
+ * room for what they touch; null for lines of what was written before, and had its room then. */
+static int give_again(const struct undofs_lines *given, const struct touch *touch) {
+    int why = UNDOFS_ENOSPC, is_whole = 1;
     reads_forget();
     for (int step = 0; step < SPACE_STEPS && why == UNDOFS_ENOSPC; step++) {
-        uint64_t blocks = touched_blocks() + touch.blocks;
+        uint64_t blocks = touched_blocks() + (touch == NULL ? writes_twice() : space_twice(touch));
         if (saves.in_group && undofs_abandon(saves.child) != 0) return UNDOFS_GONE;
         (void)space_is_made(step, blocks);
         if (saves.in_group && undofs_begin(saves.child) != 0) return UNDOFS_GONE;
         why = saves.in_group && kept.length > 0 ? undofs_exchange(saves.child, &kept) : 0;
         if (why == UNDOFS_GONE || why == UNDOFS_POWERCUT) return why;
+        is_whole = why == 0;
         space_may_be_free();
-        why = space_has_room(&touch) ? undofs_exchange(saves.child, given) : UNDOFS_ENOSPC;
+        if (is_whole) why = touch == NULL || space_has_room(touch) ? undofs_exchange(saves.child, given) : UNDOFS_ENOSPC;
     }
+    if (!is_whole) lose_group();
     return why;
 }
 
@@ -140,6 +149,7 @@ static void drop_kept(void) {
     kept = (struct undofs_lines){NULL, 0, 0, 0};
 }
 
+/* Keeps lines that were taken. */
 static void keep(const struct undofs_lines *given) {
     if (!saves.forgets || !saves.in_group || is_cut) return;
     is_cut = saves.is_held && kept.length + given->length > most_lines();
@@ -185,20 +195,29 @@ static int begin_change(void) {
 
 int saves_find_room(void) {
     static const struct undofs_lines none;
-    int why = space_has_room(&last_touch) ? 0 : UNDOFS_ENOSPC;
-    if (why != 0 && saves.forgets && !is_cut) why = give_again(&none);
+    const struct touch touch = last_touch;
+    int why = space_has_room(&touch) ? 0 : UNDOFS_ENOSPC;
+    if (why != 0 && saves.forgets && !is_cut) why = give_again(&none, &touch);
     tell_full(why);
     return saves_told(why);
+}
+
+/* Bytes that are kept were answered, and take their room before a change that asks for none, as a move. */
+static void give_kept_first(const struct touch *touch) {
+    if (!writes_are_kept() || (space_has_room(touch) && space_has(touch->blocks + writes_blocks()))) return;
+    (void)writes_give("/");
 }
 
 /* Gives the lines, where there is room for what they change. */
 static int give_change(const struct undofs_lines *given, const struct change *change) {
     if (change != NULL && !saves.in_group) touched_clear();
     if (change != NULL) change->touch(change->with);
-    int has_room = change == NULL || space_has_room(&last_touch);
+    const struct touch touch = last_touch;
+    if (change != NULL) give_kept_first(&touch);
+    int has_room = change == NULL || space_has_room(&touch);
     int why = has_room ? undofs_exchange(saves.child, given) : UNDOFS_ENOSPC;
-    if (why == UNDOFS_ENOSPC && saves.forgets && !is_cut) why = give_again(given);
-    keep(given);
+    if (why == UNDOFS_ENOSPC && saves.forgets && !is_cut) why = give_again(given, change == NULL ? NULL : &touch);
+    if (why == 0) keep(given);
     tell_full(why);
     return why;
 }
@@ -262,20 +281,39 @@ static int end_unchanged(void) {
     return 0;
 }
 
+/* The open group becomes a version. */
+static int make_version(void) {
+    uint64_t serial = saves.next;
+    int why = undofs_end_group(saves.child);
+    if (why != 0) return end_refused(why);
+    saves.in_group = 0;
+    drop_kept();
+    why = saves_look_for_version();
+    if (why == 0 && saves.next == serial) times_belong(serial, saves.present);
+    return why;
+}
+
 int save_ends(void) {
     if (!saves.in_group || saves.is_held) return 0;
     int why = writes_give("/");
-    if (why == 0 && is_same_tree(saves.child, saves.present)) return end_unchanged();
-    if (why == 0) why = undofs_end_group(saves.child);
     if (why != 0) return end_refused(why);
-    uint64_t serial = saves.next;
-    saves.in_group = 0;
-    drop_kept();
-    writes_drop("/");
-    why = saves_look_for_version();
+    if (is_same_tree(saves.child, saves.present)) return end_unchanged();
+    why = make_version();
     if (why != 0) return why;
-    if (saves.next == serial) times_belong(serial, saves.present);
+    writes_drop("/");
     return saves.is_durable ? saves_sync() : 0;
+}
+
+int save_ends_short(void) {
+    syslog(LOG_NOTICE, "the flash is full: a group is ended without what found no room, which is of the next one");
+    return make_version();
+}
+
+int save_goes_on(void) {
+    int why = save_begins();
+    touched_lose(); /* what is kept was touched before */
+    if (why == 0) why = save_ends();
+    return why == 0 ? saves_sync_changes() : why;
 }
 
 int save_is_done(void) { return saves.is_durable ? save_ends() : 0; }
@@ -309,8 +347,11 @@ static int is_sync_due(double now) { return saves.commit != 0 && saves.unsynced_
 /* The open group ends whoever is in it, so that what another program saved is not held back. One that settled is synced at once:
  * were the sync due later, it would cut the next act in two. */
 static void end_due(double now, int is_quiet) {
-    if (!is_quiet && !is_sync_due(now)) return;
-    if (save_ends() == 0 && saves.settle != 0 && saves.commit != 0) (void)saves_sync_changes();
+    static double refused_at = -AGAIN;
+    if ((!is_quiet && !is_sync_due(now)) || now - refused_at < AGAIN) return;
+    int why = save_ends();
+    if (why != 0) refused_at = now;
+    if (why == 0 && saves.settle != 0 && saves.commit != 0) (void)saves_sync_changes();
 }
 
 int saves_due(int is_waiting) {

@@ -50,6 +50,10 @@ uint64_t saves_serial(void);
  * makes none: its times go to the present version. */
 int save_begins(void);
 int save_ends(void);
+/* Where the end was refused for want of room: the group is a version without the bytes that are kept; and the next one begins with these,
+ * and ends, and is synced. Between the two versions may be forgotten. */
+int save_ends_short(void);
+int save_goes_on(void);
 /* A change of names or of a length is done, or a file was closed: with `durable` the group ends, and all is synced. */
 int save_is_done(void);
 /* Gives up the group. */

@@ -51,6 +51,8 @@ static uint64_t wanted(const struct touch *t) {
     return t->growth == GROWS_LONGER ? t->blocks + space.reserve : 2 * t->blocks;
 }
 
+uint64_t space_twice(const struct touch *t) { return t->growth == GROWS_ANEW ? t->blocks : 0; }
+
 static int is_left(uint64_t blocks) { return space.free >= blocks + (undofs_erases(saves.child) - space.erases); }
 
 /* A group that began has all blocks that the one before it gave up, and was not looked at for it: so `free` is what there is at least. */

@@ -14,6 +14,8 @@ void space_may_be_free(void);
 /* Whether a change finds room, as far as is known: one that makes a file longer, or a new one, has to leave the reserve free, and one that
  * writes a file anew has to leave room to write it once more. */
 int space_has_room(const struct touch *touch);
+/* How many blocks have to be free beside those of a change: for one that writes a file anew, as many. */
+uint64_t space_twice(const struct touch *touch);
 /* Whether so many blocks are free beside what was taken since that was last looked at; where they are not, it is looked at anew. */
 int space_has(uint64_t blocks);
 /* Outside a group: forgets the fewest old versions that leave so many blocks free, with some to spare, or all of them; in a second step what

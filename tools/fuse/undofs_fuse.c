@@ -113,6 +113,7 @@ static int is_folder_of_times_there(void) {
     char *times = options.times == NULL ? NULL : realpath(options.times, NULL);
     if (options.times != NULL && times == NULL) fprintf(stderr, "undofs-fuse: %s: %s\n", options.times, strerror(errno));
     int is_there = options.times == NULL || times != NULL;
+    free(options.times);
     options.times = times;
     return is_there;
 }

@@ -61,6 +61,16 @@ uint64_t written_nodes_with(const struct write_buffer *buffer, const struct writ
     return most_nodes(buffer, file, first, higher(written_length(file), at + added));
 }
 
+uint64_t written_twice(const struct write_buffer *buffer) {
+    uint64_t nodes = 0;
+    for (size_t i = 0; i < WRITTEN_BUCKETS; i++) {
+        for (const struct written_file *file = buffer->files[i]; file != NULL; file = file->next) {
+            if (file->runs != NULL && file->runs->at < file->given_length) nodes += file->most_nodes / 2;
+        }
+    }
+    return nodes;
+}
+
 /* Counts a file anew, after its runs changed. */
 static void count(struct write_buffer *buffer, struct written_file *file) {
     size_t memory = RECORD + strlen(file->path);

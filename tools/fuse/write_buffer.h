@@ -46,6 +46,8 @@ struct written_file *written_know(struct write_buffer *buffer, const char *path,
 int written_keep(struct write_buffer *buffer, struct written_file *file, uint64_t at, const uint8_t *bytes, size_t count);
 /* How many nodes the file system would write at most, if these bytes were kept too. */
 uint64_t written_nodes_with(const struct write_buffer *buffer, const struct written_file *file, uint64_t at, size_t count);
+/* How many of the nodes of all files are counted twice. */
+uint64_t written_twice(const struct write_buffer *buffer);
 /* How long the file is. */
 uint64_t written_length(const struct written_file *file);
 /* Puts what is kept over `count` bytes from `at` on: of these the file system has the first `had`, and the others become 0 first.

@@ -1,8 +1,9 @@
 #!/usr/bin/env python3
-"""Builds the test of a wrong driver: build_wrong.py NAME FOLDER
+"""Builds a wrong driver or a wrong daemon: build_wrong.py NAME FOLDER
 
-wrong/NAME.edit has the file below tools/ that is changed, pairs of lines of it, and the case that has to see it. FOLDER gets `part_test`,
-and the name of the case is printed. The status is 1 where a line stands there never or twice, or nothing is built.
+wrong/NAME.edit has the file below tools/ that is changed, pairs of lines of it, and the case that has to see it. FOLDER gets `part_test`
+for a case of the driver by itself, and `undofs-fuse` for one of a folder; the name of the case is printed. The status is 1 where a line
+stands there never or twice, or nothing is built.
 """
 import os
 import shutil
@@ -48,7 +49,8 @@ def main():
         change(f"{space}/{file}", pairs)
         env = {**os.environ, "CFLAGS": "-Wno-error -w"}
         made = os.path.abspath(sys.argv[2])
-        done = subprocess.run([f"{HERE}/build_part_test.sh", space, made], env=env)
+        words = [f"{HERE}/build_part_test.sh", space, made] if case.startswith("driver_") else [f"{space}/fuse/build.sh", made]
+        done = subprocess.run(words, env=env)
     print(case)
     return done.returncode
 

@@ -3,7 +3,8 @@
 set -e
 here=$(cd "$(dirname "$0")" && pwd)
 apt-get update -q
-apt-get install -y -q --no-install-recommends qemu-system-x86 busybox-static mtd-utils cpio kmod gcc libc6-dev linux-libc-dev python3
+apt-get install -y -q --no-install-recommends qemu-system-x86 busybox-static mtd-utils cpio kmod fuse3 git sqlite3 libfuse3-dev pkg-config \
+    gcc libc6-dev linux-libc-dev python3
 package=$(apt-cache depends linux-image-amd64 | awk '/Depends: linux-image/ {print $2; exit}') # by its name: a pattern fetches gigabytes
 rm -rf "$here/out/kernel" "$here/out/package"
 mkdir -p "$here/out/package"

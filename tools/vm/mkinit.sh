@@ -1,16 +1,16 @@
 #!/bin/bash
 # Makes what the machine has in memory when it starts: tools/vm/mkinit.sh FOLDER
-# FOLDER has `trials`, `bin` with programs, and may have `wrong` (init). It gets `root` and, of it, `initrd`: busybox, mtd-utils, modules
-# of out/kernel, and what stands here.
+# FOLDER has `trials`, `bin` with programs, and may have `wrong` (init). It gets `root` and, of it, `initrd`: busybox and other programs of
+# the host, modules of out/kernel, and what stands here.
 set -e
 here=$(cd "$(dirname "$0")" && pwd)
 root=$1/root
 kernel=$here/out/kernel version=$(ls "$here/out/kernel/lib/modules")
-modules="nandsim mtdram"
-programs="nanddump"
+modules="nandsim mtdram fuse mtdblock ubifs jffs2 lzo deflate zstd"
+programs="nanddump flash_erase ubiformat ubiattach ubidetach ubimkvol bash flock realpath fusermount3 git sqlite3"
 
 rm -rf "$root"
-mkdir -p "$root"/{bin,sbin,proc,sys,dev,tmp,run,wrong,scripts}
+mkdir -p "$root"/{bin,sbin,proc,sys,dev,tmp,run,mnt,etc,wrong,scripts}
 cp /bin/busybox "$root/bin/"
 for name in $(/bin/busybox --list); do [ -e "$root/bin/$name" ] || ln -s busybox "$root/bin/$name"; done
 ln -s ../bin/busybox "$root/sbin/modprobe" # the kernel asks for it by this name
@@ -30,6 +30,6 @@ for file in "$root"/bin/*; do
 done | sort -u | while read -r library; do install -D "$library" "$root$library"; done
 
 cp "$here/init" "$here/run_trial" "$here/checks" "$1/trials" "$root/"
-cp "$here"/cases/* "$root/scripts/"
+cp "$here"/cases/* "$here/measured" "$root/scripts/"
 [ ! -d "$1/wrong" ] || cp -r "$1/wrong/." "$root/wrong/"
 (cd "$root" && find . | cpio -o -H newc --quiet) >"$1/initrd"

@@ -4,7 +4,9 @@ import ctypes
 import errno
 import os
 import subprocess
+import time
 
+from kept_times import try_unit
 from losses import SMALL, save_and_sync
 from mounts import SHARED, Folder, mounted, tree_of, want
 
@@ -110,7 +112,7 @@ def a_host_that_fails_one_kind_of_call():
 
 
 def a_second_daemon_behind_mtd():
-    """A part behind MTD that a daemon has is refused to a second one, and nothing is lost by it."""
+    """A part behind MTD that a daemon has is refused to a second one, which waits ten seconds and tells it, and nothing is lost by it."""
     with Folder(history=8) as f:
         base = {"MTD_FILE": f.part, "MTD_KIND": "nor"}
         with open(f.part, "wb"):
@@ -120,13 +122,21 @@ def a_second_daemon_behind_mtd():
         other = f.space + "/other"
         os.mkdir(other)
         env = {**os.environ, **base, "LD_PRELOAD": f"{SHARED['shims']}/mtd_shim.so"}
+        start = time.time()
         done = subprocess.run([SHARED["daemon"], f.part, other, "-o", f"serve={SHARED['program']}"], env=env, capture_output=True, text=True, timeout=100)
-        want((done.returncode, "in use" in done.stderr), (1, True), f"a second daemon: {done.stderr}")
+        subprocess.run(["fusermount3", "-u", "-z", other], capture_output=True)  # where it was begun
+        want((done.returncode, done.stderr.count("in use: waiting"), done.stderr.count("in use")), (1, 1, 2), f"a second daemon: {done.stderr}")
+        want(9 < time.time() - start, True, f"it waited {time.time() - start:.1f} s")
         save_and_sync(f("b"), b"two")
         f.unmount()
         f.mount(base)
         want(tree_of(f.path), {"a": b"one", "b": b"two"}, "after it")
         f.unmount()
+
+
+def the_driver_behind_mtd():
+    """What it tells of pages: corrected errors, sums of other places, blank spare bytes, bad blocks, failed pages and torn marks of a NOR."""
+    try_unit("mtd_part_test", "mtd_part", "../c/raw_nand", "tests/mtd_shim")
 
 
 def a_worn_flash():
@@ -170,5 +180,6 @@ CASES = [
     df_and_du_tell_blocks,
     a_host_that_fails_one_kind_of_call,
     a_second_daemon_behind_mtd,
+    the_driver_behind_mtd,
     a_worn_flash,
 ]

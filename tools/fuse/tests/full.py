@@ -4,7 +4,7 @@ import errno
 import os
 import sqlite3
 
-from mounts import mounted, run, tree_of, want
+from mounts import SHARED, Folder, mounted, run, tree_of, want
 
 SMALL_PART = {"page": 4096, "pages": 1, "blocks": 96, "history": 32}
 
@@ -89,6 +89,144 @@ def the_reserve_is_for_what_grows_not():
         want(36 <= os.statvfs(f.path).f_bfree <= 46, True, "blocks that are left with another reserve")
 
 
+def no_more_is_forgotten_than_a_save_takes():
+    """A save on a full flash counts its blocks once: so many are free afterwards as the reserve and a sixteenth, and hardly more."""
+    with mounted(**{**SMALL_PART, "history": 64}) as f:
+        for i in range(60):
+            saved(f("a"), bytes([i]))
+        want(os.statvfs(f.path).f_bfree < 8 + 5 + 20, True, "is the flash full")
+        saved(f("b"), b"b" * 70000)
+        free = os.statvfs(f.path).f_bfree
+        want(8 + 5 <= free <= 8 + 5 + 4, True, f"{free} blocks are free after a save")
+
+
+def a_move_takes_no_room_of_kept_bytes():
+    """Bytes that were answered are given before moves take the reserve that they count on: the close is no refusal."""
+    with mounted("keep,commit=0,reserve=12", **{**SMALL_PART, "blocks": 128, "history": 64}) as f:
+        for i in range(20):
+            f.order("begin")
+            os.mkdir(f(f"d{i}"))
+            saved(f(f"d{i}/a"), b"open")
+            f.order("end")
+        while refusal_of(saved, f("x"), os.urandom(4100)) is None:
+            pass
+        file = os.open(f("d0/a"), os.O_WRONLY)
+        want(os.pwrite(file, b"kept", 0), 4, "a write in place")
+        told = [refusal_of(os.rename, f(f"d{i}/a"), f(f"d{i}/b")) for i in range(1, 20)]
+        want((told[0], told[-1]), (None, "ENOSPC"), f"moves until no block is left: {told}")
+        want(refusal_of(os.close, file), None, "the close")
+        want(open(f("d0/a"), "rb").read(), b"kept", "what was written")
+        f.order("forgetfree 20")
+        want(refusal_of(os.rename, f("d19/a"), f("d19/b")), None, "a move then")
+
+
+# ---- a child that finds no room for some lines ----
+
+REFUSING = """#!/usr/bin/env python3
+import os, subprocess, sys
+child = subprocess.Popen(["{program}", *sys.argv[1:]], stdin=subprocess.PIPE, stdout=subprocess.PIPE, close_fds=False)
+for line in sys.stdin.buffer:
+    is_refused = os.path.exists("{verbs}") and line.split()[0].decode() in open("{verbs}").read().split()
+    if not is_refused:
+        child.stdin.write(line)
+        child.stdin.flush()
+    sys.stdout.buffer.write(b"err ENOSPC 15\\n" if is_refused else child.stdout.readline())
+    sys.stdout.buffer.flush()
+child.stdin.close()
+sys.exit(child.wait())
+"""
+
+
+@contextlib.contextmanager
+def refusing(options):
+    """A folder whose child finds no room for the lines whose verbs stand in the file `verbs`."""
+    program = SHARED["program"]
+    with Folder(options, blocks=256, history=8) as f:
+        with open(f.space + "/refusing", "w") as file:
+            file.write(REFUSING.format(program=program, verbs=f.space + "/verbs"))
+        os.chmod(f.space + "/refusing", 0o755)
+        SHARED["program"] = f.space + "/refusing"
+        try:
+            yield f
+        finally:
+            SHARED["program"] = program
+
+
+def refuse(f, verbs):
+    with open(f.space + "/verbs.new", "w") as file:
+        file.write(verbs)
+    os.rename(f.space + "/verbs.new", f.space + "/verbs")
+
+
+def a_group_that_finds_no_room_at_its_end():
+    """The close is refused, and the bytes are kept. What moves the tree is refused; what makes room is done, and the bytes are a version
+    once there is room for them."""
+    for options in ("keep,commit=0", "commit=0"):
+        with refusing(options) as f:
+            f.mount()
+            for text in (b"one", b"two"):
+                saved(f("a"), text)
+            f.order("checkpoint x")
+            file, made = os.open(f("a"), os.O_WRONLY), os.open(f("b"), os.O_WRONLY | os.O_CREAT)
+            os.write(file, b"six")
+            os.write(made, b"new")
+            refuse(f, "write pwrite")
+            os.close(file)
+            want(refusal_of(os.close, made), "ENOSPC", "the last close")
+            for line in ("undo", "sync", "checkpoint y"):
+                want(f.refusal(line), errno.ENOSPC, line)
+            want((os.statvfs(f.path).f_blocks, tree_of(f.path)), (248, {"a": b"six", "b": b"new"}), "what is seen")
+            for line, refusal in (("forget 1", None), ("forgetfree 9000", errno.ENOSPC), ("rmcheckpoint x", None)):
+                want(f.refusal(line), refusal, line)
+                want(tree_of(f.path), {"a": b"six", "b": b"new"}, f"what is seen after {line}")
+            want(f.refusal("undo"), errno.ENOSPC, "undo before there is room")
+            refuse(f, "")
+            want(f.refusal("forgetfree 9"), None, "a line once there is room")
+            f.kill()
+            f.mount()
+            want(tree_of(f.path), {"a": b"six", "b": b"new"}, "after a kill")
+            f.order("undo")
+            want(tree_of(f.path), {"a": b"two", "b": b""}, "the version that was ended without them")
+            f.unmount()
+
+
+def what_was_refused_is_not_sent_again():
+    """A folder and bytes for which there was no room stay away, also where the group is sent again to make room for something else."""
+    with refusing("commit=0") as f:
+        f.mount()
+        f.order("begin unsynced")
+        saved(f("a"), b"one")
+        refuse(f, "mkdir")
+        want(refusal_of(os.mkdir, f("d")), "ENOSPC", "a folder")
+        refuse(f, "rename")
+        want(refusal_of(os.rename, f("a"), f("b")), "ENOSPC", "a move")
+        refuse(f, "")
+        f.order("end")
+        want(tree_of(f.path), {"a": b"one"}, "what is there")
+        f.unmount()
+
+
+def a_group_that_cannot_be_sent_again():
+    """Where the group was given up to make room, and finds none itself, that is told, and nothing of it is there; the folder goes on."""
+    with refusing("commit=0") as f:
+        f.mount()
+        saved(f("a"), b"one")
+        f.order("begin unsynced")
+        saved(f("b"), b"two")
+        os.mkdir(f("d"))
+        refuse(f, "mkdir")
+        want(refusal_of(os.mkdir, f("e")), "ENOSPC", "a folder")
+        want("is lost" in f.told(), True, f"what is told: {f.told()}")
+        want(tree_of(f.path), {"a": b"one"}, "what is there")
+        refuse(f, "")
+        os.mkdir(f("e"))
+        f.order("sync")
+        f.kill()
+        f.mount()
+        want(tree_of(f.path), {"a": b"one", "e": None}, "after a kill")
+        f.unmount()
+
+
 def rows_until_full(path, most):
     """Changes rows until that is refused: how often it was done."""
     done = 0
@@ -137,5 +275,10 @@ CASES = [
     a_full_flash_forgets_by_need,
     a_save_over_what_could_be_redone,
     the_reserve_is_for_what_grows_not,
+    no_more_is_forgotten_than_a_save_takes,
+    a_move_takes_no_room_of_kept_bytes,
+    a_group_that_finds_no_room_at_its_end,
+    what_was_refused_is_not_sent_again,
+    a_group_that_cannot_be_sent_again,
     sqlite_on_a_full_flash,
 ]

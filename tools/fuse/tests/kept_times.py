@@ -11,8 +11,9 @@ import tempfile
 import time
 import zlib
 
+from full import refuse, refusing
 from losses import save_and_sync
-from mounts import SHARED, Folder, Wrong, mounted, run, tree_of, want
+from mounts import SHARED, Folder, NotBuilt, Wrong, mounted, run, tree_of, want
 
 SMALL = {"page": 256, "pages": 16, "blocks": 512, "history": 32}
 
@@ -23,7 +24,10 @@ def try_unit(name, *sources, flags=()):
     """Builds a test of some files of the daemon with the sanitizers, and runs it in a folder of its own."""
     with tempfile.TemporaryDirectory() as space:
         folder = SHARED["tools"] + "/fuse"
-        run("gcc", *FLAGS, *flags, f"{folder}/tests/{name}.c", *(f"{folder}/{source}.c" for source in sources), "-o", f"{space}/{name}")
+        words = ["gcc", *FLAGS, *flags, f"{folder}/tests/{name}.c", *(f"{folder}/{source}.c" for source in sources), "-o", f"{space}/{name}"]
+        built = subprocess.run(words, capture_output=True, text=True)
+        if built.returncode != 0:
+            raise NotBuilt(built.stderr[-300:])
         told = tempfile.mkdtemp(dir=space)
         run(f"{space}/{name}", told)
 
@@ -320,6 +324,26 @@ def times_that_cannot_be_written():
         save(f("a"), "last", 2000)
         mount_anew(f)
         want((text_of(f("a")), os.stat(f("a")).st_mtime), ("last", 2000), "after a new mount")
+
+
+def times_wait_for_the_sync():
+    """Where a sync is refused no file of times is written: after a kill it tells nothing that is not on the part."""
+    with refusing("commit=0") as f:
+        f.mount()
+        save(f("a"), "one", 1000)
+        mount_anew(f)
+        refuse(f, "sync")
+        try:
+            save_and_sync(f("b"), b"two")
+            raise Wrong("a sync that is refused was answered")
+        except OSError as error:
+            want(error.errno, errno.ENOSPC, "a sync")
+        f.kill()
+        refuse(f, "")
+        f.mount()
+        want((tree_of(f.path), os.stat(f("a")).st_mtime), ({"a": b"one"}, 1000), "after a kill")
+        want(files_aside(f), [], "files aside")
+        f.unmount()
 
 
 def times_after_kills():
@@ -767,6 +791,7 @@ CASES = [
     times_in_another_folder,
     times_of_a_part_behind_mtd,
     times_that_cannot_be_written,
+    times_wait_for_the_sync,
     times_after_kills,
     the_list_of_versions,
     versions_by_the_clock,

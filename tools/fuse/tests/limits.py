@@ -29,7 +29,7 @@ def no_memory_is_told():
         daemon = SHARED["daemon"]
         os.environ["NO_MEMORY"] = f.space + "/none"
         try:
-            SHARED["daemon"] = build(f.space + "/made", f"-Wl,--wrap=asprintf {HERE}/no_memory.c")
+            SHARED["daemon"] = build(f.space + "/made", "-Wl,--wrap=asprintf", f"{HERE}/no_memory.c")
             f.mount()
         finally:
             SHARED["daemon"] = daemon

@@ -125,29 +125,46 @@ def rows_written(path, first):
     return rows
 
 
+# Commits four times. Each is told once a `sync` after it was answered: git syncs what it writes, and no name that it moves.
+COMMITS = """
+i=0
+while [ $i -lt 4 ]; do
+    echo $i $$ > f$i && git add -A && git commit -q -m m && echo sync > ../.undofs && git log --format=%H -1
+    i=$((i+1))
+done
+"""
+
+
+def git_of(f, *words):
+    env = {**os.environ, "GIT_CONFIG_NOSYSTEM": "1", "HOME": "/"}
+    return run("git", "-c", "user.name=a", "-c", "user.email=a@b", *words, cwd=f("w"), env=env).split()
+
+
 def cuts_under_git():
-    """The same under git commit, which syncs little: the repository is sound, at a commit that was made."""
-    draw = random.Random(4)
-    words = ["-c", "user.name=a", "-c", "user.email=a@b", "-c", "core.fsync=all"]
+    """The same under git commit: the repository is sound, at a commit that was made, and has each that was synced."""
+    draw, found = random.Random(4), 0
     with Folder(blocks=2048, history=16, options="commit=1") as f:
         f.mount()
         os.mkdir(f("w"))
-        run("git", "init", "-q", cwd=f("w"))
-        run("git", *words, "commit", "-q", "--allow-empty", "-m", "first", cwd=f("w"))
+        git_of(f, "init", "-q")
+        for name, value in (("user.name", "a"), ("user.email", "a@b"), ("core.fsync", "all")):
+            git_of(f, "config", name, value)
+        git_of(f, "commit", "-q", "--allow-empty", "-m", "first")
         f.unmount()
         for i in range(8):
-            if not f.mount({"SHIM_FILE": f.part, "SHIM_CUT": str(draw.randrange(20, 400))}, wait=False):
+            if not f.mount({"SHIM_FILE": f.part, "SHIM_CUT": str(draw.randrange(20, 1800))}, wait=False):
                 f.clear()
                 continue
-            answered = subprocess.run(["sh", "-c", 'git log --format=%H | head -1; i=0; while [ $i -lt 4 ]; do echo $i$$ > f$i; git add -A && git -c user.name=a -c user.email=a@b -c core.fsync=all commit -q -m m && git log --format=%H -1; i=$((i+1)); done'], cwd=f("w"), capture_output=True, text=True).stdout.split()  # fmt: skip
+            synced = subprocess.run(["sh", "-c", COMMITS], cwd=f("w"), capture_output=True, text=True).stdout.split()
             f.clear()
             f.mount()
             for lock in run("find", f("w"), "-name", "*.lock").split():
                 os.unlink(lock)
-            run("git", "fsck", "--strict", cwd=f("w"))
-            if answered:
-                run("git", "merge-base", "--is-ancestor", answered[-1], "HEAD", cwd=f("w"))
+            git_of(f, "fsck", "--strict")
+            want(set(synced) <= set(git_of(f, "log", "--format=%H")), True, f"commits that were synced before cut {i}: {synced}")
+            found += len(synced)
             f.unmount()
+        want(found > 4, True, f"{found} commits were synced")
 
 
 def a_part_that_fails():

@@ -1,17 +1,21 @@
 #!/usr/bin/env python3
-"""Measures a mounted folder beside a plain folder of the host, on the disk on which TMPDIR lies.
+"""Measures a mounted folder beside a plain folder of the host, on the disk on which TMPDIR lies, and beside that folder bound by bindfs,
+where that is installed.
 
   measure.py DAEMON PROGRAM      as tools/fuse/build.sh and `rt run` in crates/uffs leave them
 
 The part is a flat file of 16,384 blocks of one page of 4,096 bytes. Each figure is the median of three. With each stands the processor
-time that the daemon and its child took for the three.
+time that the daemon and its child took for one, on an average of the three.
 """
+import contextlib
 import os
+import shutil
 import statistics
+import subprocess
 import sys
 import time
 
-from mounts import SHARED, Folder, child_of
+from mounts import SHARED, Folder, child_of, run
 
 
 def save(path, text):
@@ -93,26 +97,50 @@ ROWS = [
 ]
 
 
+def three_of(measure, folder):
+    return statistics.median(measure(folder) for _ in range(3))
+
+
+@contextlib.contextmanager
+def bound(folder, space):
+    """The folder bound by bindfs; nothing where that is not installed."""
+    if shutil.which("bindfs") is None:
+        yield None
+        return
+    os.mkdir(space + "/bound")
+    run("bindfs", folder, space + "/bound")
+    try:
+        yield space + "/bound"
+    finally:
+        subprocess.run(["fusermount3", "-u", space + "/bound"], check=False)
+
+
+def measure_all(f, both):
+    plain, under = f.space + "/plain", f.space + "/under"
+    for place in (plain, under):
+        os.mkdir(place)
+    with bound(under, f.space) as other:
+        for name, measure in ROWS:
+            before = [processor_seconds(number) for number in both]
+            here = three_of(measure, f.path)
+            daemon, child = ((processor_seconds(number) - start) / 3 for number, start in zip(both, before))
+            there, by_bindfs = three_of(measure, plain), "-" if other is None else f"{three_of(measure, other):.1f}"
+            print(f"{name}: {here:.1f} here, {by_bindfs} by bindfs, {there:.1f} there; {daemon:.2f} s of the daemon and {child:.2f} s of its child", flush=True)
+
+
 def main():
     SHARED["daemon"], SHARED["program"] = (os.path.abspath(word) for word in sys.argv[1:3])
-    with Folder("forget", blocks=16384, history=128) as f:
-        plain = f.space + "/plain"
-        os.mkdir(plain)
+    with Folder(blocks=16384, history=128) as f:
         start = time.time()
         f.mount()
         print(f"make a part and mount it, s: {time.time() - start:.2f}")
-        both = (f.process.pid, child_of(f.process))
-        for name, measure in ROWS:
-            before = [processor_seconds(number) for number in both]
-            here = statistics.median(measure(f.path) for _ in range(3))
-            daemon, child = (processor_seconds(number) - start for number, start in zip(both, before))
-            there = statistics.median(measure(plain) for _ in range(3))
-            print(f"{name}: {here:.1f} here, {there:.1f} there; {daemon:.2f} s of the daemon and {child:.2f} s of its child", flush=True)
+        measure_all(f, (f.process.pid, child_of(f.process)))
         f.unmount()
         start = time.time()
         f.mount()
         print(f"mount it again, s: {time.time() - start:.2f}")
         f.unmount()
+    print(f"load of the host at the end: {os.getloadavg()[0]:.1f} on {os.cpu_count()} processors")
 
 
 if __name__ == "__main__":

@@ -9,11 +9,15 @@ import time
 
 HERE = os.path.dirname(os.path.abspath(__file__))
 TOOLS = os.path.dirname(os.path.dirname(HERE))
-SHARED = {"daemon": None, "program": None, "shims": None, "tools": TOOLS}  # tools: the sources of the daemon
+SHARED = {"daemon": None, "program": None, "shims": None, "tools": TOOLS, "edited": {}}  # tools: the sources of the daemon; edited: what is compiled otherwise
 
 
 class Wrong(Exception):
     """What was found where something else has to be."""
+
+
+class NotBuilt(Exception):
+    """A test of some files does not compile, so that nothing was tried."""
 
 
 def want(found, wanted, what=""):
@@ -27,12 +31,6 @@ def run(*words, cwd=None, check=True, text=None, env=None):
     if check and done.returncode != 0:
         raise Wrong(f"{' '.join(words)}: status {done.returncode} {done.stderr[-300:]} {done.stdout[-200:]}")
     return done.stdout
-
-
-def build(folder, flags):
-    """Builds the daemon that is tried, with more flags; its name."""
-    run(f"{SHARED['tools']}/fuse/build.sh", folder, env={**os.environ, "CFLAGS": "-O0 -w " + flags})
-    return folder + "/undofs-fuse"
 
 
 OF_C = ("undofs_client.c", "undofs_calls.c", "flat_file.c", "raw_nand.c")  # what build.sh takes beside its own folder
@@ -55,13 +53,20 @@ def objects_of(tools, folder):
     return objects
 
 
+def build(folder, *more):
+    """Links the daemon that is tried, with more flags and sources; its name."""
+    objects = {**objects_of(TOOLS, SHARED["shims"] + "/objects"), **SHARED["edited"]}
+    os.makedirs(folder, exist_ok=True)
+    words = [*os.environ.get("CFLAGS", "").split(), *objects.values(), *more, *run("pkg-config", "--libs", "fuse3").split()]
+    run("gcc", "-w", *words, "-o", folder + "/undofs-fuse")
+    return folder + "/undofs-fuse"
+
+
 def build_with(source, name, folder):
     """Builds the daemon with one source other than it is; its name."""
-    objects = objects_of(TOOLS, SHARED["shims"] + "/objects")
-    objects[name] = folder + "/wrong.o"
-    compile_one(source, objects[name])
-    run("gcc", *os.environ.get("CFLAGS", "").split(), *objects.values(), *run("pkg-config", "--libs", "fuse3").split(), "-o", folder + "/undofs-fuse")
-    return folder + "/undofs-fuse"
+    SHARED["edited"] = {name: folder + "/wrong.o"}
+    compile_one(source, folder + "/wrong.o")
+    return build(folder)
 
 
 def child_of(process):

@@ -5,7 +5,9 @@
  *   MTD_BAD=B    block B of a NAND is marked bad
  *   MTD_CUT=N    in the N-th program or erase power goes: the process ends, with a part of it done
  *   MTD_FAIL=N   one in N programs fails with EIO, with a part of it done
- *   MTD_WORN=N   from the N-th program or erase on each program of the first eight blocks fails so */
+ *   MTD_WORN=N   from the N-th program or erase on each program of the first eight blocks fails so
+ *   MTD_CORRECTED=1  each read of a NAND tells that it corrected errors
+ *   MTD_SPARE=N  a NAND tells N spare bytes a page */
 #define _GNU_SOURCE
 #include <dlfcn.h>
 #include <errno.h>
@@ -22,7 +24,8 @@
 
 enum { SPARE = 64, KEPT = 6, TORN = 8, ANCHORS = 8 };
 
-static int part = -1, is_nor, is_ram;
+static int part = -1, is_nor, is_ram, is_corrected;
+static uint32_t spare_told;
 static uint32_t page, pages, blocks; /* of NOR: sectors of `pages` times 256 bytes */
 static uint64_t bad_block = ~0ull, operations, draw = 1, cut_at, fails_of, worn_from;
 static ssize_t (*write_really)(int, const void *, size_t, off_t);
@@ -70,6 +73,8 @@ static int opened(int (*open_really)(const char *, int, ...), const char *name, 
     cut_at = number("MTD_CUT", 0);
     fails_of = number("MTD_FAIL", 0);
     worn_from = number("MTD_WORN", ~0ull);
+    is_corrected = number("MTD_CORRECTED", 0) != 0;
+    spare_told = (uint32_t)number("MTD_SPARE", SPARE);
     write_really = (ssize_t(*)(int, const void *, size_t, off_t))real("pwrite");
     part = open_really(name, O_RDWR | O_CREAT | O_CLOEXEC, 0600);
     if (lseek(part, 0, SEEK_END) == 0) fill(0, size() + (is_nor ? 0 : size() / page * SPARE));
@@ -104,8 +109,8 @@ static int is_failed(uint64_t block) {
     return fails_of != 0 && (draw >> 33) % fails_of == 0;
 }
 
-static int io_error(void) {
-    errno = EIO;
+static int refused(int why) {
+    errno = why;
     return -1;
 }
 
@@ -121,7 +126,7 @@ static ssize_t nor_written(const uint8_t *bytes, size_t count, uint64_t at) {
     int cut = is_cut(), failed = count == 256 && is_failed(at / (2 * (uint64_t)page * pages));
     put(now, cut || failed ? count / TORN : count, at);
     if (cut) _exit(77);
-    return failed ? io_error() : (ssize_t)count;
+    return failed ? refused(EIO) : (ssize_t)count;
 }
 
 #define PWRITE(name)                                                          \
@@ -137,7 +142,7 @@ static int tell_info(struct mtd_info_user *info) {
                                    .size = (uint32_t)size(),
                                    .erasesize = page * pages,
                                    .writesize = is_nor ? 1 : page,
-                                   .oobsize = is_nor ? 0 : SPARE};
+                                   .oobsize = is_nor ? 0 : spare_told};
     return 0;
 }
 
@@ -156,7 +161,7 @@ static int read_page(const struct mtd_read_req *ask) {
     check(!is_nor && ask->start % page == 0 && ask->len == page && ask->ooblen == KEPT && ask->mode == MTD_OPS_AUTO_OOB, "a read", ask->start);
     get((void *)(uintptr_t)ask->usr_data, page, ask->start);
     get((void *)(uintptr_t)ask->usr_oob, KEPT, spare_at(ask->start));
-    return 0;
+    return is_corrected ? refused(EUCLEAN) : 0;
 }
 
 static int is_programmed(uint64_t at) {
@@ -174,7 +179,7 @@ static int write_page(const struct mtd_write_req *ask) {
     put((void *)(uintptr_t)ask->usr_data, cut || failed ? page / TORN : page, at);
     if (cut) _exit(77);
     put((void *)(uintptr_t)ask->usr_oob, KEPT, spare_at(at));
-    return failed ? io_error() : 0;
+    return failed ? refused(EIO) : 0;
 }
 
 int ioctl(int file, unsigned long request, ...) {

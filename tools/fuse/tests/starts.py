@@ -27,7 +27,7 @@ def errno_of(call):
 def refused(f, *options, sizes=True):
     """The status and the message of a start that is refused. In it the part of `f` may be made."""
     words = [SHARED["daemon"], f.part, f.path, "-f", "-o", ",".join([*([f.sizes] if sizes else []), f"serve={SHARED['program']}", *options])]
-    done = subprocess.run(words, capture_output=True, text=True, timeout=60)
+    done = subprocess.run(words, capture_output=True, text=True, timeout=100)
     return done.returncode, done.stderr
 
 
@@ -48,11 +48,14 @@ def a_part_in_use_is_waited_for():
         start = time.time()
         found, told = refused(other)
         want((found, told.count("in use: waiting"), told.count("in use")), (1, 1, 2), f"beside a daemon: {told}")
-        want(9 < time.time() - start < 20, True, f"it waited {time.time() - start:.1f} s")
+        want(9 < time.time() - start, True, f"it waited {time.time() - start:.1f} s")
+        open(other.space + "/log", "w").close()
         waiting = threading.Thread(target=other.mount)
         waiting.start()
-        time.sleep(2.5)
-        want("in use: waiting" in other.told(), True, f"what is told after two seconds: {other.told()}")
+        until = time.time() + 60
+        while "in use: waiting" not in other.told():
+            want(time.time() < until, True, f"does it tell that it waits: {other.told()}")
+            time.sleep(0.1)
         f.unmount()
         waiting.join(30)
         want(os.path.ismount(other.path), True, "is it mounted once the first is gone")
@@ -64,7 +67,7 @@ def a_host_has_no_dev_fd():
     with Folder() as f:
         made = "mkdir dev && mount -t tmpfs none dev && mknod -m 666 dev/fuse c 10 229 && mknod -m 666 dev/null c 1 3 && mount --move dev /dev"
         mount = f"{SHARED['daemon']} {f.part} {f.path} -o {f.sizes},serve={SHARED['program']}"
-        told = run("unshare", "-m", "sh", "-c", f"{made} && ! ls /dev/fd 2> told && {mount} && echo hi > folder/a && cat folder/a && umount folder", cwd=f.space)
+        told = run("unshare", "-m", "--propagation", "slave", "sh", "-c", f"{made} && ! ls /dev/fd 2> told && {mount} && echo hi > folder/a && cat folder/a && umount folder", cwd=f.space)
         want(told, "hi\n", "what a file holds")
 
 

@@ -67,11 +67,12 @@ def other_users_only_read():
 
 
 def memory_that_grows_in_place():
-    """A thousand small writes to one open file with -o forget, where realloc always answers the pointer that it was given."""
-    with mounted("forget") as f:
+    """A thousand small writes to one open file, each given at once and kept to be sent again, where realloc always answers the pointer that
+    it was given."""
+    with mounted("forget,buffer=0") as f:
         f.unmount()
         was = SHARED["daemon"]
-        SHARED["daemon"] = build(f.space + "/made", f"-Wl,--wrap=realloc -Wl,--wrap=free {HERE}/realloc_in_place.c")
+        SHARED["daemon"] = build(f.space + "/made", "-Wl,--wrap=realloc", "-Wl,--wrap=free", f"{HERE}/realloc_in_place.c")
         try:
             f.mount()
             with open(f("a"), "wb", buffering=0) as file:

@@ -1,0 +1,155 @@
+/* What the driver of a part behind MTD tells of pages, over mtd_shim.c and with no file system: mtd_part_test FOLDER. The status is 0
+ * where all was right. */
+#define _GNU_SOURCE
+#include "../mtd_part.h"
+#include <errno.h>
+#include <fcntl.h>
+#include <stdio.h>
+#include <stdlib.h>
+#include <string.h>
+#include <unistd.h>
+
+enum { NOR_SECTOR = 4096, NAND_PAGE = 2048, NAND_PAGES = 64, NAND_BLOCKS = 64, SPARE = 64 };
+
+static char name[300], behind[300]; /* by the second name the shim does not know the part */
+static int wrong;
+static struct mtd_part part;
+static struct undofs_driver driver;
+static uint8_t bytes[NAND_PAGE], found[NAND_PAGE];
+
+static void want(long long got, long long wanted, const char *what) {
+    if (got == wanted) return;
+    printf("%s: %lld in place of %lld\n", what, got, wanted);
+    wrong = 1;
+}
+
+/* A part of a kind with one setting of the shim, which may be null; an erased one where its file is gone. */
+static int opened(const char *kind, const char *setting, const char *value) {
+    setenv("MTD_FILE", name, 1);
+    setenv("MTD_KIND", kind, 1);
+    if (setting != NULL) setenv(setting, value, 1);
+    int why = mtd_part_open(&part, name, 0);
+    if (setting != NULL) unsetenv(setting);
+    if (why == 0) driver = mtd_part_driver(&part);
+    return why;
+}
+
+static void open_well(const char *kind, const char *setting, const char *value) { want(opened(kind, setting, value), 0, "open"); }
+
+static void open_new(const char *kind, const char *setting, const char *value) {
+    (void)unlink(name);
+    open_well(kind, setting, value);
+}
+
+static void done(void) { close(part.descriptor); }
+
+static enum undofs_state state_of(uint32_t page) { return driver.read_page(driver.part, page, found); }
+
+static enum undofs_answer programmed(uint32_t page) { return driver.program_page(driver.part, page, bytes); }
+
+/* Copies bytes of the part's file, behind the driver's back. */
+static void copy(off_t from, off_t to, size_t count) {
+    static uint8_t some[NAND_PAGE];
+    int file = open(behind, O_RDWR);
+    if (pread(file, some, count, from) != (ssize_t)count || pwrite(file, some, count, to) != (ssize_t)count) abort();
+    close(file);
+}
+
+static off_t spare_at(uint32_t page) { return (off_t)NAND_PAGE * NAND_PAGES * NAND_BLOCKS + (off_t)page * SPARE; }
+
+/* ---- NAND ---- */
+
+static void errors_that_were_corrected(void) {
+    open_new("nand", NULL, NULL);
+    want(programmed(0), UNDOFS_DONE, "a program");
+    done();
+    open_well("nand", "MTD_CORRECTED", "1");
+    want(state_of(0), UNDOFS_DATA, "a page whose errors were corrected");
+    want(memcmp(found, bytes, NAND_PAGE), 0, "its bytes");
+    want(state_of(1), UNDOFS_ERASED, "an erased page whose errors were corrected");
+    done();
+}
+
+/* What another page holds is no data, with its sum beside it; nor are bytes beside which nothing stands. */
+static void sums_of_other_pages(void) {
+    open_new("nand", NULL, NULL);
+    want(programmed(0), UNDOFS_DONE, "a program");
+    copy(0, NAND_PAGE, NAND_PAGE);
+    want(state_of(1), UNDOFS_UNREADABLE, "bytes with blank spare bytes");
+    copy(spare_at(0), spare_at(1), NAND_SPARE);
+    want(state_of(1), UNDOFS_UNREADABLE, "bytes with the sum of another place");
+    want(state_of(0), UNDOFS_DATA, "the page itself");
+    done();
+}
+
+static void blocks_that_are_bad(void) {
+    open_new("nand", "MTD_BAD", "3");
+    want(programmed(3 * NAND_PAGES), UNDOFS_FAILED, "a program of a bad block");
+    want(driver.erase_block(driver.part, 3), UNDOFS_FAILED, "an erase of a bad block");
+    want(state_of(3 * NAND_PAGES), UNDOFS_UNREADABLE, "a page of a bad block");
+    want(programmed(4 * NAND_PAGES), UNDOFS_DONE, "a program of the next block");
+    done();
+}
+
+static void too_few_spare_bytes(void) {
+    (void)unlink(name);
+    want(opened("nand", "MTD_SPARE", "63"), ERANGE, "a part with too few spare bytes");
+    want(opened("nand", "MTD_SPARE", "64"), 0, "a part with enough of them");
+    done();
+}
+
+/* ---- NOR ---- */
+
+/* The mark of a page is the byte at its place in the sector after that of its bytes. */
+static void put_mark(uint32_t page, uint8_t mark) {
+    int file = open(behind, O_RDWR);
+    if (pwrite(file, &mark, 1, NOR_SECTOR + (off_t)page * 256) != 1) abort();
+    close(file);
+}
+
+static void a_nor_page_that_fails(void) {
+    open_new("nor", "MTD_FAIL", "1");
+    want(programmed(0), UNDOFS_FAILED, "a program that fails");
+    want(state_of(0), UNDOFS_UNREADABLE, "its page");
+    done();
+    open_well("nor", NULL, NULL);
+    want(state_of(0), UNDOFS_UNREADABLE, "its page at the next start");
+    want(driver.erase_block(driver.part, 0), UNDOFS_DONE, "an erase");
+    want(state_of(0), UNDOFS_ERASED, "its page then");
+    want(programmed(0), UNDOFS_DONE, "a program that does not fail");
+    want(state_of(0), UNDOFS_DATA, "its page at last");
+    done();
+}
+
+static void marks_that_are_torn(void) {
+    open_new("nor", NULL, NULL);
+    put_mark(2, 0x7f);
+    want(state_of(2), UNDOFS_UNREADABLE, "a torn mark over blank bytes");
+    want(programmed(1), UNDOFS_DONE, "a program");
+    copy(256, 3 * 256, 256);
+    want(state_of(3), UNDOFS_UNREADABLE, "bytes without a mark");
+    put_mark(3, 0x01);
+    want(state_of(3), UNDOFS_UNREADABLE, "bytes with a torn mark");
+    done();
+}
+
+static void a_part_in_use(void) {
+    struct mtd_part other;
+    open_new("nor", NULL, NULL);
+    want(mtd_part_open(&other, name, 0), EBUSY, "a part that is in use");
+}
+
+int main(int count, char **words) {
+    if (count != 2) return 2;
+    snprintf(name, sizeof name, "%s/part", words[1]);
+    snprintf(behind, sizeof behind, "%s/./part", words[1]);
+    for (size_t i = 0; i < sizeof bytes; i++) bytes[i] = (uint8_t)(i * 7 + 1);
+    errors_that_were_corrected();
+    sums_of_other_pages();
+    blocks_that_are_bad();
+    too_few_spare_bytes();
+    a_nor_page_that_fails();
+    marks_that_are_torn();
+    a_part_in_use();
+    return wrong;
+}

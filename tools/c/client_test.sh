@@ -56,8 +56,44 @@ raw NAND: 66 operations, 66 runs with a cut, 8 with failures, 0 wrong
 END
 
 try demo_spare_bits "raw_nand.c nand_in_memory.c demo_spare_bits.c" << END
-spare bits: 22569 states of a page, 0 wrong
+spare bits: 22573 states of a page, 0 wrong
 END
+
+try demo_long_files demo_long_files.c "$program" << END
+long files: some cuts 1, as many kills 1, 0 wrong
+END
+
+# What the driver of a part behind MTD tells of pages, over a shim of the kernel, with no file system.
+name=mtd_part_test
+mkdir "$made/mtd"
+build -I. -w raw_nand.c ../fuse/mtd_part.c ../fuse/tests/mtd_shim.c ../fuse/tests/mtd_part_test.c && "$made/$name" "$made/mtd"
+tell "a driver of a part behind MTD" $?
+
+# Tells whether a demo sees what is wrong with one file: what that is, the file, an edit of it by sed, the name of the demo and its sources.
+# An edit that changes nothing is seen by none.
+see() {
+    told=$1 file=$2 name=wrong
+    sed "$3" "$file" > "$made/wrong.c"
+    client="undofs_client.c undofs_calls.c"
+    client=${client/$file/$made/wrong.c}
+    # shellcheck disable=SC2086
+    build -I. ${5/$file/$made/wrong.c} && ! timeout 100 "$made/wrong" $4 > /dev/null 2>&1
+    tell "$told" $?
+    client="undofs_client.c undofs_calls.c"
+}
+
+long="demo_long_files.c"
+see "a long file of several versions is seen" undofs_calls.c 's/int begun = undofs_begin(u);/int begun = UNDOFS_INGROUP;/' "$program" $long
+see "a long file that keeps a tail is seen" undofs_calls.c 's/UNDOFS_CREAT | UNDOFS_TRUNC, &file/UNDOFS_CREAT, \&file/' "$program" $long
+see "a half file on a full flash is seen" undofs_calls.c 's/why == 0 ? undofs_end_group(u) : undofs_abandon(u)/undofs_end_group(u)/' "$program" $long
+see "a name that is taken for none is seen" undofs_calls.c 's/int is_dash = .*/int is_dash = 0;/' "$program" $long
+see "a word of no bytes that is not spelled is seen" undofs_calls.c "s/if (.word == 0) .at++ = '-';//" "$program" $long
+see "an end that does not wait for the child is seen" undofs_client.c 's/while (waitpid(u->child, NULL, 0) < 0/while (0/' "$program" $long
+
+nand="raw_nand.c nand_in_memory.c demo_spare_bits.c"
+see "a sum of any place is seen" raw_nand.c 's/sum_more(sum_more(~0u, number, sizeof number), bytes, sizes->page)/sum_more(~0u + 0 * number[0], bytes, sizes->page)/' "" "$nand"
+see "blank spare bytes over data that are taken for an erased page are seen" raw_nand.c 's/return are_ones(bytes, n->sizes.page) ? UNDOFS_ERASED : UNDOFS_UNREADABLE;/return UNDOFS_ERASED;/' "" "$nand"
+see "a bad block that is told as programmed is seen" raw_nand.c '/^static enum undofs_answer program_page/,/^}/s/return UNDOFS_FAILED;/return UNDOFS_DONE;/' "" "$nand"
 
 # A client that waits in a write of lines stands still, since the child waits for the answer to an order.
 sed 's/fcntl(u->lines, F_SETFL, O_NONBLOCK)/fcntl(u->lines, F_SETFL, 0)/' undofs_client.c > "$made/blocking.c"

@@ -1,10 +1,16 @@
-/* Each call as a line and its reply, and the words of lines. */
+/* Each call as a line and its reply, the words of lines, and replies. */
 #define _GNU_SOURCE
 #include "undofs_wire.h"
 #include <stdarg.h>
 #include <stdio.h>
 #include <stdlib.h>
 #include <string.h>
+
+int undofs_are_lawful(const struct undofs_sizes *s) {
+    uint64_t block = (uint64_t)s->page * s->pages;
+    int is_page = s->page == 256 || s->page == 512 || s->page == 1024 || s->page == 2048 || s->page == 4096;
+    return is_page && block >= 4096 && block <= 262144 && s->blocks >= 16 && s->blocks <= 16384 && block * s->blocks <= 67108864;
+}
 
 /* ---- words of lines ---- */
 
@@ -58,25 +64,55 @@ void undofs_put_word(struct undofs_lines *lines, const char *word) {
 }
 
 /* The two digits of each byte. */
-static const char *digit_pairs(void) {
-    static char pairs[2 * 256];
-    for (size_t byte = 0; byte < 256 && pairs[511] == 0; byte++) {
-        pairs[2 * byte] = digits_of[byte >> 4];
-        pairs[2 * byte + 1] = digits_of[byte & 15];
-    }
-    return pairs;
-}
+#define PAIRS(d) d "0" d "1" d "2" d "3" d "4" d "5" d "6" d "7" d "8" d "9" d "A" d "B" d "C" d "D" d "E" d "F"
+static const char digit_pairs[] = PAIRS("0") PAIRS("1") PAIRS("2") PAIRS("3") PAIRS("4") PAIRS("5") PAIRS("6") PAIRS("7")
+    PAIRS("8") PAIRS("9") PAIRS("A") PAIRS("B") PAIRS("C") PAIRS("D") PAIRS("E") PAIRS("F");
 
 void undofs_put_data(struct undofs_lines *lines, const uint8_t *bytes, size_t count) {
-    const char *pairs = digit_pairs();
     char *at = room_for(lines, 2 * count + 1);
     if (at == NULL) return;
     if (count == 0) *at = '-';
     lines->length += count == 0 ? 1 : 2 * count;
-    for (size_t i = 0; i < count; i++, at += 2) memcpy(at, pairs + 2 * (size_t)bytes[i], 2);
+    for (size_t i = 0; i < count; i++, at += 2) memcpy(at, digit_pairs + 2 * (size_t)bytes[i], 2);
 }
 
 void undofs_put_end(struct undofs_lines *lines) { undofs_put_text(lines, "\n"); }
+
+/* ---- replies ---- */
+
+int undofs_has_room(struct undofs_replies *replies, size_t more) {
+    if (replies->room - replies->length >= more) return 1;
+    size_t room = 2 * (replies->length + more);
+    char *text = realloc(replies->text, room);
+    if (text == NULL) return 0;
+    replies->text = text;
+    replies->room = room;
+    return 1;
+}
+
+static int refusal_of(const char *reply) {
+    if (strcmp(reply, "unmounted") == 0) return UNDOFS_UNMOUNTED;
+    if (strncmp(reply, "err ", 4) != 0) return 0;
+    const char *number = strrchr(reply, ' ');
+    unsigned long why = strtoul(number, NULL, 10);
+    return why == 0 ? UNDOFS_SYNTAX : (int)why;
+}
+
+int undofs_first_refusal(const struct undofs_replies *replies, size_t count) {
+    const char *reply = replies->text;
+    for (size_t i = 0; i < count; i++, reply += strlen(reply) + 1) {
+        int why = refusal_of(reply);
+        if (why != 0) return why;
+    }
+    return 0;
+}
+
+char *undofs_reply_of(struct undofs_replies *replies, size_t index) {
+    static char none[1];
+    size_t at = 0;
+    for (; index > 0 && at < replies->length; index--) at += strlen(replies->text + at) + 1;
+    return at < replies->length ? replies->text + at : none;
+}
 
 /* ---- words of replies ---- */
 
@@ -85,18 +121,15 @@ static unsigned digit_of(char digit) {
     return (unsigned)((digit | 0x20) - 'a') + 10;
 }
 
-/* The value of each digit. */
-static const uint8_t *digit_values(void) {
-    static uint8_t values[256];
-    for (unsigned digit = '0'; digit <= 'f' && values['f'] == 0; digit++) values[digit] = (uint8_t)digit_of((char)digit);
-    return values;
-}
+/* The value of each digit of a reply. */
+static const uint8_t digit_values[256] = {['1'] = 1, ['2'] = 2, ['3'] = 3, ['4'] = 4, ['5'] = 5, ['6'] = 6, ['7'] = 7, ['8'] = 8, ['9'] = 9,
+    ['A'] = 10, ['B'] = 11, ['C'] = 12, ['D'] = 13, ['E'] = 14, ['F'] = 15, ['a'] = 10, ['b'] = 11, ['c'] = 12, ['d'] = 13, ['e'] = 14, ['f'] = 15};
 
 size_t undofs_take_data(const char *reply, uint8_t *bytes, size_t count) {
     if (strncmp(reply, "data ", 5) != 0 || reply[5] == '-') return 0;
-    const uint8_t *values = digit_values(), *at = (const uint8_t *)reply + 5;
+    const uint8_t *at = (const uint8_t *)reply + 5;
     size_t had = strlen(reply + 5) / 2, taken = had < count ? had : count;
-    for (size_t i = 0; i < taken; i++) bytes[i] = (uint8_t)(values[at[2 * i]] << 4 | values[at[2 * i + 1]]);
+    for (size_t i = 0; i < taken; i++) bytes[i] = (uint8_t)(digit_values[at[2 * i]] << 4 | digit_values[at[2 * i + 1]]);
     return taken;
 }
 

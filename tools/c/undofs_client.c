@@ -26,8 +26,7 @@ struct undofs {
     double last_moved; /* when it gave or took a byte */
     uint64_t order_count, erase_count;
     struct undofs_lines line; /* that of a call */
-    char *reply_text;
-    size_t reply_length, reply_room;
+    struct undofs_replies replied;
     char message[MESSAGE];
 };
 
@@ -108,12 +107,6 @@ static int carry_out_order(struct undofs *u) {
 
 static void put_number(uint8_t *to, uint64_t number, size_t bytes) {
     for (size_t i = 0; i < bytes; i++) to[i] = (uint8_t)(number >> 8 * i);
-}
-
-static int are_lawful(const struct undofs_sizes *s) {
-    uint64_t block = (uint64_t)s->page * s->pages;
-    int is_page = s->page == 256 || s->page == 512 || s->page == 1024 || s->page == 2048 || s->page == MOST_PAGE;
-    return is_page && block >= 4096 && block <= 262144 && s->blocks >= 16 && s->blocks <= 16384 && block * s->blocks <= 67108864;
 }
 
 /* Tells what the part holds: the length of an image, and the image. */
@@ -262,7 +255,7 @@ static int refusal_told(const struct undofs *u) {
 
 int undofs_start(struct undofs **handle, const char *program, const struct undofs_driver *driver, uint32_t history) {
     *handle = NULL;
-    if (!are_lawful(&driver->sizes)) return UNDOFS_NO_IMAGE;
+    if (!undofs_are_lawful(&driver->sizes)) return UNDOFS_NO_IMAGE;
     struct undofs *u = calloc(1, sizeof *u);
     if (u == NULL) return UNDOFS_NO_MEMORY;
     signal(SIGPIPE, SIG_IGN);
@@ -287,7 +280,7 @@ void undofs_end(struct undofs *u) {
     if (u == NULL) return;
     end_child(u);
     free(u->line.text);
-    free(u->reply_text);
+    free(u->replied.text);
     free(u);
 }
 
@@ -311,55 +304,29 @@ struct undofs_lines *undofs_line(struct undofs *u) {
     return &u->line;
 }
 
-static int has_reply_room(struct undofs *u, size_t more) {
-    if (u->reply_room - u->reply_length >= more) return 1;
-    size_t room = 2 * (u->reply_length + more);
-    char *text = realloc(u->reply_text, room);
-    if (text == NULL) return 0;
-    u->reply_text = text;
-    u->reply_room = room;
-    return 1;
-}
-
 /* Reads what there is of replies, and ends each by NUL. How many ended, or -1. */
 static int take_replies(struct undofs *u) {
     enum { SOME = 1 << 18 };
-    if (!has_reply_room(u, SOME)) return -1;
-    ssize_t got = read(u->replies, u->reply_text + u->reply_length, SOME);
+    struct undofs_replies *replied = &u->replied;
+    if (!undofs_has_room(replied, SOME)) return -1;
+    ssize_t got = read(u->replies, replied->text + replied->length, SOME);
     if (got < 0 && errno == EINTR) return 0;
     if (got <= 0) return -1;
     int ended = 0;
-    char *end = u->reply_text + u->reply_length + got;
-    for (char *at = u->reply_text + u->reply_length; (at = memchr(at, '\n', (size_t)(end - at))) != NULL;) {
+    char *end = replied->text + replied->length + got;
+    for (char *at = replied->text + replied->length; (at = memchr(at, '\n', (size_t)(end - at))) != NULL;) {
         *at++ = 0;
         ended++;
     }
-    u->reply_length += (size_t)got;
+    replied->length += (size_t)got;
     return ended;
-}
-
-static int refusal_of(const char *reply) {
-    if (strcmp(reply, "unmounted") == 0) return UNDOFS_UNMOUNTED;
-    if (strncmp(reply, "err ", 4) != 0) return 0;
-    const char *number = strrchr(reply, ' ');
-    unsigned long why = strtoul(number, NULL, 10);
-    return why == 0 ? UNDOFS_SYNTAX : (int)why;
-}
-
-static int first_refusal(struct undofs *u, size_t count) {
-    const char *reply = u->reply_text;
-    for (size_t i = 0; i < count; i++, reply += strlen(reply) + 1) {
-        int why = refusal_of(reply);
-        if (why != 0) return why;
-    }
-    return 0;
 }
 
 /* The pipes are shorter than what goes through them: lines, orders and replies move as each is ready. */
 int undofs_exchange(struct undofs *u, const struct undofs_lines *lines) {
     size_t wanted = 0, had = 0, sent = 0;
     int orders = u->orders;
-    u->reply_length = 0;
+    u->replied.length = 0;
     if (lines->failed) return UNDOFS_NO_MEMORY;
     if (u->gone) return UNDOFS_GONE;
     const char *end = lines->text + lines->length;
@@ -386,12 +353,7 @@ int undofs_exchange(struct undofs *u, const struct undofs_lines *lines) {
             if (written > 0) sent += (size_t)written;
         }
     }
-    return first_refusal(u, wanted);
+    return undofs_first_refusal(&u->replied, wanted);
 }
 
-char *undofs_reply(struct undofs *u, size_t index) {
-    static char none[1];
-    size_t at = 0;
-    for (; index > 0 && at < u->reply_length; index--) at += strlen(u->reply_text + at) + 1;
-    return at < u->reply_length ? u->reply_text + at : none;
-}
+char *undofs_reply(struct undofs *u, size_t index) { return undofs_reply_of(&u->replied, index); }

@@ -9,6 +9,9 @@
  * Paths and names are bytes up to a NUL, spelled as they are; no pointer is null but a view, which is null for
  * the present tree, "@5" for the version of serial 5, or "=name" for a checkpoint. One thread at a time uses a
  * handle. A start has the process ignore SIGPIPE, since a child may end at any time.
+ *
+ * in_process/in_process.c has the same functions with the file system in this program and no child. Then `program` and
+ * undofs_set_wait do nothing, a page is read when it is wanted, and in_process/README.md tells the rest.
  */
 #ifndef UNDOFS_CLIENT_H
 #define UNDOFS_CLIENT_H
@@ -63,6 +66,7 @@ enum undofs_fault {
     UNDOFS_NO_READ = 205,   /* the driver could not tell a page at the start */
     UNDOFS_NO_CHILD = 206,  /* no pipe or no process was to be had: errno tells it */
     UNDOFS_NO_IMAGE = 207,  /* the driver's sizes are not lawful */
+    UNDOFS_BUSY = 208,      /* asked by the driver, inside of a call on the same handle; or another handle has the driver. With no child alone */
 };
 
 enum undofs_flags { UNDOFS_READ = 1, UNDOFS_WRITE = 2, UNDOFS_CREAT = 4, UNDOFS_EXCL = 8, UNDOFS_TRUNC = 16 };

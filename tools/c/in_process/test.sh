@@ -1,0 +1,219 @@
+#!/bin/bash
+# Tries undofs inside of a C program: tools/c/in_process/test.sh FOLDER PROGRAM [CASE ..]
+# FOLDER is one that build.sh filled, PROGRAM the `uffs` of the same sources. Without a CASE all are tried: demos, example,
+# sessions, handles, pages, liars, memory, wrong, proofs. The last line counts. By hand, and no part of ./test.sh.
+[ $# -ge 2 ] || { sed -n 2,4p "$0"; exit 2; }
+room=$(realpath "$1") program=$(realpath "$2") || exit 2
+shift 2
+cd "$(dirname "$0")" || exit 2
+made=$(mktemp -d)
+trap 'rm -rf "$made"' EXIT
+passed=0 failed=0
+rt=${RT:-rt}
+strict="-std=c11 -Wall -Wextra -Werror -pedantic -Wconversion -Wsign-conversion -Wshadow -Wstrict-prototypes -Wmissing-prototypes"
+sanitizers="-fsanitize=address,undefined -fno-sanitize-recover"
+export ASAN_OPTIONS=detect_stack_use_after_return=0
+seeds=1500 requests=400
+
+tell() {
+    if [ "$2" = 0 ]; then
+        passed=$((passed + 1))
+        echo "ok    $1"
+    else
+        failed=$((failed + 1))
+        echo "WRONG $1"
+    fi
+}
+
+# Builds a program with the library: its name, the flags, and its sources. TURNS and SYSTEM name the files that run the service and
+# that are the handle, where others than those of this folder are wanted.
+build() {
+    local name=$1 flags=$2
+    shift 2
+    # shellcheck disable=SC2086
+    ${CC:-gcc} $strict -g -O1 $flags -I. -I.. ${SYSTEM:-in_process.c shown_pages.c} ${TURNS:-turns_context.c} ../undofs_calls.c "$@" \
+        -Wl,--gc-sections "$room/libundofs_in_process.a" "$room/libheap.a" -lm -lpthread -o "$made/$name"
+}
+
+# Builds the same over a child.
+build_child() {
+    local name=$1
+    shift
+    # shellcheck disable=SC2086
+    ${CC:-gcc} $strict -g -O1 -I. -I.. ../undofs_client.c ../undofs_calls.c "$@" -o "$made/$name"
+}
+
+# Runs a program that was built, for so many seconds at most.
+run() {
+    local seconds=$1 name=$2 status
+    shift 2
+    timeout "$seconds" "$made/$name" "$@" 2> "$made/errors"
+    status=$?
+    grep -v "ASan doesn't fully support makecontext" "$made/errors" >&2
+    return $status
+}
+
+# Runs a program that tells its own cases: what it is called, the seconds, its name, and its words.
+run_cases() {
+    local what=$1 status
+    shift
+    run "$@" > "$made/found"
+    status=$?
+    sed 's/^/      /' "$made/found"
+    tell "$what" $status
+}
+
+# Runs a program, of which what it prints is wanted on standard input.
+prints() {
+    local what=$1
+    shift
+    run 120 "$@" > "$made/found"
+    tell "$what ends well" $?
+    diff - "$made/found"
+    tell "$what prints what is wanted" $?
+}
+
+# ---- the demos of client_test.sh, over the library ----
+
+try_demos() {
+    build demo_flat_file "$sanitizers" ../flat_file.c ../demo_flat_file.c
+    prints demo_flat_file demo_flat_file - "$made/part" << END
+entries a name of 100 % name
+entries
+entries a name of 100 % name
+100000 bytes, the same
+norxxx
+missing: 1
+END
+    build demo_failures "$sanitizers" ../demo_failures.c
+    prints demo_failures demo_failures - << END
+at the start: 0 files, no bad block
+after failures: 4 files, some bad block
+by a new child: 4 files, some bad block
+END
+    build demo_raw_nand "$sanitizers" ../raw_nand.c ../nand_in_memory.c ../demo_raw_nand.c
+    prints demo_raw_nand demo_raw_nand - << END
+raw NAND: 66 operations, 66 runs with a cut, 8 with failures, 0 wrong
+END
+    sed 's/return read_page(n, page, bytes) == UNDOFS_UNREADABLE.*/(void)n; (void)bytes; (void)page; return UNDOFS_DONE;/' ../raw_nand.c > "$made/wrong.c"
+    build wrong_failure "$sanitizers" "$made/wrong.c" ../nand_in_memory.c ../demo_raw_nand.c && ! run 120 wrong_failure - > /dev/null 2>&1
+    tell "a driver that tells a failed program as done is seen" $?
+    sed 's/are_near(spare, wanted) ?/(are_near(spare, wanted) || spare[0] == mark[0] || (spare[0] \& 1)) ?/' ../raw_nand.c > "$made/wrong.c"
+    build wrong_sum "$sanitizers" "$made/wrong.c" ../nand_in_memory.c ../demo_raw_nand.c && ! run 120 wrong_sum - > /dev/null 2>&1
+    tell "a driver that looks at no sum is seen" $?
+    for turns in turns_context turns_thread; do
+        TURNS=$turns.c build demo_ram "$sanitizers" demo_ram.c
+        prints "demo_ram over $turns" demo_ram < demo_ram.stdout
+    done
+    build_child demo_ram demo_ram.c && run 120 demo_ram "$program" | diff demo_ram.stdout -
+    tell "demo_ram prints the same over a child" $?
+}
+
+# ---- the example ----
+
+try_example() {
+    for turns in turns_context turns_thread; do
+        TURNS=$turns.c build trial "$sanitizers" ../flat_file.c example/trial.c
+        rm -f "$made/disk.part"
+        sed -n 's/^\$ trial disk.part //p' example/session > "$made/lines"
+        while read -r line; do
+            echo "\$ trial disk.part $line"
+            # shellcheck disable=SC2086
+            run 60 trial "$made/disk.part" $line || echo "status $?"
+        done < "$made/lines" | diff example/session -
+        tell "the example over $turns goes as its session tells" $?
+    done
+}
+
+# ---- the same session in process and over a child ----
+
+try_sessions() {
+    local differs=0 count=0 sizes seed
+    build sessions "" ../flat_file.c tests/calls.c tests/sessions.c && build_child sessions_child ../flat_file.c tests/calls.c tests/sessions.c
+    for sizes in "256 16 64" "512 8 128" "4096 1 256" "2048 64 32"; do
+        for seed in 1 2 3 4 5; do
+            rm -f "$made/one.part" "$made/other.part"
+            # shellcheck disable=SC2086
+            run 120 sessions "$made/one.part" $seed $sizes > "$made/one" && run 120 sessions_child "$made/other.part" $seed $sizes "$program" > "$made/other" &&
+                cmp "$made/one.part" "$made/other.part" && cmp "$made/one" "$made/other" || differs=$((differs + 1))
+            count=$((count + 1))
+        done
+    done
+    echo "      the last: $(cat "$made/one")"
+    tell "$count sessions of 300 calls leave the same part and answers in process and over a child" $differs
+}
+
+# ---- handles, pages, liars, memory ----
+
+try_handles() {
+    local turns
+    for turns in turns_context turns_thread; do
+        TURNS=$turns.c build handles "$sanitizers" tests/ram_part.c tests/calls.c tests/handles.c
+        run_cases "handles over $turns" 300 handles
+    done
+    TURNS=turns_thread.c build handles -fsanitize=thread tests/ram_part.c tests/calls.c tests/handles.c
+    run_cases "handles under the thread sanitizer" 300 handles
+}
+
+try_pages() {
+    build pages "$sanitizers" tests/ram_part.c tests/calls.c tests/pages.c
+    run_cases pages 300 pages
+}
+
+try_liars() {
+    local sizes
+    build liars "" tests/ram_part.c tests/calls.c tests/liars.c
+    build liars_sanitized "$sanitizers" tests/ram_part.c tests/calls.c tests/liars.c
+    for sizes in "256 16 128" "4096 1 128"; do
+        # shellcheck disable=SC2086
+        run_cases "$seeds sessions over a driver that lies, $sizes" 3000 liars 0 $seeds $sizes
+        # shellcheck disable=SC2086
+        run_cases "$((seeds / 10)) of them under the sanitizers" 3000 liars_sanitized 0 $((seeds / 10)) $sizes
+    done
+}
+
+try_memory() {
+    local wrap="-Wl,--wrap=malloc,--wrap=calloc,--wrap=realloc" flags
+    for flags in "" "$sanitizers"; do
+        build memory "$flags $wrap" tests/ram_part.c tests/memory.c
+        [ "$(run 1200 memory 0 $requests)" = "$requests requests, $requests met, 0 ended badly" ]
+        tell "memory fails at each of the first $requests requests ($([ -n "$flags" ] && echo sanitized || echo plain))" $?
+    done
+}
+
+# ---- C that is wrong, which a case has to see ----
+
+# An edit of a file, by sed, that the program of a case has to fail: what is wrong, the file, the edit, the case's source, its words.
+wrong() {
+    local what=$1 file=$2 edit=$3 source=$4
+    shift 4
+    sed "$edit" "$file" > "$made/$file"
+    if cmp -s "$file" "$made/$file"; then
+        tell "$what: the edit applies" 1
+        return
+    fi
+    local system="in_process.c shown_pages.c"
+    SYSTEM=${system/$file/$made/$file} build wrong "" tests/ram_part.c tests/calls.c "tests/$source" && ! run 300 wrong "$@" > /dev/null 2>&1
+    tell "$what is seen" $?
+}
+
+try_wrong() {
+    wrong second_open_is_a_part in_process.c 's/u->is_open ? 0 : s->blocks/s->blocks/' handles.c
+    wrong one_driver_in_two_handles in_process.c 's/return !is_had;/return 1;/' handles.c
+    wrong a_copy_of_a_driver_is_another in_process.c 's/return u->driver == driver ||.*/return u->driver == driver;/;/const struct undofs_driver \*own/d' handles.c
+    wrong a_call_of_the_driver_writes_the_line in_process.c 's/    if (u->is_running) return &u->none;//' handles.c
+    wrong a_handle_is_live_after_its_end in_process.c 's/^    leave(u);$//' handles.c
+    wrong changed_page_is_shown shown_pages.c 's/(shown == NOT_SEEN || shown == now)/(shown == now || shown != now)/' liars.c 0 40 256 16 128
+    wrong half_of_a_page_is_summed shown_pages.c 's/i + sizeof word <= count/i + sizeof word <= count \/ 2/' pages.c
+    wrong what_a_cut_left_is_not_settled shown_pages.c 's/is_sure(shown, now) ? now : SEEN_UNREADABLE/is_sure(shown, now) ? now : now/' pages.c
+    wrong a_failed_page_is_shown shown_pages.c 's/told == UNDOFS_DONE ? wanted : SEEN_UNREADABLE/wanted/' pages.c
+}
+
+# ---- the proofs ----
+
+. ./proofs.sh
+
+cases=${*:-demos example sessions handles pages liars memory wrong proofs}
+for case in $cases; do "try_$case"; done
+echo "$passed passed, $failed failed"
+[ "$failed" = 0 ]

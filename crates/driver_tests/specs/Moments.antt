@@ -9,7 +9,7 @@ abbrev pub memory_moments : Operation → DevFault → ℕ
 memory_moments class Failed = 1
 memory_moments class PowerCut = 3
 
--- a program and an erase are two of a part each: each of them fails, or power goes before, in or after it
+-- an operation is two of a part: each of them fails, or power goes before, in or after it
 abbrev pub part_moments : Operation → DevFault → ℕ
 part_moments class Failed = 2
 part_moments class PowerCut = 6

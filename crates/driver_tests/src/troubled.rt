@@ -63,7 +63,8 @@ fn kind_of(class: Operation, fault: DevFault, moment: u8) -> FaultKind {
 impl Troubled for MemoryPart {
     ghost moment_count = { part_moments };
 
-    // A program and an erase are two of the part each; power goes before, in or after one of these.
+    // Each operation is two of the part; power goes before, in or after one of these. In a read, which
+    // changes nothing, that is all one.
     fn moments(&self, _class: Operation, fault: DevFault) -> u8 {
         match fault {
             DevFault::Failed => 2,
@@ -71,7 +72,11 @@ impl Troubled for MemoryPart {
         }
     }
 
-    fn trouble(&mut self, _class: Operation, fault: DevFault, moment: u8) {
+    fn trouble(&mut self, class: Operation, fault: DevFault, moment: u8) {
+        if class == Operation::Read {
+            self.flash.plan_read(u64::from(moment % 2), fault);
+            return;
+        }
         match (fault, moment % 3) {
             (DevFault::Failed, _) => self.flash.plan(u64::from(moment), Trouble::Fails),
             (DevFault::PowerCut, 0) => self.flash.plan(u64::from(moment / 3), Trouble::CutBefore),

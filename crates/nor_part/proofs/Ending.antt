@@ -1,8 +1,9 @@
 -- An operation that begins, changes pages alone and ends is one of the flash.
-use Rattle.std.proofs.Common.{◌≡◌, ◌≢◌, ℕ, ◌+◌, true, List, Result, Ok, sym, ap, ◌∙◌, subst, arith}
+use Rattle.std.proofs.Common.{◌≡◌, ◌≢◌, ℕ, ◌+◌, true, List, Result, sym, ap, ◌∙◌, subst, arith}
 use Rattle.flash_model.specs.declared.flash.DevFault.{DevFault}
 use Rattle.flash_model.specs.declared.flash.PageState.{PageState}
 use Rattle.flash_model.specs.Device.{Device, Page, ReportsPage, Reads, Operates, failed, cut, AfterProgram, AfterErase, Programs, Erases, Wears, block_of, LeavesBeside}
+use Rattle.nor_part.specs.Flashes.{read_ended}
 
 -- an operation has begun, with the power on, and changed pages alone
 pub record Begins (old mid : Device) : Type 0 where
@@ -69,22 +70,23 @@ erase_done old mid new b result begins ends others own =
       worn = wears old mid new b result (ap (λ (d : Device). d.worn) begins.rest) ends.worn;
     }
 
--- a read of a page, which is one more operation and nothing else
-pub read_done : (old new : Device) (p : ℕ) (was now : List ℕ) (state : PageState) → old.powered ≡ true
-    → new ≡ record old { operations = old.operations + 1 } → ReportsPage (old.pages p) was now (Ok state) → Reads old p was new now (Ok state)
-read_done old new p was now state on same shows =
-    let failed_reads : new.failed_reads ≡ old.failed_reads = ap (λ (d : Device). d.failed_reads) same in
+-- a read of a page, which is one more operation, and is counted where it failed or was cut
+pub read_done : (old mid new : Device) (p : ℕ) (was now : List ℕ) (result : Result PageState DevFault) → old.powered ≡ true
+    → mid ≡ record old { operations = old.operations + 1 } → new ≡ read_ended mid result → ReportsPage (old.pages p) was now result
+    → Reads old p was new now result
+read_done old mid new p was now result on begun ended shows =
+    let same : new ≡ read_ended (record old { operations = old.operations + 1 }) result = ended ∙ ap (λ (d : Device). read_ended d result) begun in
     let failures : new.failures ≡ old.failures = ap (λ (d : Device). d.failures) same in
-    let cuts : new.cuts ≡ old.cuts = ap (λ (d : Device). d.cuts) same in
+    let cuts : new.cuts ≡ old.cuts + cut result = ap (λ (d : Device). d.cuts) same in
     let operations : new.operations ≡ old.operations + 1 = ap (λ (d : Device). d.operations) same in
-    let operates : Operates old new (Ok state) 0 0 = record {
+    let operates : Operates old new result (failed result) 0 = record {
       geometry = ap (λ (d : Device). d.geometry) same;
-      power = ap (λ (d : Device). d.powered) same ∙ on;
+      power = ap (λ (d : Device). d.powered) same;
       was_on = λ _. on;
       off = λ off. absurd cc;
-      failed_reads = omega (arith, failed_reads);
+      failed_reads = ap (λ (d : Device). d.failed_reads) same;
       failures = omega (arith, failures);
-      cuts = rw on (omega (arith, cuts));
+      cuts = rw on cuts;
       operations = rw on operations;
     } in
     record {

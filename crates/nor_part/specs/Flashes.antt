@@ -1,6 +1,8 @@
 -- The flash that a serial NOR part is.
-use Rattle.std.specs.Prelude.{◌≡◌, ℕ, List, true, false, slice_index_or}
-use Rattle.flash_model.specs.Device.{Device}
+use Rattle.std.specs.Prelude.{◌≡◌, ℕ, ◌+◌, List, true, false, slice_index_or, Result}
+use Rattle.flash_model.specs.declared.flash.DevFault.{DevFault}
+use Rattle.flash_model.specs.declared.flash.PageState.{PageState}
+use Rattle.flash_model.specs.Device.{Device, failed, cut, power_after}
 use Rattle.nor_part.specs.declared.nor.Nor.{Ghosts}
 use Rattle.nor_part.specs.declared.nor_flash.NorFlash.{NorFlash}
 use Rattle.nor_part.specs.Layout.{part_sizes, blocks_of, page_in}
@@ -13,7 +15,7 @@ module _ {P : Type 0} {nor : Ghosts P} where
     pages = page_in (nor.held flash.part);
     powered = flash.powered;
     worn = λ block. slice_index_or flash.worn.items block false;
-    failed_reads = 0;
+    failed_reads = flash.failed_reads.n;
     failures = flash.failures.n;
     cuts = flash.cuts.n;
     operations = flash.operations.n;
@@ -22,6 +24,10 @@ module _ {P : Type 0} {nor : Ghosts P} where
   -- the part
   abbrev pub nor_of : NorFlash P nor → P
   nor_of flash = flash.part
+
+-- a device on which a read has begun, with power on, once that read is answered so
+abbrev pub read_ended : Device → Result PageState DevFault → Device
+read_ended d result = record d { powered = power_after result; failed_reads = d.failed_reads + failed result; cuts = d.cuts + cut result }
 
 -- a flash that was made over a part which holds these pages: power is on, no block is worn, and nothing happened yet
 pub record IsOver (held : ℕ → List ℕ) (count : ℕ) (d : Device) : Type 0 where

@@ -1,7 +1,9 @@
 -- What a serial NOR part in memory holds.
-use Rattle.std.specs.Prelude.{◌≡◌, ℕ, List, length, slice_get, vec_len, replicate, Option, Some, None}
+use Rattle.std.specs.Prelude.{◌≡◌, ℕ, ◌==◌, Bool, if◌then◌else◌, is_some, List, length, slice_get, vec_len, replicate, Option, Some, None}
 use Rattle.std.specs.Option.{option_map_or}
 use Rattle.std.proofs.Common.{sym, ◌∙◌, refl}
+use Rattle.flash_model.specs.declared.flash.DevFault.{DevFault}
+use Rattle.flash_model.specs.declared.flash.DevFault.TheVariants.{PowerCut}
 use Rattle.nor_part.specs.declared.memory_nor.MemoryPage.{MemoryPage}
 use Rattle.nor_part.specs.declared.memory_nor.MemoryNor.{MemoryNor}
 use Rattle.nor_part.specs.Memory.{memory_page_at, AreFullPages}
@@ -13,6 +15,14 @@ page_total part = vec_len part.pages
 -- the bytes of each page
 abbrev pub held_of : MemoryNor → ℕ → List ℕ
 held_of part = memory_page_at part.pages.items
+
+-- a read is still to be refused by plan
+abbrev pub awaits_read : MemoryNor → Bool
+awaits_read part = is_some part.read_fault
+
+-- what the next read is refused with: with the power off by a cut, else by what is planned for it
+abbrev pub read_due : MemoryNor → Option DevFault
+read_due part = if part.powered then (if part.good_reads == 0 then part.read_fault else None) else Some PowerCut
 
 length-found : (found : Option MemoryPage) → ((page : MemoryPage) → found ≡ Some page → vec_len page.bytes ≡ 256)
     → length (option_map_or (λ (page : MemoryPage). page.bytes.items) found (replicate 256 255)) ≡ 256

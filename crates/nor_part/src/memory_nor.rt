@@ -44,19 +44,22 @@ pub enum Trouble {
     CutAfter,
 }
 
-/// A serial NOR part in memory, in which one program or erase is befallen by a trouble.
+/// A serial NOR part in memory, in which one program or erase is befallen by a trouble, and one read is
+/// refused.
 #[derive(Drop)]
 pub struct MemoryNor {
     pages: Vec<MemoryPage>,
     powered: bool,
     good: u64,
     trouble: Option<Trouble>,
+    good_reads: u64,
+    read_fault: Option<DevFault>,
     ghost whole: { AreFullPages pages.items },
 }
 
 impl MemoryNor {
-    ghost use Rattle.std.specs.Prelude.{◌≡◌, ℕ, ◌*◌, ◌<◌, IfOk, vec_len, replicate};
-    ghost use Rattle.nor_part.specs.MemoryParts.{held_of, page_total};
+    ghost use Rattle.std.specs.Prelude.{◌≡◌, ℕ, ◌*◌, ◌<◌, IfOk, vec_len, replicate, true, false};
+    ghost use Rattle.nor_part.specs.MemoryParts.{held_of, page_total, awaits_read, read_due};
 
     /// A blank part of so many sectors of 4,096 bytes. No trouble is planned.
     pub fn new(alloc: Global, sectors: u32) -> Result<MemoryNor, AllocError>
@@ -68,6 +71,8 @@ impl MemoryNor {
             powered: true,
             good: 0,
             trouble: None,
+            good_reads: 0,
+            read_fault: None,
         })
     }
 
@@ -81,12 +86,51 @@ impl MemoryNor {
         self.trouble = Some(trouble);
     }
 
+    /// After so many reads more the next one is refused with this, and fills the buffer with 0, in the
+    /// place of what was planned for a read before.
+    pub fn plan_read(&mut self, good: u64, fault: DevFault)
+        ensures held { held_of self.new ≡ held_of self.old }
+        ensures count { page_total self.new ≡ page_total self.old }
+        ensures awaits { awaits_read self.new ≡ true }
+    {
+        self.good_reads = good;
+        self.read_fault = Some(fault);
+    }
+
+    /// Whether a read is still to be refused by plan.
+    pub fn awaits_read(&self) -> bool
+        ensures { result ≡ awaits_read self.now }
+    {
+        self.read_fault.is_some()
+    }
+
     /// Takes back what was planned.
     pub fn forget_plan(&mut self)
         ensures held { held_of self.new ≡ held_of self.old }
         ensures count { page_total self.new ≡ page_total self.old }
+        ensures awaits { awaits_read self.new ≡ false }
     {
         self.trouble = None;
+        self.read_fault = None;
+    }
+
+    // What refuses the next read. With the power off each one is cut.
+    fn due_read(&mut self) -> Option<DevFault>
+        ensures pages { self.new.pages ≡ self.old.pages }
+        ensures due { result ≡ read_due self.old }
+    {
+        if !self.powered {
+            return Some(DevFault::PowerCut);
+        }
+        if self.good_reads > 0 {
+            self.good_reads -= 1;
+            return None;
+        }
+        let due = self.read_fault.take();
+        if matches!(due, Some(DevFault::PowerCut)) {
+            self.powered = false;
+        }
+        due
     }
 
     // What befalls the next program or erase. With the power off each one is cut before it begins.
@@ -120,7 +164,9 @@ impl MemoryNor {
 }
 
 impl Nor for MemoryNor {
-    ghost use Rattle.nor_part.specs.MemoryParts.{held_of, page_total, whole_of};
+    ghost use Rattle.std.specs.Prelude.{◌≡◌, ℕ, ◌<◌, ◌≤◌, OnOk, length, slice_index};
+    ghost use Rattle.std.specs.Result.{result_err};
+    ghost use Rattle.nor_part.specs.MemoryParts.{held_of, page_total, whole_of, read_due};
 
     ghost held = { held_of };
 
@@ -132,9 +178,23 @@ impl Nor for MemoryNor {
         self.pages.len()
     }
 
-    fn read(&mut self, page: usize, buffer: &mut [u8]) {
+    fn read(&mut self, page: usize, buffer: &mut [u8]) -> Result<(), DevFault>
+        requires in_range { page < page_total self.old }
+        requires short { length buffer.old ≤ 256 }
+        ensures read { OnOk result ((i : ℕ) → i < length buffer.old → slice_index buffer.new i ≡ slice_index (held_of self.old page) i) }
+        ensures held { held_of self.new ≡ held_of self.old }
+        ensures count { page_total self.new ≡ page_total self.old }
+
+        // What is planned comes.
+        ensures answer { result_err result ≡ read_due self.old }
+    {
+        if let Some(fault) = self.due_read() {
+            buffer.fill(0);
+            return Err(fault);
+        }
         let bytes = &self.pages[page].bytes;
         buffer.copy_from_slice(&bytes[..buffer.len()]);
+        Ok(())
     }
 
     fn program(&mut self, page: usize, bytes: &[u8]) -> Result<(), DevFault> {

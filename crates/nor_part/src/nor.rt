@@ -1,5 +1,5 @@
 //! The trait that a driver of a serial NOR part implements.
-ghost use Rattle.std.specs.Prelude.{◌≡◌, ℕ, ◌+◌, ◌*◌, ◌<◌, ◌≤◌, List, length, slice_index};
+ghost use Rattle.std.specs.Prelude.{◌≡◌, ℕ, ◌+◌, ◌*◌, ◌<◌, ◌≤◌, List, length, slice_index, OnOk};
 ghost use Rattle.nor_part.specs.Part.{ProgramsPage, ErasesSector};
 
 use flash_model::DevFault;
@@ -7,8 +7,9 @@ use flash_model::DevFault;
 /// A serial NOR part with power on: pages of 256 bytes, sixteen in each sector of 4,096 bytes. What its
 /// pages hold is `held`.
 ///
-/// `Failed` is what the status register tells after a program or an erase. `PowerCut` is power that
-/// went in it: only [`Nor::power_on`] comes next.
+/// `Failed` is what the status register tells after a program or an erase, and the answer of a read that
+/// the bus did not carry out. `PowerCut` is power that went in an operation: only [`Nor::power_on`] comes
+/// next.
 pub trait Nor {
     ghost held: { Self → ℕ → List ℕ };
 
@@ -18,11 +19,12 @@ pub trait Nor {
     fn page_count(&self) -> usize
         ensures { result ≡ count self.now };
 
-    /// Reads the first bytes of a page.
-    fn read(&mut self, page: usize, buffer: &mut [u8])
+    /// Reads the first bytes of a page. Whatever it answers, no page changes. After a fault the buffer
+    /// has any bytes.
+    fn read(&mut self, page: usize, buffer: &mut [u8]) -> Result<(), DevFault>
         requires in_range { page < count self.old }
         requires short { length buffer.old ≤ 256 }
-        ensures read { (i : ℕ) → i < length buffer.old → slice_index buffer.new i ≡ slice_index (held self.old page) i }
+        ensures read { OnOk result ((i : ℕ) → i < length buffer.old → slice_index buffer.new i ≡ slice_index (held self.old page) i) }
         ensures held { held self.new ≡ held self.old }
         ensures count { count self.new ≡ count self.old };
 

@@ -26,6 +26,7 @@ pub struct NorFlash<P: Nor> {
     worn: Vec<bool>,
     // Which blocks were erased here, as was answered, and not programmed since.
     cleaned: Vec<bool>,
+    failed_reads: Count,
     failures: Count,
     cuts: Count,
     operations: Count,
@@ -39,7 +40,7 @@ pub struct NorFlash<P: Nor> {
 impl<P: Nor + Drop> NorFlash<P> {
     ghost use Rattle.std.specs.Prelude.{◌<◌, ◌+◌, ◌↔◌, ◌⊎◌, IfOk, IfErr, OnOk, OnErr, Err, Ok, true, false};
     ghost use Rattle.flash_model.specs.Device.{LeavesBeside};
-    ghost use Rattle.nor_part.specs.Flashes.{nor_device, nor_of, IsOver};
+    ghost use Rattle.nor_part.specs.Flashes.{nor_device, nor_of, IsOver, read_ended};
 
     /// A flash over a part with power on. Its pages are those that the part holds. `BadGeometry` for a
     /// part of fewer than 16 blocks or more than 16,384, else `NoMemory`.
@@ -63,6 +64,7 @@ impl<P: Nor + Drop> NorFlash<P> {
             powered: true,
             worn: vec![in alloc; false; blocks as usize]?,
             cleaned: vec![in alloc; false; blocks as usize]?,
+            failed_reads: Count::zero(),
             failures: Count::zero(),
             cuts: Count::zero(),
             operations: Count::zero(),
@@ -102,6 +104,21 @@ impl<P: Nor + Drop> NorFlash<P> {
         Ok(())
     }
 
+    // Ends a read by its answer: a failed one is counted, and in a cut power goes.
+    fn end_read(&mut self, read: Result<PageState, DevFault>) -> Result<PageState, DevFault>
+        requires { (nor_device self.old).powered ≡ true }
+        ensures same { result ≡ read }
+        ensures ends { nor_device self.new ≡ read_ended (nor_device self.old) read }
+    {
+        self.powered = !matches!(read, Err(DevFault::PowerCut));
+        match read {
+            Ok(_) => {}
+            Err(DevFault::Failed) => self.failed_reads = self.failed_reads.more(),
+            Err(DevFault::PowerCut) => self.cuts = self.cuts.more(),
+        }
+        read
+    }
+
     // Ends a program or an erase in a block by its answer: a failure wears the block, and in a cut
     // power goes.
     fn end(&mut self, block: u32, done: Result<(), DevFault>) -> Result<(), DevFault>
@@ -127,8 +144,9 @@ impl<P: Nor + Drop> NorFlash<P> {
 }
 
 impl NorFlash<MemoryNor> {
-    ghost use Rattle.std.specs.Prelude.{◌≡◌};
-    ghost use Rattle.nor_part.specs.Flashes.{nor_device};
+    ghost use Rattle.std.specs.Prelude.{◌≡◌, true};
+    ghost use Rattle.nor_part.specs.Flashes.{nor_device, nor_of};
+    ghost use Rattle.nor_part.specs.MemoryParts.{awaits_read};
 
     /// After so many programs and erases of the part more the next one is befallen by this, in the
     /// place of what was planned before.
@@ -136,6 +154,22 @@ impl NorFlash<MemoryNor> {
         ensures { nor_device self.new ≡ nor_device self.old }
     {
         self.part.plan(good, trouble);
+    }
+
+    /// After so many reads of the part more the next one is refused with this, in the place of what was
+    /// planned for a read before.
+    pub fn plan_read(&mut self, good: u64, fault: DevFault)
+        ensures device { nor_device self.new ≡ nor_device self.old }
+        ensures awaits { awaits_read (nor_of self.new) ≡ true }
+    {
+        self.part.plan_read(good, fault);
+    }
+
+    /// Whether a read of the part is still to be refused by plan.
+    pub fn awaits_read(&self) -> bool
+        ensures { result ≡ awaits_read (nor_of self.now) }
+    {
+        self.part.awaits_read()
     }
 
     /// Takes back what was planned.
@@ -162,7 +196,8 @@ impl<P: Nor + Drop> Flash for NorFlash<P> {
 
     fn read(&mut self, page: u32, buffer: &mut [u8]) -> Result<PageState, DevFault> {
         self.begin()?;
-        Ok(read_page(&mut self.part, page as usize, buffer))
+        let read = read_page(&mut self.part, page as usize, buffer);
+        self.end_read(read)
     }
 
     fn program(&mut self, page: u32, bytes: &[u8]) -> Result<(), DevFault> {

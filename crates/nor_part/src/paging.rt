@@ -1,5 +1,5 @@
 //! Pages of a flash on a serial NOR part.
-ghost use Rattle.std.specs.Prelude.{◌≡◌, ◌≢◌, ℕ, ◌+◌, ◌*◌, ◌/◌, ◌^◌, ◌<◌, length, slice_index, Ok};
+ghost use Rattle.std.specs.Prelude.{◌≡◌, ◌≢◌, ℕ, ◌+◌, ◌*◌, ◌/◌, ◌^◌, ◌<◌, length, slice_index, IfOk};
 ghost use Rattle.flash_model.specs.Device.{erased, ReportsPage, AfterProgram, AfterErase};
 ghost use Rattle.nor_part.specs.Part as part_specs;
 ghost use Rattle.nor_part.specs.Layout.{data_page, mark_page, page_in};
@@ -13,49 +13,54 @@ const WRITTEN: u8 = 0;
 
 const SPOILT: u8 = 0x0f;
 
-// Tells what a page holds, and puts its bytes into the buffer where it holds any.
-pub(crate) fn read_page<P: Nor>(part: &mut P, page: usize, buffer: &mut [u8]) -> PageState
+// Tells what a page holds, and puts its bytes into the buffer where it holds any. Its mark and its
+// bytes are read into room of their own first.
+pub(crate) fn read_page<P: Nor>(
+    part: &mut P,
+    page: usize,
+    buffer: &mut [u8],
+) -> Result<PageState, DevFault>
     requires in_part { mark_page page < P.count part.old }
     requires small { page < 2 ^ 32 }
     requires whole { length buffer.old ≡ 256 }
-    ensures shows { ReportsPage (page_in (P.held part.old) page) buffer.old buffer.new (Ok result) }
+    ensures shows { ReportsPage (page_in (P.held part.old) page) buffer.old buffer.new result }
     ensures held { P.held part.new ≡ P.held part.old }
     ensures count { P.count part.new ≡ P.count part.old }
 {
-    let mark = read_mark(part, page);
-    let bytes = read_data(part, page);
+    let mark = read_mark(part, page)?;
+    let bytes = read_data(part, page)?;
     if mark == WRITTEN {
         buffer.copy_from_slice(&bytes);
-        return PageState::Data;
+        return Ok(PageState::Data);
     }
     if mark == BLANK && is_blank(&bytes) {
-        return PageState::Erased;
+        return Ok(PageState::Erased);
     }
-    PageState::Unreadable
+    Ok(PageState::Unreadable)
 }
 
-fn read_mark<P: Nor>(part: &mut P, page: usize) -> u8
+fn read_mark<P: Nor>(part: &mut P, page: usize) -> Result<u8, DevFault>
     requires in_part { mark_page page < P.count part.old }
     requires small { page < 2 ^ 32 }
-    ensures mark { result ≡ slice_index (P.held part.old (mark_page page)) 0 }
+    ensures mark { IfOk result (λ mark. mark ≡ slice_index (P.held part.old (mark_page page)) 0) }
     ensures held { P.held part.new ≡ P.held part.old }
     ensures count { P.count part.new ≡ P.count part.old }
 {
     let mut mark = [0];
-    part.read(page + 16 * (page / 16) + 16, &mut mark);
-    mark[0]
+    part.read(page + 16 * (page / 16) + 16, &mut mark)?;
+    Ok(mark[0])
 }
 
-fn read_data<P: Nor>(part: &mut P, page: usize) -> [u8; 256]
+fn read_data<P: Nor>(part: &mut P, page: usize) -> Result<[u8; 256], DevFault>
     requires in_part { mark_page page < P.count part.old }
     requires small { page < 2 ^ 32 }
-    ensures bytes { result ≡ P.held part.old (data_page page) }
+    ensures bytes { IfOk result (λ bytes. bytes ≡ P.held part.old (data_page page)) }
     ensures held { P.held part.new ≡ P.held part.old }
     ensures count { P.count part.new ≡ P.count part.old }
 {
     let mut bytes = [0; 256];
-    part.read(page + 16 * (page / 16), &mut bytes);
-    bytes
+    part.read(page + 16 * (page / 16), &mut bytes)?;
+    Ok(bytes)
 }
 
 fn is_blank(bytes: &[u8]) -> bool

@@ -7,7 +7,11 @@ use nor_part::{MemoryNor, NorFlash, Trouble};
 use std::test::Fail;
 
 /// Programs a page where a read finds it erased, and tells whether it does.
-fn program_erased<F: Flash>(flash: &mut F, page: u32, bytes: &mut [u8]) -> Result<bool, DevFault>
+pub(crate) fn program_erased<F: Flash>(
+    flash: &mut F,
+    page: u32,
+    bytes: &mut [u8],
+) -> Result<bool, DevFault>
     requires in_range { page < page_count (F.device flash.old).geometry }
     requires whole { length bytes.old ≡ (F.device flash.old).geometry.page }
     ensures same_sizes { (F.device flash.new).geometry ≡ (F.device flash.old).geometry }

@@ -22,6 +22,8 @@ mod lines;
 #[cfg(test)]
 mod node_bytes;
 #[cfg(test)]
+mod nor_reads;
+#[cfg(test)]
 mod nor_sessions;
 #[cfg(test)]
 mod paths;

@@ -1,5 +1,5 @@
 //! Lines of scripts, and streams that fail.
-use fs_types::{Call, CpName, View};
+use fs_types::Call;
 use script::{LINE_LIMIT, Line, LineReader, Taken, read_line, write_out};
 use std::alloc::{AllocError, Global};
 use std::io;
@@ -103,7 +103,7 @@ const LINES: [(&str, &str); 81] = [
     ),
     (
         "ls / =v1",
-        "Call(List { view: Checkpoint(CpName), path: Path { names: [] } })",
+        "Call(List { view: Checkpoint(CpName { bytes: [118, 49] }), path: Path { names: [] } })",
     ),
     ("ls / @", "Syntax"),
     ("ls / =", "Syntax"),
@@ -132,11 +132,20 @@ const LINES: [(&str, &str); 81] = [
     ("undo", "Call(Undo)"),
     ("redo", "Call(Redo)"),
     ("goto 4", "Call(Goto { serial: 4 })"),
-    ("rollback v1", "Call(Rollback { name: CpName })"),
+    (
+        "rollback v1",
+        "Call(Rollback { name: CpName { bytes: [118, 49] } })",
+    ),
     ("forget 3", "Call(Forget { count: 3 })"),
-    ("checkpoint v1", "Call(Checkpoint { name: CpName })"),
+    (
+        "checkpoint v1",
+        "Call(Checkpoint { name: CpName { bytes: [118, 49] } })",
+    ),
     ("checkpoint -", "Refused(Invalid)"),
-    ("rmcheckpoint v1", "Call(RemoveCheckpoint { name: CpName })"),
+    (
+        "rmcheckpoint v1",
+        "Call(RemoveCheckpoint { name: CpName { bytes: [118, 49] } })",
+    ),
     ("log", "Call(Log)"),
     ("df", "Call(Df)"),
     ("space", "Space"),
@@ -168,45 +177,6 @@ fn first_misread<'a>(alloc: Global, rows: &[(&'a str, &str)]) -> Result<Option<&
     Ok(None)
 }
 
-/// The lines that name the checkpoint `v1`, whose bytes are told of no line above.
-const NAMED: [&str; 4] = [
-    "ls / =v1",
-    "rollback v1",
-    "checkpoint v1",
-    "rmcheckpoint v1",
-];
-
-/// The checkpoint that a line names.
-fn checkpoint_in(line: &Line) -> Option<&CpName> {
-    match line {
-        Line::Call(
-            Call::List {
-                view: View::Checkpoint(name),
-                ..
-            }
-            | Call::Rollback { name }
-            | Call::Checkpoint { name }
-            | Call::RemoveCheckpoint { name },
-        ) => Some(name),
-        _ => None,
-    }
-}
-
-/// The first of some lines that does not name the checkpoint `v1`.
-fn first_misnamed<'a>(alloc: Global, lines: &[&'a str]) -> Result<Option<&'a str>, Fail> {
-    for text in lines {
-        let line = read_line(alloc, text.as_bytes())?;
-        let is_named = match checkpoint_in(&line) {
-            Some(name) => name.as_bytes() == b"v1".as_slice(),
-            None => false,
-        };
-        if !is_named {
-            return Ok(Some(*text));
-        }
-    }
-    Ok(None)
-}
-
 /// The longest line that can be read: a `pwrite` of 32,762 bytes.
 fn longest_line(alloc: Global) -> Result<Vec<u8>, AllocError> {
     let mut line = b"pwrite 9 10 ".to_vec(alloc)?;
@@ -233,7 +203,6 @@ fn written(line: &Line) -> Option<usize> {
 #[test]
 fn lines_are_read(rt: HostRuntime) -> Result<(), Fail> {
     assert_eq!(rt; first_misread(rt.alloc(), &LINES)?, None);
-    assert_eq!(rt; first_misnamed(rt.alloc(), &NAMED)?, None);
     let mut line = longest_line(rt.alloc())?;
     assert_eq!(rt; line.len(), LINE_LIMIT);
     assert_eq!(rt; written(&read_line(rt.alloc(), &line)?), Some(32_762));

@@ -6,7 +6,7 @@ use std::test::Fail;
 use undofs::{Flash, format};
 
 // Scripts that are run one after the other, each on what a restart finds of those before it.
-const SESSION: [(&str, &str); 5] = [
+pub(crate) const SESSION: [(&str, &str); 5] = [
     (
         "mkdir /d\nopen /d/f 7\npwrite 0 300 4142\nclose 0\nread /d/f 299 9\ncheckpoint one\nsync\n",
         "ok\nfd 0\nwrote 2\nok\ndata 004142\nok\nok\n",
@@ -34,7 +34,7 @@ const CHANGE: u64 = 2 * (2 + 2) + 2;
 const OF_NODES: u64 = 8;
 
 /// A flash over a part of 64 sectors, with an empty file system.
-fn formatted(alloc: Global) -> Result<NorFlash<MemoryNor>, Fail> {
+pub(crate) fn formatted(alloc: Global) -> Result<NorFlash<MemoryNor>, Fail> {
     let part = MemoryNor::new(alloc, 64)?;
     let mut flash = NorFlash::new(alloc, part)?;
     format(alloc, &mut flash, 8)?;
@@ -42,7 +42,11 @@ fn formatted(alloc: Global) -> Result<NorFlash<MemoryNor>, Fail> {
 }
 
 /// What a script is answered.
-fn replies(alloc: Global, flash: &mut NorFlash<MemoryNor>, script: &str) -> Result<String, Fail> {
+pub(crate) fn replies(
+    alloc: Global,
+    flash: &mut NorFlash<MemoryNor>,
+    script: &str,
+) -> Result<String, Fail> {
     let mut reader = script.as_bytes();
     let mut out: Vec<u8> = Vec::new(alloc);
     run_script_on(alloc, &mut reader, &mut out, flash)?;
@@ -50,7 +54,10 @@ fn replies(alloc: Global, flash: &mut NorFlash<MemoryNor>, script: &str) -> Resu
 }
 
 /// A flash made anew over the same part, with power on and nothing planned.
-fn restarted(alloc: Global, mut flash: NorFlash<MemoryNor>) -> Result<NorFlash<MemoryNor>, Fail> {
+pub(crate) fn restarted(
+    alloc: Global,
+    mut flash: NorFlash<MemoryNor>,
+) -> Result<NorFlash<MemoryNor>, Fail> {
     flash.forget_plan();
     flash.power_on();
     Ok(flash.reopen(alloc)?)

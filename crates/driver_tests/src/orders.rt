@@ -1,4 +1,6 @@
 //! Single operations: their orders, and how they end by what is answered.
+ghost use Rattle.std.specs.Prelude.{◌≡◌, [], IfSome};
+
 use crate::telling::{Full, erased_image, told};
 use flash_model::{DevFault, Flash, PageState};
 use std::alloc::Global;
@@ -154,7 +156,9 @@ fn are_ended<O: Write + Drop>(
     told: &[u8],
     orders: O,
     acts: &[Ended],
-) -> Result<bool, Fail> {
+) -> Result<bool, Fail>
+    requires unused { IfSome (O.contents orders) (λ all. all ≡ []) }
+{
     let mut flash = ToldFlash::start(alloc, told, orders)?;
     for (act, wanted, left) in acts {
         if end(*act, &mut flash)? != (*wanted, *left) {

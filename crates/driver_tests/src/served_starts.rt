@@ -7,14 +7,21 @@ use fs_types::Fault;
 use script_runs::ScriptFault;
 use std::alloc::Global;
 use std::test::Fail;
-use told_flash::{LONGEST_IMAGE, StartFault};
+use told_flash::{LONGEST_IMAGE, StartFault, ToldFlash};
 use told_sessions::{SessionFault, serve_script};
+
+/// Why a script on the part of a driver did not run to its end.
+#[derive(Clone, Copy, Debug, PartialEq, Eq)]
+enum Unserved {
+    Start(StartFault),
+    Session(SessionFault),
+}
 
 /// What came of a call of the program.
 #[derive(Drop)]
 struct Served {
     /// Why it did not run to its end.
-    fault: Option<SessionFault>,
+    fault: Option<Unserved>,
     /// What of the script was not read, the replies, and the orders.
     unread: usize,
     replies: Vec<u8>,
@@ -26,9 +33,15 @@ fn serve(alloc: Global, told: &[u8], history: Option<u32>, script: &str) -> Resu
     let mut reader = script.as_bytes();
     let mut replies: Vec<u8> = Vec::new(alloc);
     let mut orders: Vec<u8> = Vec::new(alloc);
-    let ended = serve_script(alloc, told, &mut orders, history, &mut reader, &mut replies);
+    let fault = match ToldFlash::start(alloc, told, &mut orders) {
+        Ok(mut flash) => {
+            let ended = serve_script(alloc, &mut flash, history, &mut reader, &mut replies);
+            ended.err().map(Unserved::Session)
+        }
+        Err(fault) => Some(Unserved::Start(fault)),
+    };
     Ok(Served {
-        fault: ended.err(),
+        fault,
         unread: reader.len(),
         replies,
         orders,
@@ -36,7 +49,7 @@ fn serve(alloc: Global, told: &[u8], history: Option<u32>, script: &str) -> Resu
 }
 
 /// Why nothing is served where this is told, with no line read, no reply and no order.
-fn refusal(alloc: Global, told: &[u8], history: Option<u32>) -> Result<Option<SessionFault>, Fail> {
+fn refusal(alloc: Global, told: &[u8], history: Option<u32>) -> Result<Option<Unserved>, Fail> {
     let served = serve(alloc, told, history, "ls /\n")?;
     if served.unread != 5 || !served.replies.is_empty() || !served.orders.is_empty() {
         return Err(Fail::new("a line was read, a reply was written, or an order was given"));
@@ -59,15 +72,15 @@ const REFUSED: [(&[u8], ImageFault); 3] = [
 fn nothing_is_served_without_a_file_system(rt: HostRuntime) -> Result<(), Fail> {
     for (bytes, fault) in REFUSED {
         let told = told(rt.alloc(), bytes, &[])?;
-        let wanted = Some(SessionFault::Start(StartFault::Image(fault)));
+        let wanted = Some(Unserved::Start(StartFault::Image(fault)));
         assert_eq!(rt; refusal(rt.alloc(), &told, None)?, wanted, "{bytes:?}");
         assert_eq!(rt; refusal(rt.alloc(), &told, Some(8))?, wanted, "{bytes:?}");
     }
     let longer = refusal(rt.alloc(), &(LONGEST_IMAGE + 1).to_le_bytes(), None)?;
     let trailing = StartFault::Image(ImageFault::Trailing);
-    assert_eq!(rt; longer, Some(SessionFault::Start(trailing)));
+    assert_eq!(rt; longer, Some(Unserved::Start(trailing)));
     let told = told(rt.alloc(), &erased_image(rt.alloc(), 20)?, &[])?;
-    let wanted = SessionFault::Script(ScriptFault::Mount(Fault::NoRecord));
+    let wanted = Unserved::Session(SessionFault::Script(ScriptFault::Mount(Fault::NoRecord)));
     assert_eq!(rt; refusal(rt.alloc(), &told, None)?, Some(wanted));
     Ok(())
 }
@@ -98,7 +111,7 @@ fn a_part_is_formatted_where_that_is_asked(rt: HostRuntime) -> Result<(), Fail> 
 fn a_format_that_is_cut_serves_nothing(rt: HostRuntime) -> Result<(), Fail> {
     let told = told(rt.alloc(), &erased_image(rt.alloc(), 20)?, &[1, 3])?;
     let served = serve(rt.alloc(), &told, Some(8), SCRIPT)?;
-    let wanted = Some(SessionFault::Format(Fault::PowerCut));
+    let wanted = Some(Unserved::Session(SessionFault::Format(Fault::PowerCut)));
     assert_eq!(rt; served.fault, wanted);
     assert_eq!(rt; (served.unread, served.replies.len()), (SCRIPT.len(), 0));
     assert_eq!(rt; order_count(&served.orders), Some(2));

@@ -1,4 +1,6 @@
 //! A session: a script over a driver that tells what its part holds, and answers its orders from a list.
+ghost use Rattle.std.specs.Prelude.{◌≡◌, [], IfSome};
+
 use crate::telling::told;
 use flash_image::encode;
 use flash_model::{Flash, Geometry, PageState};
@@ -95,7 +97,9 @@ pub(crate) fn run<A: Read + Drop, O: Write + Drop>(
     answers: A,
     orders: O,
     script: &str,
-) -> Result<(String, Vec<u8>), Fail> {
+) -> Result<(String, Vec<u8>), Fail>
+    requires unused { IfSome (O.contents orders) (λ all. all ≡ []) }
+{
     let mut flash = ToldFlash::start(alloc, answers, orders)?;
     let replies = replies(alloc, &mut flash, script)?;
     flash.power_on();

@@ -25,8 +25,8 @@ abbrev pub all_after : List Step → List ℕ → List ℕ
 all_after [] bytes = bytes
 all_after (step ∷ more) bytes = all_after more (bytes_after step bytes)
 
--- bytes become others by these steps, where they are known
+-- bytes become others by these steps, where they are known; what is not known stays unknown
 abbrev pub Becomes : Option (List ℕ) → List Step → Option (List ℕ) → Type 0
-Becomes None steps new = ⊤
+Becomes None steps new = new ≡ None
 Becomes (Some old) steps None = ⊥
 Becomes (Some old) steps (Some new) = new ≡ all_after steps old

@@ -5,7 +5,7 @@ use std::io::{Read, Write};
 
 /// Streams that join the program to another one, by their names: fifos, or `/dev/fd/N` of pipes.
 pub trait Channels {
-    ghost use Rattle.std.specs.Prelude.{◌≡◌, None, Some, IfSome, IfOk};
+    ghost use Rattle.std.specs.Prelude.{◌≡◌, None, Some, IfSome, IfOk, []};
     ghost use Rattle.host_files.specs.Streams.{Written};
 
     /// What another program writes to.
@@ -23,5 +23,6 @@ pub trait Channels {
 
     /// Opens a name for writing. A fifo waits until another program opens it for reading. No file is
     /// made, and one that is there keeps what is not written over.
-    fn open_outgoing(&self, alloc: Global, name: &str) -> Result<Self::Outgoing, FileFault>;
+    fn open_outgoing(&self, alloc: Global, name: &str) -> Result<Self::Outgoing, FileFault>
+        ensures unused { IfOk result (λ stream. IfSome (Self.Outgoing.contents stream) (λ all. all ≡ [])) };
 }

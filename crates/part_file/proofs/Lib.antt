@@ -4,6 +4,7 @@ pub mod Overwriting
 pub mod Placing
 pub mod PagesRead
 pub mod Keeping
+pub mod Holding
 pub mod BlankParts
 pub mod Putting
 pub mod Faults

@@ -31,14 +31,15 @@ pub after-barrier : (block : ℕ) (bytes : List ℕ) → all_after (barrier_at b
 after-barrier block bytes = after-if (is_anchor block) bytes
 
 pub Becomes-then : (a b c : Option (List ℕ)) (first next : List Step) → Becomes a first b → Becomes b next c → Becomes a (first ++ next) c
-Becomes-then None b c first next p q = tt
+Becomes-then None None c first next p q = q
+Becomes-then None (Some y) c first next p q = absurd cc
 Becomes-then (Some x) None c first next p q = absurd p
 Becomes-then (Some x) (Some y) None first next p q = absurd q
 Becomes-then (Some x) (Some y) (Some z) first next p q = q ∙ ap (all_after next) p ∙ sym (all_after-append first next x)
 
 -- a barrier changes no byte
 pub Becomes-barrier : (a b : Option (List ℕ)) (block : ℕ) → b ≡ a → Becomes a (barrier_at block) b
-Becomes-barrier None b block same = tt
+Becomes-barrier None b block same = same
 Becomes-barrier (Some x) None block same = absurd cc
 Becomes-barrier (Some x) (Some y) block same = let is : y ≡ x = cc in is ∙ sym (after-barrier block x)
 

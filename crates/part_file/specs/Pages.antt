@@ -1,5 +1,5 @@
 -- What the bytes of a part say that a flash holds.
-use Rattle.std.specs.Prelude.{◌≡◌, ℕ, ◌<◌, ◌≤◌, List, [], ◌∷◌, length, take, drop, Option, IfSome}
+use Rattle.std.specs.Prelude.{◌≡◌, ℕ, ◌<◌, ◌≤◌, Bool, false, List, [], ◌∷◌, length, take, drop, Option, IfSome}
 use Rattle.flash_model.specs.declared.geometry.Geometry.{Geometry}
 use Rattle.flash_model.specs.declared.flash.PageState.{PageState}
 use Rattle.flash_model.specs.declared.flash.PageState.TheVariants.{Erased, Data, Unreadable}
@@ -58,3 +58,7 @@ pub record IsPart (d : Device) (bytes : List ℕ) : Type 0 where
 -- bytes that were the part of a flash are that of what it has become, where they are known
 abbrev pub KeepsPart : Option (List ℕ) → Device → Option (List ℕ) → Device → Type 0
 KeepsPart old d new e = IfSome old (λ bytes. IsPart d bytes → IfSome new (IsPart e))
+
+-- while a driver is not lost, the bytes behind it are the part of a flash, where they are known
+abbrev pub HoldsPart : Bool → Option (List ℕ) → Device → Type 0
+HoldsPart lost held d = lost ≡ false → IfSome held (IsPart d)

@@ -1,4 +1,5 @@
 -- A part in a flat file.
+use Rattle.std.specs.Prelude.{Bool}
 use Rattle.flash_model.specs.declared.geometry.Geometry.{Geometry}
 use Rattle.part_file.specs.declared.file_driver.FileDriver.{FileDriver}
 use Rattle.part_file.specs.declared.part_file.PartFile.{PartFile}
@@ -17,3 +18,7 @@ driven_part driver = driver.part
 
 abbrev pub sizes_driven : {B : Type 0} → FileDriver B → Geometry
 sizes_driven driver = driver.part.sizes
+
+-- whether a driver is lost
+abbrev pub is_lost : {B : Type 0} → FileDriver B → Bool
+is_lost driver = driver.is_lost

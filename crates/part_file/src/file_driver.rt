@@ -13,8 +13,7 @@ pub(crate) struct FileDriver<B> {
 
 impl<B> FileDriver<B> {
     ghost use Rattle.std.specs.Prelude.{◌≡◌, false};
-    ghost use Rattle.part_file.specs.Flashes.{is_lost};
-    ghost use Rattle.part_file.specs.Parts.{driven_part};
+    ghost use Rattle.part_file.specs.Parts.{driven_part, is_lost};
 
     pub(crate) fn new(part: PartFile<B>) -> FileDriver<B>
         ensures part { driven_part result ≡ part }
@@ -25,14 +24,19 @@ impl<B> FileDriver<B> {
             is_lost: false,
         }
     }
+
+    pub(crate) fn is_lost(&self) -> bool
+        ensures { result ≡ is_lost self.now }
+    {
+        self.is_lost
+    }
 }
 
 impl<B: Backing> FileDriver<B> {
     ghost use Rattle.std.specs.Prelude.{◌≡◌, ◌<◌, IfErr, OnOk, OnErr, Err, true, false, length};
     ghost use Rattle.flash_model.specs.Geometry.{page_count};
-    ghost use Rattle.part_file.specs.Flashes.{is_lost};
     ghost use Rattle.part_file.specs.Layout.{program_steps, erase_steps};
-    ghost use Rattle.part_file.specs.Parts.{sizes_of, backing_of, driven_part};
+    ghost use Rattle.part_file.specs.Parts.{sizes_of, backing_of, driven_part, is_lost};
     ghost use Rattle.host_files.specs.Steps.{Does, Becomes};
 
     /// Programs a page, which is erased.

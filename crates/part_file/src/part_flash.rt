@@ -1,7 +1,9 @@
 //! A flash on a part in place in a flat file.
 ghost use Rattle.std.specs.Prelude.{◌≡◌};
 ghost use Rattle.mirrored_flash.specs.Mirrors.{mirror_device};
-ghost use Rattle.part_file.specs.Parts.{sizes_driven};
+ghost use Rattle.part_file.specs.Pages.{HoldsPart};
+ghost use Rattle.part_file.specs.Parts.{backing_of, driven_part, sizes_driven, is_lost};
+ghost use Rattle.part_file.specs.Props.{held-prop};
 
 use crate::file_driver::FileDriver;
 use crate::part_file::{PartFault, PartFile};
@@ -16,19 +18,37 @@ use std::alloc::Global;
 ///
 /// Each program and erase is written to the file before it changes the mirror. Reads ask nothing of the
 /// file. Where a write fails, power goes for good: no more is written, after a `power_on` too, since what
-/// the file holds is not known from then on.
+/// the file holds is not known from then on. Until then the file is the part of what is shown, whatever
+/// was called meanwhile ([`PartFlash::is_lost`]).
 #[derive(Drop)]
-pub struct PartFlash<B> {
+pub struct PartFlash<B: Backing> {
     mirror: Mirror,
     driver: FileDriver<B>,
     ghost sizes: { sizes_driven driver ≡ (mirror_device mirror).geometry },
+    pub ghost held: { HoldsPart (is_lost driver) (B.held (backing_of (driven_part driver))) (mirror_device mirror) } by { held-prop (is_lost driver) (B.held (backing_of (driven_part driver))) (mirror_device mirror) },
+}
+
+impl<B: Backing> PartFlash<B> {
+    ghost use Rattle.std.specs.Prelude.{◌≡◌};
+    ghost use Rattle.part_file.specs.Flashes.{part_device, driver_of, backing_behind};
+    ghost use Rattle.part_file.specs.Pages.{HoldsPart};
+    ghost use Rattle.part_file.specs.Parts.{is_lost};
+
+    /// Whether power is lost for good. Where it is not, the file is the part of what is shown.
+    pub fn is_lost(&self) -> bool
+        ensures lost { result ≡ is_lost (driver_of self.now) }
+        ensures held { HoldsPart result (B.held (backing_behind self.now)) (part_device self.now) }
+    {
+        self.driver.is_lost()
+    }
 }
 
 impl<B: Backing + Drop> PartFlash<B> {
     ghost use Rattle.std.specs.Prelude.{◌≡◌, ℕ, IfOk, IfErr, IfSome, false};
     ghost use Rattle.flash_image.specs.Images.{IsFresh};
-    ghost use Rattle.part_file.specs.Flashes.{part_device, driver_of, is_lost, backing_behind};
+    ghost use Rattle.part_file.specs.Flashes.{part_device, driver_of, backing_behind};
     ghost use Rattle.part_file.specs.Pages.{IsPart};
+    ghost use Rattle.part_file.specs.Parts.{is_lost};
     ghost use Rattle.part_file.specs.Reading.{IsPartFault};
 
     /// The flash of a part. Power is on, no block is worn, and nothing is written yet.
@@ -54,9 +74,10 @@ impl<B: Backing> Flash for PartFlash<B> {
     ghost use Rattle.std.specs.Prelude.{◌≡◌, ℕ, ◌<◌, true, false, length, Err, OnOk};
     ghost use Rattle.flash_model.specs.Geometry.{page_count};
     ghost use Rattle.flash_model.specs.Device.{block_of, erased, Reads, Programs, Erases};
-    ghost use Rattle.part_file.specs.Flashes.{part_device, driver_of, is_lost, backing_behind, whole_part_pages};
+    ghost use Rattle.part_file.specs.Flashes.{part_device, driver_of, backing_behind, whole_part_pages};
     ghost use Rattle.part_file.specs.Layout.{program_steps, erase_steps};
     ghost use Rattle.part_file.specs.Pages.{KeepsPart};
+    ghost use Rattle.part_file.specs.Parts.{is_lost};
     ghost use Rattle.host_files.specs.Steps.{Does};
 
     ghost device = { part_device };

@@ -9,4 +9,4 @@ mod making;
 mod serving;
 
 pub use making::{format_part, image_to_part, part_to_image};
-pub use serving::serve_part_file;
+pub use serving::{of_session, serve_part_file};

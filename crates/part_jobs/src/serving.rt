@@ -6,9 +6,11 @@ ghost use Rattle.part_jobs.specs.Serving.{ServePartEnds, of_session};
 
 use host_files::{FileFault, Parts};
 use image_jobs::Failure;
-use part_sessions::{SessionFault, serve_part};
+use part_file::PartFlash;
+use part_sessions::serve_part;
 use std::alloc::Global;
 use std::io::{Read, Write};
+use told_sessions::SessionFault;
 
 /// Opens the file of a name in place, claimed to the end, and runs the script on the part in it, on which
 /// an empty file system is made first where it is given how many versions are kept.
@@ -26,7 +28,11 @@ pub fn serve_part_file<F: Parts, R: Read, W: Write>(
         Ok(backing) => backing,
         Err(fault) => return Err(unopened(fault)),
     };
-    match serve_part(alloc, backing, history, reader, out) {
+    let mut flash = match PartFlash::start(alloc, backing) {
+        Ok(flash) => flash,
+        Err(fault) => return Err(Failure::of_part(fault)),
+    };
+    match serve_part(alloc, &mut flash, history, reader, out) {
         Ok(()) => Ok(()),
         Err(fault) => Err(of_session(fault)),
     }
@@ -42,12 +48,11 @@ fn unopened(fault: FileFault) -> Failure
     }
 }
 
-/// By why a script on a part ended.
-fn of_session(fault: SessionFault) -> Failure
+/// By why a script on a flash ended.
+pub fn of_session(fault: SessionFault) -> Failure
     ensures { result ≡ of_session fault }
 {
     match fault {
-        SessionFault::Start(fault) => Failure::of_part(fault),
         SessionFault::Format(fault) => Failure::of_system(fault),
         SessionFault::Script(fault) => Failure::of_script(fault),
     }

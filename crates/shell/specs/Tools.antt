@@ -1,6 +1,7 @@
 -- What the program does on the files of images, on its input and on its output, and its status, for each way it ends.
 use Rattle.std.specs.Prelude.{◌≡◌, ◌≢◌, ◌⊎◌, ℕ, Bool, true, false, if◌then◌else◌, Option, Some, None, Result, Ok, Err, IfSome, List, [], ◌∷◌, codes}
 use Rattle.std.specs.Borrow.{Bor}
+use Rattle.std.specs.Io.KnownBytes.{Consumes}
 use Rattle.std.specs.Str.{bytes_eq}
 use Rattle.clap.specs.Words.{fault_of}
 use Rattle.clap.specs.declared.error.kind.ErrorKind.{ErrorKind}
@@ -12,7 +13,9 @@ use Rattle.jobs.specs.declared.tasks.Task.{Task}
 use Rattle.inquiries.specs.declared.inquiry.Inquiry.{Inquiry}
 use Rattle.shell.specs.Explained.{ExplainEnds, HelpEnds, PrintEnds, version_line}
 use Rattle.inquiry_jobs.specs.Asking.{file_spelled, tree_spelled, differences_spelled}
-use Rattle.image_jobs.specs.Failures.{of_image, of_script, of_system, job_status, status_of}
+use Rattle.flash_image.specs.Images.{image_of, IsFresh}
+use Rattle.flash_model.specs.Device.{Device}
+use Rattle.image_jobs.specs.Failures.{of_image, of_script, job_status, status_of}
 use Rattle.image_jobs.specs.Images.{FormatEnds, Host, streams_of, RunEnds, LookEnds, CheckEnds}
 use Rattle.host_files.specs.Files.{Held, KeepsOthers}
 use Rattle.script_runs.specs.Memory.{memory_sizes, EndsInMemory}
@@ -24,11 +27,12 @@ use Rattle.host_files.specs.Streams.{Written}
 use Rattle.history_jobs.specs.Histories.{HistoryEnds, RunsUnprinted, history_spelled, trim_script}
 use Rattle.map_jobs.specs.Mapping.{MapEnds, MapPageEnds}
 use Rattle.part_jobs.specs.Making.{FormatPartEnds, ToPartEnds, FromPartEnds}
-use Rattle.part_jobs.specs.Serving.{ServePartEnds}
+use Rattle.part_jobs.specs.Serving.{ServePartEnds, of_session}
 use Rattle.raw_jobs.specs.Making.{RawEnds, FromRawEnds}
 use Rattle.image_jobs.specs.declared.failure.Failure.{Failure}
 use Rattle.script_runs.specs.declared.scripts.ScriptFault.{ScriptFault}
 use Rattle.told_flash.specs.declared.start.StartFault.{StartFault}
+use Rattle.told_flash.specs.Starts.{start_text, IsStartFault}
 use Rattle.told_sessions.specs.Sessions.{SessionEnds}
 use Rattle.told_sessions.specs.declared.session_fault.SessionFault.{SessionFault}
 use Rattle.inquiry_jobs.specs.Tellings.{TellEnds, DiffEnds}
@@ -62,22 +66,40 @@ IsUnreached Failure.CannotWrite = Unit {0}
 IsUnreached Failure.Memory = Unit {0}
 IsUnreached _ = ⊥
 
--- by why a script on a driver's flash ended
-abbrev pub of_session : SessionFault → Failure
-of_session (SessionFault.Start StartFault.Read) = Failure.CannotRead
-of_session (SessionFault.Start (StartFault.Image fault)) = of_image fault
-of_session (SessionFault.Format fault) = of_system fault
-of_session (SessionFault.Script fault) = of_script fault
+-- by why there is no flash
+abbrev pub of_start : StartFault → Failure
+of_start StartFault.Read = Failure.CannotRead
+of_start (StartFault.Image fault) = of_image fault
 
--- a script ended so on the flash of a driver that answers these bytes, where they are known
-abbrev pub ServesScript : Option ℕ → Option (List ℕ) → Streams → Result (Unit {0}) SessionFault → Streams → Type 0
-ServesScript history answers before result after = (told : Option (List ℕ)) × IfSome answers (λ all. told ≡ Some all) × SessionEnds history told before result after
+-- a driver has these bytes to answer when it is reached, where they are known
+abbrev pub IsAnswering : Option (List ℕ) → Option (List ℕ) → Type 0
+IsAnswering answers told = IfSome answers (λ all. told ≡ Some all)
 
--- a script is run on the flash of a driver; or no driver is reached, and nothing is read or written; or the script does not run to
--- its end
+-- a script ended so on the flash that a driver told
+pub record ServesScript (history : Option ℕ) (answers : Option (List ℕ)) (before : Streams) (result : Result (Unit {0}) SessionFault) (after : Streams) : Type 0 where
+  pub told : Option (List ℕ)
+  pub known : IsAnswering answers told
+  pub first : Device
+  pub fresh : IsFresh first
+  pub left : Option (List ℕ)
+  pub shown : Consumes told left (start_text (image_of first))
+  pub last : Device
+  pub ends : SessionEnds history first last before result after
+
+-- a driver tells no flash
+pub record TellsNone (answers : Option (List ℕ)) (fault : StartFault) : Type 0 where
+  pub told : Option (List ℕ)
+  pub known : IsAnswering answers told
+  pub wrong : IfSome told (IsStartFault fault)
+
+-- no driver is reached, or it tells no flash
+abbrev pub IsUnserved : Option (List ℕ) → Failure → Type 0
+IsUnserved answers failure = IsUnreached failure ⊎ ((fault : StartFault) × TellsNone answers fault × (failure ≡ of_start fault))
+
+-- a script is run on the flash of a driver; or there is none, and nothing is read or written; or the script does not run to its end
 abbrev pub ServeEnds : Option ℕ → Option (List ℕ) → Streams → Result (Unit {0}) Failure → Streams → Type 0
 ServeEnds history answers before (Ok done) after = ServesScript history answers before (Ok done) after
-ServeEnds history answers before (Err failure) after = (IsUnreached failure × (after ≡ before))
+ServeEnds history answers before (Err failure) after = (IsUnserved answers failure × (after ≡ before))
     ⊎ ((fault : SessionFault) × ServesScript history answers before (Err fault) after × (failure ≡ of_session fault))
 
 -- a word of a job; the empty one where it has none

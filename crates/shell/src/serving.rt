@@ -1,16 +1,17 @@
 //! Scripts on the part of a driver in another process.
 ghost use Rattle.std.specs.Prelude.{◌≡◌, IfErr};
 ghost use Rattle.script_runs.specs.Scripts.{streams_at};
-ghost use Rattle.shell.specs.Tools.{ServeEnds, IsUnreached, of_session, history_given, word_given};
+ghost use Rattle.shell.specs.Tools.{ServeEnds, IsUnreached, of_start, history_given, word_given};
 
 use crate::program::word_given;
 use host_files::{Channels, FileFault};
 use image_jobs::Failure;
 use jobs::Job;
+use part_jobs::of_session;
 use std::alloc::Global;
 use std::io::{Read, Write};
-use told_flash::StartFault;
-use told_sessions::{SessionFault, serve_script};
+use told_flash::{StartFault, ToldFlash};
+use told_sessions::serve_script;
 
 /// Opens the two streams of a driver, and runs the script on its part.
 pub(crate) fn serve_part<F: Channels, R: Read, W: Write>(
@@ -30,21 +31,23 @@ pub(crate) fn serve_part<F: Channels, R: Read, W: Write>(
         Ok(orders) => orders,
         Err(fault) => return Err(unreached(fault, Failure::CannotWrite)),
     };
-    match serve_script(alloc, answers, orders, history_given(job), reader, out) {
+    let mut flash = match ToldFlash::start(alloc, answers, orders) {
+        Ok(flash) => flash,
+        Err(fault) => return Err(of_start(fault)),
+    };
+    match serve_script(alloc, &mut flash, history_given(job), reader, out) {
         Ok(()) => Ok(()),
         Err(fault) => Err(of_session(fault)),
     }
 }
 
-/// By why a script on a driver's flash ended.
-fn of_session(fault: SessionFault) -> Failure
-    ensures { result ≡ of_session fault }
+/// By why there is no flash.
+fn of_start(fault: StartFault) -> Failure
+    ensures { result ≡ of_start fault }
 {
     match fault {
-        SessionFault::Start(StartFault::Read) => Failure::CannotRead,
-        SessionFault::Start(StartFault::Image(fault)) => Failure::of_image(fault),
-        SessionFault::Format(fault) => Failure::of_system(fault),
-        SessionFault::Script(fault) => Failure::of_script(fault),
+        StartFault::Read => Failure::CannotRead,
+        StartFault::Image(fault) => Failure::of_image(fault),
     }
 }
 

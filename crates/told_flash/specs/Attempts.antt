@@ -1,8 +1,10 @@
 -- Programs and erases one after the other, and what passes between a flash and its driver in them.
-use Rattle.std.specs.Prelude.{◌≡◌, ◌≢◌, ◌⊎◌, ℕ, Bool, true, false, List, [], ◌∷◌, ◌++◌, take, Result, Ok, Err, if◌then◌else◌}
+use Rattle.std.specs.Prelude.{◌≡◌, ◌≢◌, ◌⊎◌, ℕ, Bool, true, false, List, [], ◌∷◌, ◌++◌, take, All, Option, Some, Result, Ok, Err, if◌then◌else◌}
 use Rattle.std.specs.Io.KnownBytes.{Appends, Consumes}
 use Rattle.flash_model.specs.declared.flash.DevFault.{DevFault}
 use Rattle.flash_model.specs.declared.flash.DevFault.TheVariants.{Failed, PowerCut}
+use Rattle.flash_model.specs.declared.geometry.Geometry.{Geometry}
+use Rattle.told_flash.specs.Orders.{IsOrder}
 use Rattle.told_flash.specs.Streams.{Streams, Tells}
 
 -- a program or an erase: its order, and how it ended
@@ -50,3 +52,24 @@ IsNoAnswer bytes = (bytes ≡ []) ⊎ ((byte : ℕ) × (byte ≢ 1) × (byte ≢
 pub record ArePassed (old : Streams) (attempts : List Attempt) (new : Streams) : Type 0 where
   pub given : (n : ℕ) × Appends old.orders new.orders (orders_before_cut attempts ++ take n (cut_order attempts))
   pub answered : (last : List ℕ) × IsNoAnswer last × Consumes old.answers new.answers (answers_before_cut attempts ++ last)
+
+-- each writer of a kind tells its bytes
+abbrev pub TellsAlways : {W : Type 0} → (W → Option (List ℕ)) → Type 0
+TellsAlways {W} contents = (writer : W) → (bytes : List ℕ) × (contents writer ≡ Some bytes)
+
+-- the streams of a driver that was told to carry out programs and erases of a flash in turn, and was given nothing else
+pub record HasOrdered {W : Type 0} (g : Geometry) (contents : W → Option (List ℕ)) (now : Streams) : Type 0 where
+  pub first : Streams
+  pub live : first.lost ≡ false
+  pub unused : TellsAlways contents → first.orders ≡ Some []
+  pub attempts : List Attempt
+  pub lawful : All (λ attempt. IsOrder g attempt.order) attempts
+  pub told : TellsAll first attempts now
+
+-- all that a driver was given: the orders of attempts in turn up to one that was cut, of which a beginning was given. None was cut
+-- where power is not lost
+pub record AreOrders (g : Geometry) (lost : Bool) (bytes : List ℕ) : Type 0 where
+  pub attempts : List Attempt
+  pub lawful : All (λ attempt. IsOrder g attempt.order) attempts
+  pub live : lost ≡ false → All (λ attempt. is_cut attempt.result ≡ false) attempts
+  pub given : (n : ℕ) × (bytes ≡ orders_before_cut attempts ++ take n (cut_order attempts))

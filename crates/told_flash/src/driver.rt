@@ -39,6 +39,12 @@ impl<R, W> Driver<R, W> {
             is_lost: false,
         }
     }
+
+    pub(crate) fn is_lost(&self) -> bool
+        ensures { result ≡ driver_lost self.now }
+    {
+        self.is_lost
+    }
 }
 
 impl<R: Read, W: Write> Driver<R, W> {

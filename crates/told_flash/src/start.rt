@@ -13,7 +13,7 @@ use flash_image::{ImageFault, decode};
 use flash_simulation::SimFlash;
 use std::alloc::Global;
 use std::io;
-use std::io::Read;
+use std::io::{Read, Write};
 use thiserror::Error;
 
 /// How many bytes the longest image has.
@@ -41,8 +41,8 @@ impl From<io::Error> for StartFault {
     }
 }
 
-impl<R: Read + Drop, W: Drop> ToldFlash<R, W> {
-    ghost use Rattle.std.specs.Prelude.{◌≡◌, ◌⊎◌, ℕ, List, ◌++◌, Some, IfSome, IfOk, IfErr, MatchResult, false};
+impl<R: Read + Drop, W: Write + Drop> ToldFlash<R, W> {
+    ghost use Rattle.std.specs.Prelude.{◌≡◌, ◌⊎◌, ℕ, List, [], ◌++◌, Some, IfSome, IfOk, IfErr, MatchResult, false};
     ghost use Rattle.std.specs.Io.KnownBytes.{Consumes};
     ghost use Rattle.flash_model.specs.Device.{Device};
     ghost use Rattle.flash_image.specs.Images.{image_of, HasImage, HoldsTheSame, IsFresh};
@@ -52,11 +52,13 @@ impl<R: Read + Drop, W: Drop> ToldFlash<R, W> {
     ghost use Rattle.flash_image.specs.declared.image_fault.ImageFault.TheVariants.{Memory};
 
     /// The flash of a driver that tells at the start what its part holds: the length of an image in eight
-    /// bytes, the lowest first, and the image. Power is on, and nothing is ordered yet.
+    /// bytes, the lowest first, and the image. Power is on, and nothing is ordered yet: the stream of the
+    /// orders is a new one.
     ///
     /// `Read` where the answers fail, or end before the image. Else the fault of the image, which is
     /// `Trailing` for more bytes than any image has.
     pub fn start(alloc: Global, mut answers: R, orders: W) -> Result<ToldFlash<R, W>, StartFault>
+        requires unused { IfSome (W.contents orders) (λ all. all ≡ []) }
         // What is told is shown, and nothing more is taken from the answers.
         ensures told { IfOk result (λ flash. Consumes (R.remaining answers) (R.remaining (driver_answers (driver_of flash))) (start_text (image_of (told_device flash)))) }
         ensures ready { IfOk result (λ flash. IsFresh (told_device flash)) }

@@ -1,4 +1,8 @@
 //! A flash whose driver is at the other end of two streams.
+ghost use Rattle.mirrored_flash.specs.Mirrors.{mirror_device};
+ghost use Rattle.told_flash.specs.Attempts.{HasOrdered};
+ghost use Rattle.told_flash.specs.Drivers.{driver_streams};
+
 use crate::driver::Driver;
 use flash_model::{DevFault, Flash, Geometry, PageState};
 use flash_simulation::SimFlash;
@@ -16,21 +20,34 @@ const ERASE: u8 = b'e';
 /// Each program and erase is ordered from the driver before it changes the mirror, and changes it by what
 /// the driver answers. Reads ask the driver nothing. Once the driver's power is lost it is ordered nothing
 /// more, and each program and erase is cut, after a `power_on` too: what the part holds is not known from
-/// then on.
+/// then on. All that the driver was given are the orders of programs and erases of the flash, whatever
+/// was called meanwhile ([`ToldFlash::is_lost`]).
 #[derive(Drop)]
-pub struct ToldFlash<R, W> {
+pub struct ToldFlash<R: Read, W: Write> {
     mirror: Mirror,
     driver: Driver<R, W>,
+    ghost ordered: { ∥ HasOrdered (mirror_device mirror).geometry W.contents (driver_streams R.remaining W.contents driver) ∥₁ },
 }
 
-impl<R, W> ToldFlash<R, W> {
-    ghost use Rattle.std.specs.Prelude.{◌≡◌, true, false};
+impl<R: Read, W: Write> ToldFlash<R, W> {
+    ghost use Rattle.std.specs.Prelude.{◌≡◌, List, ℕ, [], IfSome, true, false};
     ghost use Rattle.flash_simulation.specs.Simulation.{device_of};
+    ghost use Rattle.told_flash.specs.Attempts.{AreOrders, TellsAlways};
     ghost use Rattle.told_flash.specs.Drivers.{driver_answers, driver_orders, driver_lost};
     ghost use Rattle.told_flash.specs.Flashes.{told_device, driver_of};
 
+    /// Whether the driver's power is lost for good. Its orders, all that it was given, are those of
+    /// programs and erases, and whole where it is not.
+    pub fn is_lost(&self) -> bool
+        ensures lost { result ≡ driver_lost (driver_of self.now) }
+        ensures orders { TellsAlways W.contents → IfSome (W.contents (driver_orders (driver_of self.now))) (λ bytes. ∥ AreOrders (told_device self.now).geometry result bytes ∥₁) }
+    {
+        self.driver.is_lost()
+    }
+
     /// A flash that shows the pages and worn blocks of another, with power on.
     pub(crate) fn new(shown: SimFlash, answers: R, orders: W) -> ToldFlash<R, W>
+        requires unused { IfSome (W.contents orders) (λ all. all ≡ []) }
         ensures device { told_device result ≡ record (device_of shown) { powered = true; failed_reads = 0; failures = 0; cuts = 0; operations = 0 } }
         ensures answers { driver_answers (driver_of result) ≡ answers }
         ensures orders { driver_orders (driver_of result) ≡ orders }

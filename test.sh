@@ -45,19 +45,23 @@ case ${1:-} in
 esac
 
 checked tools/check_docs.py
+checked tools/check_messages.py
 checked tools/check_edits.py
 checked tools/write_proved.py --check
 checked tools/check_tar.py
 checked tools/tests/test_check_docs.py
 checked tools/tests/test_check_edits.py
+checked tools/tests/test_check_tar.py
+checked tools/tests/test_check_messages.py
 checked tools/tests/test_write_proved.py
 if [ "${1:-}" = quick ]; then
     checked tools/tests/test_try_edits.py
 else
     checked tools/tests/test_try_edits.py --proofs
     checked tools/check_host.py "$program"
+    checked tools/tests/test_check_host.py "$program"
     checked tools/check_serve.py "$program"
-    checked tools/check_tar.py --uffs "$program"
+    checked tools/check_tar.py "$program"
     checked tools/check_kills.py "$program" 20
     counted tools/c/client_test.sh "$program"
 fi

@@ -1,5 +1,5 @@
 #!/usr/bin/env python3
-"""Checks that the examples of README.md, CONTRIBUTING.md and docs/ are run, with no proof.
+"""Checks that the examples of the pages at the top and in docs/ are run, with no proof.
 
   tools/check_docs.py
 
@@ -12,14 +12,19 @@ Of each block of code:
   - lines that are written alone have to be the stdout of a program of the gate;
   - all else has to be named in docs/testing.md, by its first line, in backticks.
 Of each table whose columns are those of a program of the gate, as it prints them: each row has to stand
-in its stdout under the same name, with the same figures.
+in its stdout under the same name, with the same figures. A table that has two of its columns and others is
+wrong. Each row that the program prints has to stand in a table, or is named in NOT_SHOWN.
+The table of what refusals mean has to be that of the row explain_refusals.row. Of tables that tell where a test
+stands: each row of crates/rows and crates/host_rows that they name has to run, and each function to be there.
 Of sentences with sums of such figures, or with counts of what stands in crates/: they have to be as sums() makes them.
 Of each link: what it leads to has to be there, the section too. A page that is named has to be a link,
 and a page of over 1,500 words begins with a list of its sections. No page has over 4,000 words, and
-README.md no more than 1,600; docs/proved.md, which a script writes, may. And docs/proved.md has to be as
-tools/write_proved.py writes it, the man page and the completion as tools/write_manual.py does.
+README.md no more than 1,600; docs/proved.md and docs/api.md, which a script writes, may. These have to be as
+tools/write_proved.py writes them, the man page and the completion as tools/write_manual.py does, and what the
+comments of calls say of their cost as crates/operations prints it.
 It prints a line for each that does not; its status is 1 where there is one.
 """
+import functools
 import glob
 import os
 import re
@@ -33,7 +38,18 @@ SHELL = re.compile(r"^\$ (?:(?:printf|echo) '([^']*)' \| )?out/uffs (.*)$")
 LINK = re.compile(r"\[([^\]]*)\]\(([^)\s]+)\)")
 PAGE = re.compile(r"(?:docs/)?[A-Za-z_]+\.md\b")
 LONG = 1500
-MOST = {"README.md": 1600, "docs/proved.md": None}
+MOST = {"README.md": 1600, "docs/proved.md": None, "docs/api.md": None}
+COST = re.compile(r"^\s*/// Cost: (.*): (\d+) reads, (\d+) programs, (\d+) erases\.$", re.M)
+EXPLAINED = ["Word", "What it means, as uffs explain tells it"]
+# The rows of stored tables that no page shows.
+NOT_SHOWN = {
+    "pwrite of a byte into an empty file", "pwrite of 2 bytes, second of three nodes", "ls of a directory, depth 16",
+    "stat of a directory, depth 16", "ls of a directory, depth 4", "ls at depth 4 after a pread of 1 MiB",
+    "pread of 1 MiB, a second time", "begin", "end of a group with four changes", "abandon of a group with four changes",
+    "sync of a record of two pages", "format", "mkdir and rmdir at depth 8, page 2048", "a byte at 64 places of 1 MiB, page 2048",
+    "4,096 bytes of 1 MiB, in turn, page 2048", "512 bytes of 1 MiB, in turn, page 2048",
+    "pread of 1 byte at 64 places, page 2048", "pread of 512 bytes at 64 places, page 2048",
+}
 REPLY = re.compile(r"^(ok|done|more|mounted|unmounted|err [A-Z0-9]+( \d+)?|(entries|fd|data|wrote|dir|file|log|df) .*)$")
 
 
@@ -173,6 +189,8 @@ def wrong_figures(text, stored):
     for columns, rows in tables(text):
         fitting = [(known, found) for known, found in stored if columns and set(columns) <= set(known)]
         if not fitting:
+            if rows and any(len(set(columns) & set(known)) > 1 for known, _ in stored):
+                yield rows[0][0] - 2, f"a table with columns that no program prints: {', '.join(columns)}"
             continue
         known_rows = [(name, [figures[known.index(it)] for it in columns]) for known, found in fitting for name, figures in found]
         for number, (name, *figures) in rows:
@@ -180,11 +198,65 @@ def wrong_figures(text, stored):
                 yield number, f"figures that no program of the gate prints: {name}"
 
 
+def shown_figures(text, known):
+    """The names in tables with these columns, or some of them, each with the figures that it has."""
+    for columns, rows in tables(text):
+        if columns and set(columns) <= set(known):
+            yield from ((name, tuple(sorted(zip(columns, (it.replace(",", "") for it in figures))))) for _, (name, *figures) in rows)
+
+
+def not_shown(pages, stored):
+    """What is wrong with which rows of stored tables stand in no table of these pages."""
+    for known, found in stored:
+        shown = {it for text in pages for it in shown_figures(text, known)}
+        for name, figures in found:
+            row = dict(zip(known, figures))
+            key = f"{name}, page {row['page']}" if row.get("page", "256") != "256" else name
+            is_shown = any(it == name and all(row[column] == told for column, told in some) for it, some in shown)
+            if is_shown == (key in NOT_SHOWN):
+                yield f"in a table, and named in NOT_SHOWN: {key}" if is_shown else f"in no table: {key}"
+
+
+def wrong_explanations(text):
+    """The lines of the table of refusals that `uffs explain` prints otherwise, and those that are left out."""
+    told = set(re.findall(r"^\$> ([A-Z]+ \d+: .*)$", read(f"{TOP}/crates/rows/data/explain_refusals.row"), re.M))
+    lines = text.split("\n")
+    for number in [number for columns, rows in tables(text) if columns == EXPLAINED for number, _ in rows]:
+        cells = re.fullmatch(r"\| (\d+) \| ([A-Z]+) \| (.*) \|", lines[number - 1])
+        if cells:
+            meant = f"{cells[2]} {cells[1]}: {LINK.sub(lambda link: link[1], cells[3])}"
+            if meant not in told:
+                yield number, f"not as uffs explain tells it: {meant}"
+            told.discard(meant)
+    yield from ((1, f"left out of the table of refusals: {it}") for it in sorted(told))
+
+
+def wrong_places(text):
+    """The lines of tables of tests that name a row that does not run, or a function that is not there."""
+    run = [name.partition(".")[0] for crate in ("rows", "host_rows") for name in read(f"{TOP}/crates/{crate}/args").split()]
+    for columns, rows in tables(text):
+        for number, (_, *cells) in rows if columns == ["Where it stands"] else []:
+            place = text.split("\n")[number - 1].split("|")[2] if cells else ""
+            for name in re.findall(r"`(\w+)(?:\.row)?`", place):
+                if name not in run and not os.path.isdir(f"{TOP}/crates/{name}") and not is_case(name):
+                    yield number, f"no row of the gate: {name}"
+            for crate, file, function in re.findall(r"`(\w+)/(\w+)` (\w+)", place):
+                path = f"{TOP}/crates/{crate}/src/{file}.rt"
+                if not os.path.isfile(path) or f"fn {function}(" not in read(path):
+                    yield number, f"no test: {crate}/{file} {function}"
+
+
+def is_case(name):
+    """Whether it is a case of a script."""
+    return any(f"def {name}(" in read(path) for path in [*glob.glob(f"{TOP}/tools/check_*.py"), f"{TOP}/tools/host_cases.py"])
+
+
 def anchor(heading):
     """The name of a section in a link."""
     return re.sub(r"[^\w\- ]", "", heading.lower()).replace(" ", "-")
 
 
+@functools.cache
 def headings(text):
     return [line.lstrip("#").strip() for _, line in prose(text) if re.match(r"#+ ", line)]
 
@@ -221,6 +293,7 @@ def summed(name, pattern):
     return [len(rows), *(sum(column) for column in zip(*rows))]
 
 
+@functools.cache
 def sums():
     """The sentences with sums or counts, by their pages."""
     scripts = len(set(re.findall(r"^(\S+)\.row.*: \d+ runs", read(f"{TOP}/crates/fault_trials/stdout"), re.M)))
@@ -230,15 +303,18 @@ def sums():
     told = read(f"{TOP}/crates/hostile_images/stdout").splitlines()
     kinds = [re.findall(r"(\d+) (?:mounted|[A-Z]+|no image)", line) for line in told if " mounted, " in line]
     images, mounted = sum(int(n) for kind in kinds for n in kind), sum(int(kind[0]) for kind in kinds)
+    version = re.search(r'VERSION: &str = "([^"]+)"', read(f"{TOP}/crates/command_words/src/grammar.rt"))[1]
     crates = len([it for it in os.listdir(f"{TOP}/crates") if os.path.isdir(f"{TOP}/crates/{it}/src")])
     edits = len(glob.glob(f"{TOP}/crates/*/must-fail/*.edit") + glob.glob(f"{TOP}/crates/*/wrong/*.edit"))
     return {
-        "README.md": [
+        "README.md": [f"of {scripts} scripts, in {runs:,} runs"],
+        "docs/testing.md": [
             f"of {scripts} scripts, in {runs:,} runs",
             f"Each of {reads:,} reads of {readers} scripts fails once",
             f"each of {programs} programs and {erases} erases of {writers}",
             f"Of {images:,} hostile images {mounted:,} mount",
         ],
+        "CHANGELOG.md": [f"## {version} "],
         "docs/gate.md": [f"There are {crates} crates", f"and {edits} edits"],
     }
 
@@ -247,6 +323,13 @@ def missing_sums(page, text):
     """The sentences with sums that a page does not have."""
     words = " ".join(text.split())
     yield from (f"not as the gate has it: {it}" for it in sums().get(page, []) if it not in words)
+
+
+def wrong_costs():
+    """The costs in comments of calls that `operations` does not print so."""
+    row = re.compile(r"^(.+?) {2,}\d+ +(\d+) +\d+ +(\d+) +(\d+) +\d+$", re.M)
+    printed = {name: figures for name, *figures in reversed(row.findall(read(f"{TOP}/crates/operations/stdout")))}
+    return [name for name, *figures in COST.findall(read(write_proved.CALLS)) if printed.get(name) != figures]
 
 
 def too_long(page, text):
@@ -265,14 +348,16 @@ def main():
         "c": list(texts("tools/c/*").values()),
     }
     told_of = read(f"{TOP}/docs/testing.md")
-    pages = [f"{TOP}/README.md", f"{TOP}/CONTRIBUTING.md", *sorted(glob.glob(f"{TOP}/docs/*.md"))]
+    pages = [*(f"{TOP}/{it}.md" for it in ("README", "CONTRIBUTING", "CHANGELOG", "SECURITY")), *sorted(glob.glob(f"{TOP}/docs/*.md"))]
     stored = list(stored_tables())
     count, told = 0, 0
     for page in pages:
         text = read(page)
         name = os.path.relpath(page, TOP)
         whole = [*missing_sections(text), *missing_sums(name, text), *too_long(name, text)]
-        wrong = [*wrong_figures(text, stored), *wrong_links(page, text), *((1, it) for it in whole)]
+        wrong = [*wrong_figures(text, stored), *wrong_links(page, text), *wrong_places(text), *((1, it) for it in whole)]
+        if name == "docs/scripts.md":
+            wrong += wrong_explanations(text)
         for number, block in blocks(text):
             count += 1
             if not is_run(block, sources) and f"`{block[0].strip()}`" not in told_of:
@@ -280,8 +365,14 @@ def main():
         for number, what in sorted(wrong):
             print(f"{name}:{number}: {what}")
         told += len(wrong)
-    if read(write_proved.PAGE) != write_proved.page():
-        print("docs/proved.md is not as tools/write_proved.py writes it")
+    for what in not_shown([read(page) for page in pages], stored):
+        print(what)
+        told += 1
+    for name in write_proved.stale():
+        print(f"{name} is not as tools/write_proved.py writes it")
+        told += 1
+    for cost in wrong_costs():
+        print(f"not as crates/operations prints it: {cost}")
         told += 1
     for name in write_manual.stale():
         print(f"{name} is not as tools/write_manual.py writes it")

@@ -2,12 +2,13 @@
 """Tries the built program on what no test of the gate can make: closed streams, limits of the process, words
 that are no UTF-8, links that come in between, and a full disk. docs/tests_of_the_program.md tells of each case.
 
-  tools/check_host.py PROGRAM
+  tools/check_host.py PROGRAM [CASE ..]
 
 PROGRAM is crates/uffs/out/uffs, as `rt run` builds it there. Each case is a line `ok` or `WRONG` with its name
 and what was found; the status is the number of the wrong ones. All files stand in a new folder that is removed
 again. The full disk is a small file system in memory, for which the caller has to be the superuser; else that
-case is told as not tried.
+case is told as not tried. The cases of tools/host_cases.py see the calls to the host and make some fail, by a
+library that is built of tools/host_shim.c. Where there is no C compiler they are told as not tried.
 """
 import os
 import resource
@@ -16,12 +17,14 @@ import signal
 import subprocess
 import sys
 import tempfile
+from concurrent import futures
+
+import check_kills
+import host_calls
+import host_cases
+from host_calls import Wrong
 
 SCRIPT = b"mkdir /a\nsync\n"
-
-
-class Wrong(Exception):
-    """What was found where something else has to be."""
 
 
 def run(program, words, given=b"", **how):
@@ -234,7 +237,10 @@ def same_folder(program, folder):
     want([it == images[0] for it in images], [True] * 4)
 
 
-CASES = [closed_output, closed_errors, closed_input, all_closed, unwritable, limited, not_utf8, fifos, in_use, full_disk, full_output, dash, about, same_folder]
+CASES = [
+    closed_output, closed_errors, closed_input, all_closed, unwritable, limited, not_utf8, fifos, in_use, full_disk, full_output,
+    dash, about, same_folder,
+]
 
 
 def try_case(case, program):
@@ -242,21 +248,39 @@ def try_case(case, program):
     folder = tempfile.mkdtemp(prefix="uffs-host-")
     try:
         note = case(program, folder)
-        print("ok   ", case.__name__, note or "")
+        print("ok   ", case.__name__, note or "", flush=True)
         return True
-    except (Wrong, OSError, subprocess.SubprocessError) as wrong:
-        print("WRONG", case.__name__, wrong)
+    except (Wrong, check_kills.Wrong, OSError, subprocess.SubprocessError) as wrong:
+        print("WRONG", case.__name__, wrong, flush=True)
         return False
     finally:
         shutil.rmtree(folder)
 
 
+def try_all(program, names):
+    """How many cases are wrong: those of these names, or all. Those that another program may be asked beside go side by side."""
+    alone, beside = ([it for it in cases if not names or it.__name__ in names] for cases in (CASES, host_cases.CASES))
+    if len(alone) + len(beside) < len(names):
+        sys.exit(f"no such case among {' '.join(names)}")
+    wrong = sum(not try_case(case, program) for case in alone)
+    if host_calls.Shim.library is None:
+        print(f"not tried: {len(beside)} cases, which want a C compiler")
+        return wrong
+    with futures.ThreadPoolExecutor(2 * os.cpu_count()) as threads:
+        return wrong + sum(threads.map(lambda case: not try_case(case, program), beside))
+
+
 def main():
-    """Tries all cases."""
-    if len(sys.argv) != 2:
+    """Tries the cases."""
+    if len(sys.argv) < 2:
         sys.exit(__doc__)
-    program = os.path.abspath(sys.argv[1])
-    sys.exit(sum(not try_case(case, program) for case in CASES))
+    with tempfile.TemporaryDirectory(prefix="uffs-shim-") as folder:
+        # A program of another user has to find the library, and to write the log.
+        os.chmod(folder, 0o777)
+        host_calls.build(folder)
+        wrong = try_all(os.path.abspath(sys.argv[1]), sys.argv[2:])
+    sys.exit(wrong)
 
 
-main()
+if __name__ == "__main__":
+    main()

@@ -1,12 +1,13 @@
 #!/usr/bin/env python3
-"""Writes docs/proved.md from the doc comments of public functions and the names of their clauses.
+"""Writes docs/proved.md and docs/api.md from the doc comments of public functions and the names of their clauses.
 
-  tools/write_proved.py            writes the page
-  tools/write_proved.py --check    tells whether the page is as it would be written; its status is 1 where it is not
+  tools/write_proved.py            writes the pages
+  tools/write_proved.py --check    tells whether they are as they would be written; its status is 1 where one is not
 
-For each library of crates.txt: what its root file says of it, and each public function with the first
+docs/proved.md: for each library of crates.txt: what its root file says of it, and each public function with the first
 paragraph of its doc comment and the names of its clauses, in their groups. Of a function that does
 nothing and whose clauses are laws each law is told with the comment of its definition.
+docs/api.md: each call of `Fs` with its signature, its whole doc comment and the names of its clauses.
 """
 import glob
 import os
@@ -15,6 +16,8 @@ import sys
 
 TOP = os.path.dirname(os.path.dirname(os.path.abspath(__file__)))
 PAGE = f"{TOP}/docs/proved.md"
+CALLS_PAGE = f"{TOP}/docs/api.md"
+CALLS = f"{TOP}/crates/undofs/src/fs.rt"
 HEAD = """# What is proved, crate by crate
 
 Every function is safe on every input that its `requires` allows, and returns. Beyond that its contract says what follows: here stand the public functions of each crate, each with what its doc comment says first, and in parentheses the names of the clauses of its contract that the checker has proved. What a word of them means stands in `specs/` of the crates, and [docs/definitions.md](definitions.md) walks through these.
@@ -22,6 +25,10 @@ Every function is safe on every input that its `requires` allows, and returns. B
 Not proved: that memory is there where a call wants it. After a cut during a sync a restart finds the history after it or one from before it. Which one is not promised.
 
 `tools/write_proved.py` writes this page; [docs/testing.md](testing.md) tells what only tests show.
+"""
+CALLS_HEAD = """# The calls of a mounted file system
+
+Each call of `Fs` of the crate `undofs`: its signature, what it does and refuses, and the names of the clauses that promise it ([docs/proved.md](proved.md#undofs)). `Fault` has the refusals with their words and numbers ([docs/scripts.md](scripts.md#the-numbers-of-refusals)); a number without a unit counts bytes of a file, and `budget` counts blocks. *Cost* is one such call on a flash with pages of 256 bytes in blocks of 4,096, with no node in memory: how many pages are read and programmed, and blocks erased ([docs/speed.md](speed.md)).
 """
 FUNCTION = re.compile(r"^\s*(pub )?(?:const )?fn (\w+)")
 BLOCK = re.compile(r"^(pub )?(impl|trait)\b(.*?)\{?$")
@@ -172,14 +179,62 @@ def page():
     return linked("\n".join([HEAD, listed, "", *lines]).rstrip("\n") + "\n")
 
 
+def paragraphs(doc):
+    """A doc comment as paragraphs, each one line, with its links as names."""
+    texts = "\n".join(line.strip()[len("///") :].strip() for line in doc).split("\n\n")
+    return [re.sub(r"\[(`[^`]+`)\](?:\([^)]*\))?", r"\1", " ".join(text.split())) for text in texts]
+
+
+def calls():
+    """The calls of `Fs`: for each its doc comment, the lines of its signature and the names of its clauses."""
+    doc, signature, clauses, is_open = [], [], [], False
+    for line in read(CALLS).split("impl<'f, F: Flash> Fs<'f, F> {")[1].splitlines():
+        text = line.strip()
+        if text.startswith("///"):
+            doc.append(line)
+        elif text.startswith("pub fn "):
+            signature, clauses, is_open = [line[4:]], [], not re.search(r"\)(?: -> .*)?$", text)
+        elif signature and text == "{":
+            yield doc, signature, clauses
+            doc, signature = [], []
+        elif signature and is_open:
+            signature.append(line[4:])
+            is_open = not text.startswith(")")
+        elif signature and CLAUSE.match(line):
+            clauses.append(CLAUSE.match(line).group(1) or "returns")
+        elif text and not signature:
+            doc = []
+
+
+def calls_page():
+    about = [line for line in read(CALLS).split("#[derive(Drop)]\npub struct Fs")[0].splitlines() if line.startswith("///")]
+    lines = [CALLS_HEAD, *paragraphs(about)[1:], ""]
+    for doc, signature, clauses in calls():
+        name = re.search(r"fn (\w+)", signature[0])[1]
+        told = "\n\n".join(paragraphs(doc))
+        lines += [f"## `{name}`", "", "```rust", *signature, "```", "", told, "", f"Promised by {', '.join(f'`{it}`' for it in clauses)}.", ""]
+    names = [line[3:].strip("`") for line in lines if line.startswith("## ")]
+    lines.insert(1, "Sections: " + " · ".join(f"[{it}](#{it})" for it in names) + ".\n")
+    return linked("\n".join(lines).rstrip("\n") + "\n")
+
+
+def pages():
+    return {PAGE: page(), CALLS_PAGE: calls_page()}
+
+
+def stale():
+    """The pages that are not as they would be written."""
+    return [os.path.relpath(path, TOP) for path, text in pages().items() if not os.path.isfile(path) or read(path) != text]
+
+
 def main():
     if sys.argv[1:] == ["--check"]:
-        if read(PAGE) == page():
-            return 0
-        print("docs/proved.md is not as tools/write_proved.py writes it")
-        return 1
-    with open(PAGE, "w", encoding="utf-8") as out:
-        out.write(page())
+        for name in stale():
+            print(f"{name} is not as tools/write_proved.py writes it")
+        return 1 if stale() else 0
+    for path, text in pages().items():
+        with open(path, "w", encoding="utf-8") as out:
+            out.write(text)
     return 0
 
 

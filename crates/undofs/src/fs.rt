@@ -61,6 +61,8 @@ impl<'f, F: Flash> Fs<'f, F> {
 
     /// Mounts what the newest record of a flash holds, as [`mount`] does. A refusal gives the flash
     /// back, as the reads left it: no page of it changed, and the cause is one of those of [`mount`].
+    ///
+    /// Cost: mount of five versions, 15 directories: 144 reads, 0 programs, 0 erases.
     pub fn mount_or_release(
         alloc: Global,
         flash: &'f mut F,
@@ -171,6 +173,8 @@ impl<'f, F: Flash> Fs<'f, F> {
     /// [`Fault::InGroup`] where a change group is open; [`Fault::Overflow`] where the sequence of the
     /// newest record is the greatest number there is. After a refusal but `PowerCut` the newest record is
     /// the one it was.
+    ///
+    /// Cost: sync of a record of one page: 0 reads, 1 programs, 0 erases.
     pub fn sync(&mut self, alloc: Global) -> Result<(), Fault>
         ensures step { StepsBetween self.old Call.Sync (replied empty result) self.new }
     {
@@ -221,6 +225,8 @@ impl<'f, F: Flash> Fs<'f, F> {
 
     /// Writes these bytes at an offset of the open file of a descriptor, all or none, and answers how many
     /// (POSIX.1-2017 `pwrite`). A gap past the end of the file is zeros; no bytes make no version.
+    ///
+    /// Cost: pwrite of a byte at the end of 1 MiB: 4 reads, 3 programs, 2 erases.
     pub fn pwrite(
         &mut self,
         alloc: Global,
@@ -243,6 +249,8 @@ impl<'f, F: Flash> Fs<'f, F> {
 
     /// The length in bytes of the open file of a descriptor becomes this (POSIX.1-2017 `ftruncate`); what is
     /// new of it is zeros. The same length makes no version, and is no refusal in read-only mode.
+    ///
+    /// Cost: ftruncate of 1 MiB to 512 KiB: 9 reads, 1 programs, 1 erases.
     pub fn ftruncate(
         &mut self,
         alloc: Global,
@@ -266,6 +274,8 @@ impl<'f, F: Flash> Fs<'f, F> {
     /// version is made, and that is no refusal in read-only mode.
     ///
     /// [`Fault::Busy`] where the file is open, [`Fault::TooBig`] for more bytes.
+    ///
+    /// Cost: write of a new file, 1,000 bytes, depth 2: 2 reads, 7 programs, 3 erases.
     pub fn write_file(&mut self, alloc: Global, path: &Path, bytes: &[u8]) -> Result<(), Fault>
         ensures step { StepsBetween self.old (Call.WriteFile path.now bytes.now) (replied empty result) self.new }
     {
@@ -282,6 +292,8 @@ impl<'f, F: Flash> Fs<'f, F> {
     /// [`Fault::NameTooLong`] for one file or more in a directory whose path has 16 names. Else refused
     /// with the first refusal that `write_file` of each in turn has, with nothing done: so also with
     /// [`Fault::DirectoryFull`] where the files before it leave no room.
+    ///
+    /// Cost: write_files of two, 1,000 bytes, depth 2: 2 reads, 12 programs, 4 erases.
     pub fn write_files(
         &mut self,
         alloc: Global,
@@ -295,6 +307,8 @@ impl<'f, F: Flash> Fs<'f, F> {
 
     /// What stands at a path of the tree that a view shows: a directory, with its number of entries, or
     /// a file, with its length in bytes (POSIX.1-2017 `stat`, which tells more).
+    ///
+    /// Cost: stat of a directory, depth 16: 17 reads, 0 programs, 0 erases.
     pub fn stat(&mut self, view: &View, path: &Path) -> Result<Stat, Fault>
         ensures step { StepsBetween self.old (Call.Stat view.now path.now) (replied Reply.Stat result) self.new }
         ensures pages { (p : ℕ) → (F.device self.new.flash.now).pages p ≡ (F.device self.old.flash.now).pages p }
@@ -306,6 +320,8 @@ impl<'f, F: Flash> Fs<'f, F> {
     }
 
     /// The names in the directory at a path, in byte order, each with whether it is a directory.
+    ///
+    /// Cost: ls of a directory, depth 4: 5 reads, 0 programs, 0 erases.
     pub fn list(
         &mut self,
         alloc: Global,
@@ -327,6 +343,8 @@ impl<'f, F: Flash> Fs<'f, F> {
     ///
     /// Refused as `list` is. The nodes of the directory are read, and the first page of each node of the
     /// directories that are told.
+    ///
+    /// Cost: entries of 1,000 files: 63 reads, 0 programs, 0 erases.
     pub fn entries(
         &mut self,
         alloc: Global,
@@ -377,6 +395,8 @@ impl<'f, F: Flash> Fs<'f, F> {
 
     /// The same of the open file of a descriptor (POSIX.1-2017 `pread`). [`Fault::BadDescriptor`] for a
     /// descriptor that is not open, or is open for writing alone.
+    ///
+    /// Cost: pread of 1 MiB: 4179 reads, 0 programs, 0 erases.
     pub fn pread(
         &mut self,
         alloc: Global,
@@ -399,6 +419,8 @@ impl<'f, F: Flash> Fs<'f, F> {
     }
 
     /// Makes an empty directory (POSIX.1-2017 `mkdir`, without a mode).
+    ///
+    /// Cost: mkdir at depth 4: 4 reads, 5 programs, 5 erases.
     pub fn mkdir(&mut self, alloc: Global, path: &Path) -> Result<(), Fault>
         ensures step { StepsBetween self.old (Call.Mkdir path.now) (replied empty result) self.new }
     {
@@ -406,6 +428,8 @@ impl<'f, F: Flash> Fs<'f, F> {
     }
 
     /// Removes an empty directory (POSIX.1-2017 `rmdir`). [`Fault::Busy`] for the root.
+    ///
+    /// Cost: rmdir at depth 16: 26 reads, 16 programs, 16 erases.
     pub fn rmdir(&mut self, alloc: Global, path: &Path) -> Result<(), Fault>
         ensures step { StepsBetween self.old (Call.Rmdir path.now) (replied empty result) self.new }
     {
@@ -423,6 +447,8 @@ impl<'f, F: Flash> Fs<'f, F> {
     /// Moves a file or a directory to another path, in place of a file or an empty directory that
     /// stands there (POSIX.1-2017 `rename`). Nothing is done where both paths are the same, in
     /// read-only mode too. [`Fault::Busy`] where a file that would be moved or replaced is open.
+    ///
+    /// Cost: rename in a directory, depth 16: 24 reads, 16 programs, 16 erases.
     pub fn rename(&mut self, alloc: Global, old: &Path, new: &Path) -> Result<(), Fault>
         ensures step { StepsBetween self.old (Call.Rename old.now new.now) (replied empty result) self.new }
     {
@@ -430,6 +456,8 @@ impl<'f, F: Flash> Fs<'f, F> {
     }
 
     /// The version before becomes the present one.
+    ///
+    /// Cost: undo: 0 reads, 0 programs, 0 erases.
     pub fn undo(&mut self) -> Result<(), Fault>
         ensures step { StepsBetween self.old Call.Undo (replied empty result) self.new }
         ensures still { F.device self.new.flash.now ≡ F.device self.old.flash.now }
@@ -438,6 +466,8 @@ impl<'f, F: Flash> Fs<'f, F> {
     }
 
     /// The version after becomes the present one.
+    ///
+    /// Cost: redo: 0 reads, 0 programs, 0 erases.
     pub fn redo(&mut self) -> Result<(), Fault>
         ensures step { StepsBetween self.old Call.Redo (replied empty result) self.new }
         ensures still { F.device self.new.flash.now ≡ F.device self.old.flash.now }
@@ -460,6 +490,8 @@ impl<'f, F: Flash> Fs<'f, F> {
     ///
     /// While a group is open, `sync`, `fsync`, `undo`, `redo`, `goto`, `rollback`, `forget`, `checkpoint`
     /// and `remove_checkpoint` are refused by [`Fault::InGroup`].
+    ///
+    /// Cost: begin: 0 reads, 0 programs, 0 erases.
     pub fn begin(&mut self) -> Result<(), Fault>
         ensures step { StepsBetween self.old Call.Begin (replied empty result) self.new }
         ensures still { F.device self.new.flash.now ≡ F.device self.old.flash.now }
@@ -471,6 +503,8 @@ impl<'f, F: Flash> Fs<'f, F> {
     /// next serial; else no version is made. [`Fault::NoGroup`] where none is open, [`Fault::Busy`] where
     /// a file is; where a version is due, [`Fault::ReadOnly`] and [`Fault::Overflow`] as for a change. A
     /// refused `end` leaves the group open.
+    ///
+    /// Cost: end of a group with four changes: 0 reads, 0 programs, 0 erases.
     pub fn end(&mut self) -> Result<(), Fault>
         ensures step { StepsBetween self.old Call.End (replied empty result) self.new }
         ensures still { F.device self.new.flash.now ≡ F.device self.old.flash.now }
@@ -480,6 +514,8 @@ impl<'f, F: Flash> Fs<'f, F> {
 
     /// Gives up the change group: all is as it was at its [`Fs::begin`]. It is carried out in read-only
     /// mode too. [`Fault::NoGroup`] where none is open, [`Fault::Busy`] where a file is.
+    ///
+    /// Cost: abandon of a group with four changes: 0 reads, 0 programs, 0 erases.
     pub fn abandon(&mut self) -> Result<(), Fault>
         ensures step { StepsBetween self.old Call.Abandon (replied empty result) self.new }
         ensures still { F.device self.new.flash.now ≡ F.device self.old.flash.now }
@@ -542,6 +578,8 @@ impl<'f, F: Flash> Fs<'f, F> {
     }
 
     /// How much of the flash is used ([`System::df`]).
+    ///
+    /// Cost: df of five versions, 15 directories: 15 reads, 0 programs, 0 erases.
     pub fn df(&mut self, alloc: Global) -> Result<Space, Fault>
         ensures step { StepsBetween self.old Call.Df (replied space_reply result) self.new }
     {

@@ -150,6 +150,8 @@ def main():
     say(f"{sum(len(found) for _, found in work)} of {sum(map(len, edits.values()))} edits are tried, {old} of which have no line with today's sum in TRIED")
     if given.confirmed:
         say(f"{sum(it.name not in tried[crate] for crate, found in edits.items() for it in found)} have no line at all, and are left out")
+    if given.logs:
+        os.makedirs(given.logs, exist_ok=True)
     if given.list:
         for crate, found in work:
             say(f"{crate}: {' '.join(it.name for it in found)}")

@@ -109,6 +109,12 @@ def no_name_is_stale():
             want(open(f("a")).read(), "one", "bytes after redo")
             f.order("redo")
         held.close()
+        # the kernel is told of names that are open alone
+        for _ in range(20):
+            want(os.stat(f("a")).st_size, 5, "length of a file that is closed")
+            f.order("undo")
+            want(os.stat(f("a")).st_size, 3, "its length after undo")
+            f.order("redo")
 
 
 def orders_are_refused():

@@ -1,8 +1,5 @@
 //! The checklist, run over flashes in memory and over drivers that break a rule.
-use crate::flash_bench::FlashBench;
-use crate::flaw::{Flaw, Way};
-use crate::flawed::Flawed;
-use crate::memory_part::MemoryPart;
+use driver_benches::{FlashBench, Flaw, Flawed, MemoryPart, Way};
 use driver_checks::{Bench, Case, check_driver};
 use flash_model::Geometry;
 use flash_simulation::SimFlash;

@@ -1,6 +1,7 @@
 //! Drivers: the checklist, run over the flashes in memory and over drivers that break a rule; and a driver that
 //! is at the other end of two streams. Single operations over it, scripts with each order failed once, cut once
-//! and left unanswered once, streams that break at each byte, and what it tells at the start.
+//! and left unanswered once, streams that break at each byte, and what it tells at the start. The file system over a
+//! serial NOR part in memory too.
 #![tactic(auto)]
 
 #[cfg(test)]
@@ -8,15 +9,13 @@ mod answers;
 #[cfg(test)]
 mod checklists;
 #[cfg(test)]
+mod cleaned;
+#[cfg(test)]
 mod cuts;
 #[cfg(test)]
-mod flash_bench;
+mod nor_reads;
 #[cfg(test)]
-mod flaw;
-#[cfg(test)]
-mod flawed;
-#[cfg(test)]
-mod memory_part;
+mod nor_sessions;
 #[cfg(test)]
 mod orders;
 #[cfg(test)]
@@ -33,5 +32,3 @@ mod starts;
 mod streams;
 #[cfg(test)]
 mod telling;
-#[cfg(test)]
-mod troubled;

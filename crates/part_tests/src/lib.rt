@@ -1,14 +1,12 @@
 //! Tests of single parts, of what no clause says: each public call that takes memory once with ample
-//! memory, worked bytes, and streams that fail; headers of archives, images in buffers, and the file system
-//! over a serial NOR part in memory.
+//! memory, worked bytes, and streams that fail; headers of archives, images in buffers, and the raw bytes of a
+//! serial NOR part.
 #![tactic(auto)]
 
 #[cfg(test)]
 mod buffers;
 #[cfg(test)]
 mod caches;
-#[cfg(test)]
-mod cleaned;
 #[cfg(test)]
 mod commits;
 #[cfg(test)]
@@ -21,10 +19,6 @@ mod headers_written;
 mod lines;
 #[cfg(test)]
 mod node_bytes;
-#[cfg(test)]
-mod nor_reads;
-#[cfg(test)]
-mod nor_sessions;
 #[cfg(test)]
 mod paths;
 #[cfg(test)]

@@ -2,7 +2,7 @@
 ghost use Rattle.std.specs.Prelude.{◌≡◌, ℕ};
 ghost use Rattle.flash_model.specs.declared.fault_kind.Operation.{Operation};
 ghost use Rattle.flash_model.specs.declared.flash.DevFault.{DevFault};
-ghost use Rattle.driver_tests.specs.Moments.{memory_moments, part_moments};
+ghost use Rattle.driver_benches.specs.Moments.{memory_moments, part_moments};
 
 use crate::memory_part::MemoryPart;
 use flash_model::{DevFault, FaultKind, Flash, Operation, Planned};
@@ -10,7 +10,7 @@ use flash_simulation::SimFlash;
 use nor_part::Trouble;
 
 /// A flash whose next operation can be troubled.
-pub(crate) trait Troubled: Flash {
+pub trait Troubled: Flash {
     ghost moment_count: { Operation → DevFault → ℕ };
 
     /// At how many moments of an operation such a fault can be planned.

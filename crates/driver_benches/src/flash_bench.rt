@@ -8,7 +8,7 @@ use fs_types::Fault;
 
 /// A flash on a bench.
 #[derive(Drop)]
-pub(crate) struct FlashBench<F: Troubled + Drop> {
+pub struct FlashBench<F: Troubled + Drop> {
     area: Area,
     flash: F,
     steps: Steps,
@@ -17,7 +17,7 @@ pub(crate) struct FlashBench<F: Troubled + Drop> {
 
 impl<F: Troubled + Drop> FlashBench<F> {
     /// All blocks of the flash may be used up.
-    pub(crate) fn new(flash: F) -> Result<FlashBench<F>, Fault> {
+    pub fn new(flash: F) -> Result<FlashBench<F>, Fault> {
         let sizes = flash.geometry();
         let area = Area::new(sizes, 0, sizes.blocks)?;
         Ok(FlashBench {

@@ -8,7 +8,7 @@ use Rattle.flash_model.specs.Device.{Device, Reads, Programs, Erases}
 use Rattle.driver_checks.specs.declared.area.Area.{Area}
 use Rattle.driver_checks.specs.declared.step.Step.{Step}
 use Rattle.driver_checks.specs.Driver.{AsksAtMost, OnlyAsks, driver_of}
-use Rattle.driver_tests.specs.Flaws.{moments_with}
+use Rattle.driver_benches.specs.Flaws.{moments_with}
 
 counted_once : (powered : Bool) (old new : ℕ) → new ≡ old + (if powered then 1 else 0) → new ≤ old + 1
 counted_once true old new count = omega arith

@@ -4,8 +4,8 @@ use nor_part::{MemoryNor, NorFlash};
 
 /// A flash over a part in memory.
 #[derive(Drop)]
-pub(crate) struct MemoryPart {
-    pub(crate) flash: NorFlash<MemoryNor>,
+pub struct MemoryPart {
+    pub flash: NorFlash<MemoryNor>,
 }
 
 impl Flash for MemoryPart {

@@ -11,7 +11,7 @@ use flash_model::{DevFault, Geometry, Operation, PageState};
 
 /// A driver on its bench that breaks one rule, and keeps to what the trait `Bench` asks.
 #[derive(Drop)]
-pub(crate) struct Flawed<B: Bench + Drop> {
+pub struct Flawed<B: Bench + Drop> {
     bench: B,
     flaw: Flaw,
     silent: bool,
@@ -24,7 +24,7 @@ pub(crate) struct Flawed<B: Bench + Drop> {
 
 impl<B: Bench + Drop> Flawed<B> {
     /// A driver with this flaw.
-    pub(crate) fn new(bench: B, flaw: Flaw) -> Flawed<B> {
+    pub fn new(bench: B, flaw: Flaw) -> Flawed<B> {
         Flawed {
             bench,
             flaw,
@@ -38,7 +38,7 @@ impl<B: Bench + Drop> Flawed<B> {
     }
 
     /// A driver with this flaw on a bench that tells no moments.
-    pub(crate) fn silent(bench: B, flaw: Flaw) -> Flawed<B> {
+    pub fn silent(bench: B, flaw: Flaw) -> Flawed<B> {
         let mut driver = Flawed::new(bench, flaw);
         driver.silent = true;
         driver
@@ -148,7 +148,7 @@ impl<B: Bench + Drop> Flawed<B> {
 }
 
 impl<B: Bench + Drop> Bench for Flawed<B> {
-    ghost use Rattle.driver_tests.specs.Flaws.{driver_with};
+    ghost use Rattle.driver_benches.specs.Flaws.{driver_with};
 
     ghost driver = { λ it. driver_with it.flaw.case it.silent it.off it.asked.n it.steps.list (B.driver it.bench) };
 

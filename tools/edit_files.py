@@ -30,10 +30,11 @@ class Edit:
 
 @dataclass
 class Function:
-    """The lines of a function in a file, counted from 0: its first one, the one that opens its body, and its last one.
-    One that has no body has None there."""
+    """The lines of a function in a file, counted from 0: that of its first attribute, its first one, the one that opens
+    its body, and its last one. One that has no body has None there."""
 
     name: str
+    head: int
     first: int
     body: int
     last: int
@@ -83,11 +84,21 @@ def functions_in(text):
     return [it for it in found if it]
 
 
+def head_of(lines, first):
+    """The line of the first attribute of the function that begins on a line, or that line."""
+    head = at = first
+    while at > 0 and not lines[at - 1].lstrip().startswith("//") and (at < head or lines[at - 1].endswith("]")):
+        at -= 1
+        if lines[at].lstrip().startswith("#["):
+            head = at
+    return head
+
+
 def function_at(lines, first):
     """The function that begins on a line, or None where its end is not found."""
     begins, depth = BEGINS.match(lines[first]), 0
     indent = lines[first][: len(lines[first]) - len(lines[first].lstrip())]
-    made = lambda body, last: Function(begins[2], first, body, last, bool(begins[1]))
+    made = lambda body, last: Function(begins[2], head_of(lines, first), first, body, last, bool(begins[1]))
     for at in range(first, len(lines)):
         line = lines[at]
         depth += sum(map(line.count, "([{")) - sum(map(line.count, ")]}"))

@@ -140,7 +140,7 @@ def goals_of(places, texts, said):
     """The open goals of the functions of these places, and their goals of which an answer no longer fits."""
     is_alone = any(it.number is None for it in places)
     spans = [(it.file, edit_files.functions_in(texts[it.file])[it.number]) for it in places if it.number is not None]
-    has = lambda file, line: is_alone or any(file == one and it.first < line <= it.last + 1 for one, it in spans)
+    has = lambda file, line: is_alone or any(file == one and it.head < line <= it.last + 1 for one, it in spans)
     search = [goal for file, line, goal in OPEN.findall(said) if has(file, int(line))]
     told = [(folder, goal) for folder, goal, more in ANSWER.findall(said) if not HOLDS.search(more)]
     answers = [goal for folder, goal in told if is_alone or any(it.has_answers_in(folder) for it in places)]

@@ -184,6 +184,15 @@ class Reading(unittest.TestCase):
         told = edit_trials.tried_once(one, {"src/store.rt": STORE}, SAID)
         self.assertEqual(told["    one\n.edit"], edit_trials.LATER)
 
+    def test_attributes(self):
+        """A check tells of a function at the line of its first attribute."""
+        text = "/// One.\n#[tactic(\n    auto,\n)]\n#[inline]\nfn one() {\n}\n\nfn two() {\n}\n"
+        self.assertEqual([(it.head, it.first) for it in edit_files.functions_in(text)], [(1, 5), (8, 8)])
+        said = "note: src/store.rt:2:1: it is not proved that it is so (`returns`)"
+        places = lambda number: [edit_trials.Place("src/store.rt", number, "")]
+        self.assertEqual(edit_trials.goals_of(places(0), {"src/store.rt": text}, said), (["returns"], []))
+        self.assertEqual(edit_trials.goals_of(places(1), {"src/store.rt": text}, said), ([], []))
+
     def test_rounds(self):
         edits = [store_edit(old, "len") for old in ("        0", "result ≡ 0", "    one\n", "MOST: u8 = 9", "not there")]
         found = [[edit.text for edit, _ in one] for one in edit_trials.rounds_of(self.folder, edits)]

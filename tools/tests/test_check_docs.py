@@ -18,7 +18,7 @@ FAULTS = {
     "a refusal that is left out": ("docs/scripts.md", "| 11 | EMFILE | 16 files are open. Close one. |\n", "", "left out of the table of refusals: EMFILE 11"),
     "a row of files that does not run": ("docs/tests_of_the_program.md", "| `a_folder_is_mirrored` | `mirror_of_a_folder` |", "| `a_folder_is_mirrored` | `mirror_of_folders` |", "no row of the gate: mirror_of_folders"),
     "a row that does not run": ("crates/rows/args", "synced_is_mounted.row\n", "", "no row of the gate: synced_is_mounted"),
-    "a test that is not there": ("docs/tests.md", "`part_tests/nodes` nodes_of_a_chain | `part_tests/node_bytes` nodes_are_read |", "`part_tests/nodes` nodes_of_a_chain | `part_tests/node_bytes` nodes_are |", "no test: part_tests/node_bytes nodes_are"),
+    "a test that is not there": ("docs/testing.md", "`part_tests/nodes` nodes_of_a_chain | `part_tests/node_bytes` nodes_are_read |", "`part_tests/nodes` nodes_of_a_chain | `part_tests/node_bytes` nodes_are |", "no test: part_tests/node_bytes nodes_are"),
     "a link to no page": ("README.md", "[docs/speed.md](docs/speed.md) has more", "[docs/speed.md](docs/sped.md) has more", "docs/sped.md"),
     "a link to no section": ("README.md", "(docs/embedding.md#quick-start)", "(docs/embedding.md#quick-begin)", "quick-begin"),
     "a list without one of its sections": ("README.md", " · [Run it](#run-it)", "", "README.md"),

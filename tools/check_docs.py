@@ -40,6 +40,7 @@ PAGE = re.compile(r"(?:docs/)?[A-Za-z_]+\.md\b")
 LONG = 1500
 MOST = {"README.md": 1600, "docs/proved.md": None, "docs/api.md": None}
 COST = re.compile(r"^\s*/// Cost: (.*): (\d+) reads, (\d+) programs, (\d+) erases\.$", re.M)
+FUNCTION = re.compile(r"( *)(?:pub(?:\(\w+\))? )?(?:const |final )*fn ")
 EXPLAINED = ["Word", "What it means, as uffs explain tells it"]
 # The rows of stored tables that no page shows.
 NOT_SHOWN = {
@@ -293,6 +294,23 @@ def summed(name, pattern):
     return [len(rows), *(sum(column) for column in zip(*rows))]
 
 
+def bodies_in(text):
+    """The functions of a source file that have a body: how many clauses the contract has, and how many lines the body."""
+    margin, clauses, first = None, 0, None
+    for number, line in enumerate(text.split("\n")):
+        found = FUNCTION.match(line)
+        if found and first is None:
+            margin, clauses = found[1], 0
+        if margin is None:
+            continue
+        if first is not None and line == margin + "}":
+            yield clauses, number - first - 1
+            margin, first = None, None
+        elif first is None:
+            clauses += bool(re.match(rf"{margin}    (requires|ensures)\b", line))
+            first = number if re.match(rf"{margin}(\{{|\S.* \{{)$", line) else None
+
+
 @functools.cache
 def sums():
     """The sentences with sums or counts, by their pages."""
@@ -306,6 +324,8 @@ def sums():
     version = re.search(r'VERSION: &str = "([^"]+)"', read(f"{TOP}/crates/command_words/src/grammar.rt"))[1]
     crates = len([it for it in os.listdir(f"{TOP}/crates") if os.path.isdir(f"{TOP}/crates/{it}/src")])
     edits = len(glob.glob(f"{TOP}/crates/*/must-fail/*.edit") + glob.glob(f"{TOP}/crates/*/wrong/*.edit"))
+    bodies = [it for text in texts("crates/*/src/**/*.rt").values() for it in bodies_in(text)]
+    long, wide = sum(lines >= 40 for _, lines in bodies), sum(clauses > 12 for clauses, _ in bodies)
     return {
         "README.md": [f"of {scripts} scripts, in {runs:,} runs"],
         "docs/testing.md": [
@@ -315,6 +335,7 @@ def sums():
             f"Of {images:,} hostile images {mounted:,} mount",
         ],
         "CHANGELOG.md": [f"## {version} "],
+        "CONTRIBUTING.md": [f"{long} functions have 40 lines or more", f"{wide} contracts have more than 12 clauses"],
         "docs/gate.md": [f"There are {crates} crates", f"and {edits} edits"],
     }
 

@@ -16,6 +16,7 @@ in its stdout under the same name, with the same figures. A table that has two o
 wrong. Each row that the program prints has to stand in a table, or is named in NOT_SHOWN.
 The table of what refusals mean has to be that of the row explain_refusals.row. Of tables that tell where a test
 stands: each row of crates/rows and crates/host_rows that they name has to run, and each function to be there.
+The table beside littlefs has to be as crates/operations/stdout and tools/littlefs/counts come to.
 Of sentences with sums of such figures, or with counts of what stands in crates/: they have to be as sums() makes them.
 Of each link: what it leads to has to be there, the section too. A page that is named has to be a link,
 and a page of over 1,500 words begins with a list of its sections. No page has over 4,000 words, and
@@ -41,6 +42,9 @@ LONG = 1500
 MOST = {"README.md": 1600, "docs/proved.md": None, "docs/api.md": None}
 COST = re.compile(r"^\s*/// Cost: (.*): (\d+) reads, (\d+) programs, (\d+) erases\.$", re.M)
 FUNCTION = re.compile(r"( *)(?:pub(?:\(\w+\))? )?(?:const |final )*fn ")
+# The columns of the table of single calls that crates/operations prints, and of the table beside littlefs.
+MEASURED = ["nodes", "cold", "warm", "programs", "erases", "blank"]
+BESIDE = ["undofs pages", "undofs blocks", "littlefs pages", "littlefs blocks"]
 EXPLAINED = ["Word", "What it means, as uffs explain tells it"]
 # The rows of stored tables that no page shows.
 NOT_SHOWN = {
@@ -353,6 +357,19 @@ def wrong_costs():
     return [name for name, *figures in COST.findall(read(write_proved.CALLS)) if printed.get(name) != figures]
 
 
+def wrong_beside(text):
+    """The lines of the table beside littlefs that the counts do not come to: a sync is a page, and an erase in sixteen."""
+    own = {name: figures for known, found in stored_tables() if known == MEASURED for name, figures in found}
+    counted = re.findall(r"^(.+?) {2,}\d+ +([\d.]+) +([\d.]+)$", read(f"{TOP}/tools/littlefs/counts"), re.M)
+    others = {name: figures for name, *figures in counted}
+    for columns, rows in tables(text):
+        for number, (name, *figures) in rows if columns == BESIDE else []:
+            _, _, _, programs, erases, _ = own.get(name, "000000")
+            wanted = [str(int(programs) + 1), f"{int(erases) + 1 / 16:.2f}", *others.get(name, [])]
+            if figures != wanted:
+                yield number, f"not as the counts come to: {name}"
+
+
 def too_long(page, text):
     """How many words a page has, where they are too many."""
     count, most = len(text.split()), MOST.get(page, 4000)
@@ -377,6 +394,7 @@ def main():
         name = os.path.relpath(page, TOP)
         whole = [*missing_sections(text), *missing_sums(name, text), *too_long(name, text)]
         wrong = [*wrong_figures(text, stored), *wrong_links(page, text), *wrong_places(text), *((1, it) for it in whole)]
+        wrong += wrong_beside(text)
         if name == "docs/scripts.md":
             wrong += wrong_explanations(text)
         for number, block in blocks(text):

@@ -21,8 +21,8 @@ Of sentences with sums of such figures, or with counts of what stands in crates/
 Of each link: what it leads to has to be there, the section too. A page that is named has to be a link,
 and a page of over 1,500 words begins with a list of its sections. No page has over 4,000 words, and
 README.md no more than 1,600; docs/proved.md and docs/api.md, which a script writes, may. These have to be as
-tools/write_proved.py writes them, the man page and the completion as tools/write_manual.py does, and what the
-comments of calls say of their cost as crates/operations prints it.
+tools/write_proved.py writes them, the man page and the completion as tools/write_manual.py does, the pictures as
+tools/draw_pictures.py does, and what the comments of calls say of their cost as crates/operations prints it.
 It prints a line for each that does not; its status is 1 where there is one.
 """
 import functools
@@ -31,6 +31,7 @@ import os
 import re
 import sys
 
+import draw_pictures
 import write_manual
 import write_proved
 
@@ -412,6 +413,9 @@ def main():
         told += 1
     for cost in wrong_costs():
         print(f"not as crates/operations prints it: {cost}")
+        told += 1
+    for name in draw_pictures.stale():
+        print(f"{name} is not as tools/draw_pictures.py writes it")
         told += 1
     for name in write_manual.stale():
         print(f"{name} is not as tools/write_manual.py writes it")

@@ -26,6 +26,7 @@ FAULTS = {
     "a list without one of its sections": ("README.md", " · [Run it](#run-it)", "", "README.md"),
     "a page that a script writes, by hand": ("docs/proved.md", "# What is proved, crate by crate", "# What is proved", "docs/proved.md is not as"),
     "a cost that the gate does not have": ("crates/undofs/src/fs.rt", "mkdir at depth 4: 4 reads, 5 programs", "mkdir at depth 4: 4 reads, 6 programs", "not as crates/operations prints it"),
+    "a picture that was changed by hand": ("docs/pictures/erases.svg", ">undo<", ">undone<", "docs/pictures/erases.svg is not as"),
     "a man page of other words": ("docs/uffs.1", ".SH NAME", ".SH NAMES", "docs/uffs.1 is not as"),
 }
 

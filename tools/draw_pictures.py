@@ -34,6 +34,11 @@ SHOWN = [
     "undo", "pwrite of a byte at the end of 1 MiB", "write of a new file, 1,000 bytes, depth 2", "mkdir at depth 4",
     "mkdir in a directory of 1,000 entries", "pwrite of a byte in the middle of 1 MiB",
 ]
+CAPTION = [
+    "A column is a block of the flash, in the order in which blocks were taken. Blocks 0 to 7 are the anchors and hold records alone.",
+    "A square is filled where the version reaches the block. Its colour tells which version wrote it.",
+    "An arrow leads from a node to one that it names. Pointers of a file that lead further back than to the node before are left out.",
+]
 COLOURS = ["#777777", "#1b6e3c", "#1f5fa8", "#b35900", "#7b3fa0", "#a8243c"]
 FONT = "font-family='sans-serif' font-size="
 
@@ -138,9 +143,10 @@ def versions_picture():
     for node in nodes.values():
         parts += box(x_of[node.block], levels[node.depth], node, COLOURS[writers[node.block] - 1])
     parts += matrix(versions, reached, writers, x_of, left, 322, step)
-    height = 322 + 34 * len(versions) + 60
-    parts.append(text(20, height - 38, "A column is a block of the flash, in the order in which blocks were taken. Blocks 0 to 7 are the anchors and hold records alone.", 13, "#555"))
-    parts.append(text(20, height - 18, "An arrow leads from a node to one that it names. A square is filled where the version reaches the block; the colour tells which version wrote it.", 13, "#555"))
+    height = 322 + 34 * len(versions) + 16
+    for line in CAPTION:
+        height += 20
+        parts.append(text(20, height - 8, line, 13, "#555"))
     return document(width, height, "Versions that share blocks", parts)
 
 

@@ -142,7 +142,7 @@ def versions_picture():
         parts += arrows(node, nodes, x_of, levels, COLOURS[writers[node.block] - 1])
     for node in nodes.values():
         parts += box(x_of[node.block], levels[node.depth], node, COLOURS[writers[node.block] - 1])
-    parts += matrix(versions, reached, writers, x_of, left, 322, step)
+    parts += matrix(versions, reached, writers, x_of, 322)
     height = 322 + 34 * len(versions) + 16
     for line in CAPTION:
         height += 20
@@ -169,7 +169,7 @@ def box(x, y, node, colour):
     yield text(x + 20, y + 26, node.label.replace("/conf/", "").lstrip("/") or node.label, 10, "#fff", "middle")
 
 
-def matrix(versions, reached, writers, x_of, left, top, step):
+def matrix(versions, reached, writers, x_of, top):
     """A line for each version, with a square for each block."""
     for block, x in x_of.items():
         yield text(x + 20, top - 8, block, 12, "#555", "middle")

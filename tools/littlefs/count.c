@@ -1,7 +1,8 @@
 /* Counts what littlefs asks of a flash in memory in five loads, each call of them made durable.
  *
- *   LFS=.../lib/littlefs       of the source package micropython of Debian, which has littlefs 2.8
- *   cc -O2 -I $LFS -o count count.c $LFS/lfs2.c $LFS/lfs2_util.c && ./count > counts
+ *   apt-get source micropython           (1.25.0 of Debian 13, which has littlefs 2.8)
+ *   LFS=micropython-1.25.0/lib/littlefs
+ *   cc -O2 -I $LFS -o count tools/littlefs/count.c $LFS/lfs2.c $LFS/lfs2_util.c && ./count > tools/littlefs/counts
  *
  * A page has 256 bytes, a block 4,096, and there are 2,048 blocks, as in crates/operations. A line has the load, the
  * calls, and on the average of each the pages that were programmed and the blocks that were erased. What puts the

@@ -6,5 +6,5 @@ top=$(cd "$(dirname "$0")" && pwd)
 script=${1:-$top/crates/memory_script/stdin}
 script=$(cd "$(dirname "$script")" && pwd)/$(basename "$script")
 cd "$top/crates/memory_script"
-echo "run.sh: compiling the file system, about a minute; nothing is proved" >&2
+echo "run.sh: compiling the file system, some two minutes of processor time; nothing is proved" >&2
 rt try < "$script"

@@ -16,12 +16,13 @@ in its stdout under the same name, with the same figures. A table that has two o
 wrong. Each row that the program prints has to stand in a table, or is named in NOT_SHOWN.
 The table of what refusals mean has to be that of the row explain_refusals.row. Of tables that tell where a test
 stands: each row of crates/rows and crates/host_rows that they name has to run, and each function to be there.
+The table beside littlefs has to be as crates/operations/stdout and tools/littlefs/counts come to.
 Of sentences with sums of such figures, or with counts of what stands in crates/: they have to be as sums() makes them.
 Of each link: what it leads to has to be there, the section too. A page that is named has to be a link,
 and a page of over 1,500 words begins with a list of its sections. No page has over 4,000 words, and
 README.md no more than 1,600; docs/proved.md and docs/api.md, which a script writes, may. These have to be as
-tools/write_proved.py writes them, the man page and the completion as tools/write_manual.py does, and what the
-comments of calls say of their cost as crates/operations prints it.
+tools/write_proved.py writes them, the man page and the completion as tools/write_manual.py does, the pictures as
+tools/draw_pictures.py does, and what the comments of calls say of their cost as crates/operations prints it.
 It prints a line for each that does not; its status is 1 where there is one.
 """
 import functools
@@ -30,6 +31,7 @@ import os
 import re
 import sys
 
+import draw_pictures
 import write_manual
 import write_proved
 
@@ -40,6 +42,10 @@ PAGE = re.compile(r"(?:docs/)?[A-Za-z_]+\.md\b")
 LONG = 1500
 MOST = {"README.md": 1600, "docs/proved.md": None, "docs/api.md": None}
 COST = re.compile(r"^\s*/// Cost: (.*): (\d+) reads, (\d+) programs, (\d+) erases\.$", re.M)
+FUNCTION = re.compile(r"( *)(?:pub(?:\(\w+\))? )?(?:const |final )*fn ")
+# The columns of the table of single calls that crates/operations prints, and of the table beside littlefs.
+MEASURED = ["nodes", "cold", "warm", "programs", "erases", "blank"]
+BESIDE = ["undofs pages", "undofs blocks", "littlefs pages", "littlefs blocks"]
 EXPLAINED = ["Word", "What it means, as uffs explain tells it"]
 # The rows of stored tables that no page shows.
 NOT_SHOWN = {
@@ -293,6 +299,23 @@ def summed(name, pattern):
     return [len(rows), *(sum(column) for column in zip(*rows))]
 
 
+def bodies_in(text):
+    """The functions of a source file that have a body: how many clauses the contract has, and how many lines the body."""
+    margin, clauses, first = None, 0, None
+    for number, line in enumerate(text.split("\n")):
+        found = FUNCTION.match(line)
+        if found and first is None:
+            margin, clauses = found[1], 0
+        if margin is None:
+            continue
+        if first is not None and line == margin + "}":
+            yield clauses, number - first - 1
+            margin, first = None, None
+        elif first is None:
+            clauses += bool(re.match(rf"{margin}    (requires|ensures)\b", line))
+            first = number if re.match(rf"{margin}(\{{|\S.* \{{)$", line) else None
+
+
 @functools.cache
 def sums():
     """The sentences with sums or counts, by their pages."""
@@ -306,6 +329,8 @@ def sums():
     version = re.search(r'VERSION: &str = "([^"]+)"', read(f"{TOP}/crates/command_words/src/grammar.rt"))[1]
     crates = len([it for it in os.listdir(f"{TOP}/crates") if os.path.isdir(f"{TOP}/crates/{it}/src")])
     edits = len(glob.glob(f"{TOP}/crates/*/must-fail/*.edit") + glob.glob(f"{TOP}/crates/*/wrong/*.edit"))
+    bodies = [it for text in texts("crates/*/src/**/*.rt").values() for it in bodies_in(text)]
+    long, wide = sum(lines >= 40 for _, lines in bodies), sum(clauses > 12 for clauses, _ in bodies)
     return {
         "README.md": [f"of {scripts} scripts, in {runs:,} runs"],
         "docs/testing.md": [
@@ -315,6 +340,7 @@ def sums():
             f"Of {images:,} hostile images {mounted:,} mount",
         ],
         "CHANGELOG.md": [f"## {version} "],
+        "CONTRIBUTING.md": [f"{long} functions have 40 lines or more", f"{wide} contracts have more than 12 clauses"],
         "docs/gate.md": [f"There are {crates} crates", f"and {edits} edits"],
     }
 
@@ -330,6 +356,19 @@ def wrong_costs():
     row = re.compile(r"^(.+?) {2,}\d+ +(\d+) +\d+ +(\d+) +(\d+) +\d+$", re.M)
     printed = {name: figures for name, *figures in reversed(row.findall(read(f"{TOP}/crates/operations/stdout")))}
     return [name for name, *figures in COST.findall(read(write_proved.CALLS)) if printed.get(name) != figures]
+
+
+def wrong_beside(text):
+    """The lines of the table beside littlefs that the counts do not come to: a sync is a page, and an erase in sixteen."""
+    own = {name: figures for known, found in stored_tables() if known == MEASURED for name, figures in found}
+    counted = re.findall(r"^(.+?) {2,}\d+ +([\d.]+) +([\d.]+)$", read(f"{TOP}/tools/littlefs/counts"), re.M)
+    others = {name: figures for name, *figures in counted}
+    for columns, rows in tables(text):
+        for number, (name, *figures) in rows if columns == BESIDE else []:
+            _, _, _, programs, erases, _ = own.get(name, "000000")
+            wanted = [str(int(programs) + 1), f"{int(erases) + 1 / 16:.2f}", *others.get(name, [])]
+            if figures != wanted:
+                yield number, f"not as the counts come to: {name}"
 
 
 def too_long(page, text):
@@ -356,6 +395,7 @@ def main():
         name = os.path.relpath(page, TOP)
         whole = [*missing_sections(text), *missing_sums(name, text), *too_long(name, text)]
         wrong = [*wrong_figures(text, stored), *wrong_links(page, text), *wrong_places(text), *((1, it) for it in whole)]
+        wrong += wrong_beside(text)
         if name == "docs/scripts.md":
             wrong += wrong_explanations(text)
         for number, block in blocks(text):
@@ -373,6 +413,9 @@ def main():
         told += 1
     for cost in wrong_costs():
         print(f"not as crates/operations prints it: {cost}")
+        told += 1
+    for name in draw_pictures.stale():
+        print(f"{name} is not as tools/draw_pictures.py writes it")
         told += 1
     for name in write_manual.stale():
         print(f"{name} is not as tools/write_manual.py writes it")

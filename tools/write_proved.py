@@ -30,7 +30,7 @@ CALLS_HEAD = """# The calls of a mounted file system
 
 Each call of `Fs` of the crate `undofs`: its signature, what it does and refuses, and the names of the clauses that promise it ([docs/proved.md](proved.md#undofs)). `Fault` has the refusals with their words and numbers ([docs/scripts.md](scripts.md#the-numbers-of-refusals)); a number without a unit counts bytes of a file, and `budget` counts blocks. *Cost* is one such call on a flash with pages of 256 bytes in blocks of 4,096, with no node in memory: how many pages are read and programmed, and blocks erased ([docs/speed.md](speed.md)).
 """
-FUNCTION = re.compile(r"^\s*(pub )?(?:const )?fn (\w+)")
+FUNCTION = re.compile(r"^\s*(pub )?(?:pub\(\w+\) )?(?:const )?fn (\w+)")
 BLOCK = re.compile(r"^(pub )?(impl|trait)\b(.*?)\{?$")
 CLAUSE = re.compile(r"^\s*ensures (?:(\w+) )?\{ ?(.*)$")
 DEFINITION = re.compile(r"^(?:abbrev |record |data )?pub (?:abbrev |record |data )?(\w+)|^pub (?:record|data) (\w+)")
@@ -82,6 +82,22 @@ def said(lines, mark):
     return re.sub(r"\[(`[^`]+`)\](?:\([^)]*\))?", r"\1", " ".join(words))
 
 
+def is_body(line):
+    """Whether the body of a function begins in this line."""
+    return line.strip() in ("{", "{}")
+
+
+def is_last_of_signature(line, begins):
+    """Whether a signature ends in this line, in which it begins or not."""
+    return not line.endswith("(") if begins else line.strip().startswith(")")
+
+
+def without_body(line):
+    """A line of a signature without the begin of a body, and whether there was one: such a function has no clause."""
+    bare = re.sub(r" \{\}?$", "", line)
+    return bare, bare != line
+
+
 class Function:
     def __init__(self, owner, name, doc):
         self.name = f"{owner}::{name}" if owner else name
@@ -124,7 +140,7 @@ def owner_of(head):
 
 def functions_in(path, names):
     """The public functions of a file whose names, or the names of whose types, are handed out."""
-    owner, in_trait, doc, current = "", False, [], None
+    owner, in_trait, doc, current, in_signature = "", False, [], None, False
     for line in read(path).splitlines():
         block = BLOCK.match(line)
         if block:
@@ -143,10 +159,13 @@ def functions_in(path, names):
             if doc and public and (owner if inner else found.group(2)) in names:
                 current = Function(owner if inner else "", found.group(2), said(doc, "///"))
                 yield current
-        elif current and line.strip() in ("{", "{}"):
+        elif current and is_body(line):
             current = None
-        elif current:
+        elif current and not in_signature:
             current.take(line)
+        if found or in_signature:
+            in_signature = not is_last_of_signature(line, found)
+            current = None if not in_signature and without_body(line)[1] else current
         if line.strip() and not line.strip().startswith("#["):
             doc = []
 
@@ -187,23 +206,25 @@ def paragraphs(doc):
 
 def calls():
     """The calls of `Fs`: for each its doc comment, the lines of its signature and the names of its clauses."""
-    doc, signature, clauses, is_open = [], [], [], False
+    doc, signature, clauses, in_signature = [], [], [], False
     for line in read(CALLS).split("impl<'f, F: Flash> Fs<'f, F> {")[1].splitlines():
         text = line.strip()
         if text.startswith("///"):
             doc.append(line)
         elif text.startswith("pub fn "):
-            signature, clauses, is_open = [line[4:]], [], not re.search(r"\)(?: -> .*)?$", text)
-        elif signature and text == "{":
-            yield doc, signature, clauses
-            doc, signature = [], []
-        elif signature and is_open:
+            signature, clauses, in_signature = [line[4:]], [], not is_last_of_signature(line, True)
+        elif signature and in_signature:
             signature.append(line[4:])
-            is_open = not text.startswith(")")
+            in_signature = not is_last_of_signature(line, False)
         elif signature and CLAUSE.match(line):
             clauses.append(CLAUSE.match(line).group(1) or "returns")
         elif text and not signature:
             doc = []
+        if signature and not in_signature:
+            signature[-1], has_body = without_body(signature[-1])
+            if has_body or is_body(line):
+                yield doc, signature, clauses
+                doc, signature = [], []
 
 
 def calls_page():
@@ -212,7 +233,8 @@ def calls_page():
     for doc, signature, clauses in calls():
         name = re.search(r"fn (\w+)", signature[0])[1]
         told = "\n\n".join(paragraphs(doc))
-        lines += [f"## `{name}`", "", "```rust", *signature, "```", "", told, "", f"Promised by {', '.join(f'`{it}`' for it in clauses)}.", ""]
+        promised = ", ".join(f"`{it}`" for it in clauses) or "no clause of its own"
+        lines += [f"## `{name}`", "", "```rust", *signature, "```", "", told, "", f"Promised by {promised}.", ""]
     names = [line[3:].strip("`") for line in lines if line.startswith("## ")]
     lines.insert(1, "Sections: " + " · ".join(f"[{it}](#{it})" for it in names) + ".\n")
     return linked("\n".join(lines).rstrip("\n") + "\n")

@@ -1,5 +1,5 @@
-/* What the open group wrote, kept in memory until the group ends, so that a save is few changes of the file system. Everybody sees it at
- * once: who asks for a length or for bytes is answered with it. */
+/* What the open group wrote, and the files that it made, kept in memory until the group ends, so that a save is few changes of the file
+ * system. Everybody sees it at once: who asks for a name, a length or bytes is answered with it. */
 #ifndef GROUP_WRITES_H
 #define GROUP_WRITES_H
 

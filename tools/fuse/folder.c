@@ -168,6 +168,16 @@ static void fill_entries(void *buffer, fuse_fill_dir_t fill, char *reply) {
     }
 }
 
+struct filling {
+    void *buffer;
+    fuse_fill_dir_t fill;
+};
+
+static void fill_file(void *with, const char *name) {
+    const struct filling *f = with;
+    f->fill(f->buffer, name, &(struct stat){.st_mode = S_IFREG}, 0, 0);
+}
+
 static int fill_listed(const char *path, void *buffer, fuse_fill_dir_t fill) {
     int why = 0;
     const struct listing *listing = reads_list(path, &why);
@@ -176,6 +186,7 @@ static int fill_listed(const char *path, void *buffer, fuse_fill_dir_t fill) {
         const struct listed *entry = &listing->entries[i];
         fill(buffer, entry->name, &(struct stat){.st_mode = entry->found.is_directory ? S_IFDIR : S_IFREG}, 0, 0);
     }
+    writes_list_new(path, fill_file, &(struct filling){buffer, fill});
     return 0;
 }
 
@@ -222,6 +233,8 @@ static int change_names(const struct undofs_lines *lines, const struct change *c
 
 static int change_path(const char *verb, const struct subject *s, void (*touch)(const void *), void (*apply)(uint64_t, const void *)) {
     if (is_own(s->path)) return -EROFS;
+    int error = errno_of(writes_make(s->path));
+    if (error != 0) return error;
     struct undofs_lines *lines = saves_lines();
     put_path_line(lines, verb, s->path, "");
     return change_names(lines, &(struct change){s, touch, apply});
@@ -233,7 +246,16 @@ static int folder_mkdir(const char *path, mode_t mode) {
 }
 
 static int folder_rmdir(const char *path) { return change_path("rmdir", &(struct subject){.path = path}, touch_removed, apply_removed); }
-static int folder_unlink(const char *path) { return change_path("unlink", &(struct subject){.path = path}, touch_removed, apply_removed); }
+
+/* A new file that the file system was not given is removed without it. */
+static int folder_unlink(const char *path) {
+    const struct subject removed = {.path = path};
+    if (!writes_is_new(path) || !undofs_is_there(saves.child)) return change_path("unlink", &removed, touch_removed, apply_removed);
+    touch_removed(&removed);
+    apply_removed(saves_serial(), &removed);
+    saves_note_change();
+    return errno_of(save_is_done());
+}
 
 struct move {
     const char *from, *to;
@@ -259,29 +281,49 @@ static void apply_move(uint64_t serial, const void *with) {
     time_touch_folder(m->to, serial);
 }
 
+/* A new file is made under its last name alone. */
+static int move_new(const struct move *m, int *is_moved) {
+    if (!writes_is_new(m->from)) return 0;
+    touch_move(m);
+    int why = writes_make_at(m->from, m->to, is_moved);
+    if (!*is_moved) return errno_of(why);
+    apply_move(saves_serial(), m);
+    saves_note_change();
+    return errno_of(save_is_done());
+}
+
+static int move_given(const struct move *m) {
+    int error = errno_of(writes_give(m->from));
+    if (error != 0) return error;
+    struct undofs_lines *lines = saves_lines();
+    undofs_put_text(lines, "rename ");
+    undofs_put_word(lines, m->from);
+    undofs_put_text(lines, " ");
+    undofs_put_word(lines, m->to);
+    undofs_put_end(lines);
+    return change_names(lines, &(struct change){m, touch_move, apply_move});
+}
+
 static int folder_rename(const char *from, const char *to, unsigned flags) {
     struct place old_place = place_of(from), new_place = place_of(to);
     if ((flags & ~(unsigned)NOREPLACE) != 0) return -EINVAL;
     if (old_place.kind != IN_TREE || new_place.kind != IN_TREE) return -EROFS;
-    if ((flags & NOREPLACE) != 0 && ask_path("stat", &new_place, "") == 0) return -EEXIST;
     struct undofs_stat found;
-    int error = look_at(&old_place, &found);
-    if (error == 0) error = errno_of(writes_give(from));
+    int is_moved = 0, error = errno_of(writes_make(to));
+    if (error == 0 && (flags & NOREPLACE) != 0 && ask_path("stat", &new_place, "") == 0) error = -EEXIST;
+    if (error == 0) error = look_at(&old_place, &found);
     if (error != 0) return error;
     struct move m = {from, to, found.is_directory};
-    struct undofs_lines *lines = saves_lines();
-    undofs_put_text(lines, "rename ");
-    undofs_put_word(lines, from);
-    undofs_put_text(lines, " ");
-    undofs_put_word(lines, to);
-    undofs_put_end(lines);
-    return change_names(lines, &(struct change){&m, touch_move, apply_move});
+    error = move_new(&m, &is_moved);
+    return error != 0 || is_moved ? error : move_given(&m);
 }
 
 static int folder_mknod(const char *path, mode_t mode, dev_t device) {
     (void)device;
     if (!S_ISREG(mode)) return -EPERM;
     if (is_own(path)) return -EROFS;
+    int error = errno_of(writes_make(path));
+    if (error != 0) return error;
     struct undofs_lines *lines = saves_lines();
     put_path_line(lines, "open", path, " 14");
     undofs_put_text(lines, "close 0\n");
@@ -296,14 +338,29 @@ static int folder_link(const char *from, const char *to) {
 
 /* ---- files ---- */
 
-/* Makes or cuts a file, in the group of the save that begins with it. */
-static int change_opened(const char *path, const char *flags, const struct change *change, struct fuse_file_info *info) {
-    int error = errno_of(save_begins());
+/* A new file is made when its bytes are given. */
+static void apply_new(const void *with) {
+    struct subject made = *(const struct subject *)with;
+    made.is_empty = 0;
+    apply_made(saves_serial(), &made);
+    saves_note_change();
+}
+
+static int make_or_cut(const char *path, const char *flags, const struct change *change) {
+    int error = errno_of(writes_make(path));
     if (error != 0) return error;
     struct undofs_lines *lines = saves_lines();
     put_path_line(lines, "open", path, flags);
     undofs_put_text(lines, "close 0\n");
-    error = errno_of(saves_change(lines, change));
+    return errno_of(saves_change(lines, change));
+}
+
+/* Makes or cuts a file, in the group of the save that begins with it. */
+static int change_opened(const char *path, const char *flags, const struct change *change, struct fuse_file_info *info) {
+    int error = errno_of(save_begins());
+    if (error != 0) return error;
+    if (change->apply == apply_made && writes_make_later(path)) apply_new(change->with);
+    else error = make_or_cut(path, flags, change);
     if (error == 0) error = opened_add(info, path, NULL);
     if (error == 0) opened_note_write(opened_of(info), 0);
     else (void)end_group_when_written();
@@ -446,6 +503,7 @@ static int folder_truncate(const char *path, off_t length, struct fuse_file_info
     if (p.kind != IN_TREE) return -EROFS;
     int error = opened_of(info) != NULL ? errno_of(save_begins()) : 0;
     if (error == 0 && length > 0) error = errno_of(writes_give(path));
+    if (error == 0) error = errno_of(writes_make(path));
     if (error != 0) return error;
     struct undofs_lines *lines = saves_lines();
     snprintf(cut, sizeof cut, "ftruncate 0 %llu\nclose 0\n", (unsigned long long)length);

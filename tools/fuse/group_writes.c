@@ -3,6 +3,7 @@
 #include "kept_reads.h"
 #include "saves.h"
 #include "space.h"
+#include "touched.h"
 #include "write_buffer.h"
 #include <errno.h>
 #include <stdlib.h>
@@ -98,6 +99,17 @@ uint64_t writes_blocks(void) {
     return blocks;
 }
 
+/* Whether the folder of a path has room for one entry more, as far as is known; where nothing is known no file waits in it. */
+static int has_entry_left(const char *path) {
+    const char *slash = strrchr(path, '/');
+    size_t length = slash == path ? 1 : (size_t)(slash - path);
+    for (size_t i = 0; i < ways.count; i++) {
+        const struct way *way = &ways.ways[i];
+        if (strncmp(way->path, path, length) == 0 && way->path[length] == 0) return way->entries + ways.names - way->names < MOST_ENTRIES;
+    }
+    return 1;
+}
+
 uint64_t writes_twice(void) { return written_twice(&buffer); }
 
 int writes_are_kept(void) { return buffer.most_nodes > 0; }
@@ -117,7 +129,9 @@ static struct undofs_lines *emptied(void) {
 /* The file system was given lines that it refused: how much of the file it has is asked anew. */
 static void learn_length(struct written_file *file) {
     struct undofs_stat found;
-    if (undofs_stat(saves.child, file->path, NULL, &found) == 0) file->given_length = found.length;
+    if (undofs_stat(saves.child, file->path, NULL, &found) != 0) return;
+    file->given_length = found.length;
+    file->is_new = 0;
 }
 
 static void note_given(struct written_file *file, int why) {
@@ -125,12 +139,13 @@ static void note_given(struct written_file *file, int why) {
     else learn_length(file);
 }
 
-/* Puts the lines of files at a path and below it, up to a length. How many files that are. */
-static size_t gather(const char *path, struct written_file **files, struct undofs_lines *lines) {
+/* Puts the lines of files at a path and below it, or of those that are new, up to a length. How many files that are. */
+static size_t gather(const char *path, int are_new, struct written_file **files, struct undofs_lines *lines) {
     size_t count = 0;
     for (size_t i = 0; i < WRITTEN_BUCKETS; i++) {
         for (struct written_file *file = buffer.files[i]; file != NULL; file = file->next) {
-            if (file->runs == NULL || !written_is_below(file, path)) continue;
+            int is_meant = file->is_new || (!are_new && file->runs != NULL);
+            if (!is_meant || !written_is_below(file, path)) continue;
             written_put(&buffer, file, lines);
             files[count++] = file;
             if (count == FILES_AT_ONCE || lines->length > LINES_AT_ONCE) return count;
@@ -152,13 +167,13 @@ static int give_lines(const struct undofs_lines *lines) {
     return why;
 }
 
-int writes_give(const char *path) {
+static int give_below(const char *path, int are_new) {
     struct written_file *files[FILES_AT_ONCE];
     int why = 0;
     if (is_giving) return 0;
     while (why == 0) {
         struct undofs_lines *lines = emptied();
-        size_t count = gather(path, files, lines);
+        size_t count = gather(path, are_new, files, lines);
         if (count == 0) break;
         why = give_lines(lines);
         for (size_t i = 0; i < count; i++) note_given(files[i], why);
@@ -166,6 +181,10 @@ int writes_give(const char *path) {
     if (!writes_are_kept()) forget_ways_below("/"); /* they take nothing for what is given */
     return why;
 }
+
+int writes_give(const char *path) { return give_below(path, 0); }
+
+int writes_make(const char *path) { return give_below(has_entry_left(path) ? path : "/", 1); }
 
 /* Gives the longest run of a file, or of all; a refusal, or 0. */
 static int give_longest(struct written_file *file) {
@@ -206,6 +225,8 @@ static struct written_file *file_at(const char *path, int *why) {
 /* Gives these bytes: where they are refused, as by a full flash, nothing else is concerned. */
 static int give_at_once(const char *path, struct written_file *file, uint64_t at, const uint8_t *bytes, size_t count) {
     ways.is_short = 1;
+    int made = writes_make(path);
+    if (made != 0) return made;
     if (!written_keep(&buffer, file, at, bytes, count)) return UNDOFS_NO_MEMORY;
     int why = writes_give(path);
     if (why != 0) writes_drop(path);
@@ -232,6 +253,41 @@ int writes_keep(const char *path, uint64_t at, const uint8_t *bytes, size_t coun
     if (!has_room_for(more_for(file, at, *kept))) return give_at_once(path, file, at, bytes, *kept);
     if (!written_keep(&buffer, file, at, bytes, *kept)) return UNDOFS_NO_MEMORY;
     return give_surplus(file);
+}
+
+/* ---- new files ---- */
+
+int writes_make_later(const char *path) {
+    struct undofs_stat found;
+    if (most_kept == 0 || ways.is_short || !undofs_is_there(saves.child) || written_find(&buffer, path) != NULL) return 0;
+    if (reads_stat(path, &found) != UNDOFS_ENOENT || learn_ways(path) != 0 || !has_entry_left(path)) return 0;
+    touched_made(path);
+    return space_has_room(&last_touch) && written_make(&buffer, path) != NULL;
+}
+
+void writes_list_new(const char *folder, void (*each)(void *with, const char *name), void *with) {
+    size_t length = folder[1] == 0 ? 0 : strlen(folder);
+    for (size_t i = 0; i < WRITTEN_BUCKETS; i++) {
+        for (const struct written_file *file = buffer.files[i]; file != NULL; file = file->next) {
+            int is_below = file->is_new && strncmp(file->path, folder, length) == 0 && file->path[length] == '/';
+            if (is_below && strchr(file->path + length + 1, '/') == NULL) each(with, file->path + length + 1);
+        }
+    }
+}
+
+int writes_is_new(const char *path) {
+    const struct written_file *file = written_find(&buffer, path);
+    return file != NULL && file->is_new;
+}
+
+int writes_make_at(const char *path, const char *to, int *is_done) {
+    const struct written_file *file = written_find(&buffer, path);
+    struct undofs_lines *lines = emptied();
+    *is_done = 0;
+    if (!writes_is_new(path) || !written_put_at(file, to, lines) || learn_ways(to) != 0 || !has_room_for(0)) return 0;
+    int why = give_lines(lines);
+    *is_done = why == 0;
+    return why == UNDOFS_ENOSPC ? 0 : why;
 }
 
 /* ---- what is known of files ---- */

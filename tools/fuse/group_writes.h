@@ -1,5 +1,5 @@
-/* What the open group wrote, kept in memory until the group ends, so that a save is few changes of the file system. Everybody sees it at
- * once: who asks for a length or for bytes is answered with it. */
+/* What the open group wrote, and the files that it made, kept in memory until the group ends, so that a save is few changes of the file
+ * system. Everybody sees it at once: who asks for a name, a length or bytes is answered with it. */
 #ifndef GROUP_WRITES_H
 #define GROUP_WRITES_H
 
@@ -13,6 +13,18 @@ void writes_start(size_t most);
 int writes_keep(const char *path, uint64_t at, const uint8_t *bytes, size_t count, size_t *kept);
 /* Gives what is kept of a path and of all below it; with "/" of all. 0, or a refusal: what was not taken is kept. */
 int writes_give(const char *path);
+/* A file is to be made. Whether it waits for its bytes, and is made with them: not where it may be refused, as one that is there, or in a
+ * folder that is not. Then who makes it asks the file system. */
+int writes_make_later(const char *path);
+/* Makes what waits at a path and below it, and where the folder of the path may be full all that waits: for who changes names there. 0,
+ * or a refusal. */
+int writes_make(const char *path);
+/* Whether a file waits for its bytes; and the names of those in a folder. */
+int writes_is_new(const char *path);
+void writes_list_new(const char *folder, void (*each)(void *with, const char *name), void *with);
+/* A file that waits is made at another path, in place of what stands there, as one change; `*is_done` tells whether that is enough. 0,
+ * or a refusal. */
+int writes_make_at(const char *path, const char *to, int *is_done);
 /* The file was made, or cut to no bytes: what was kept of it is for nothing. */
 void writes_cut(const char *path);
 /* What stood at a path, and below it, is there no more; with "/" of all. */

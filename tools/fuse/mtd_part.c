@@ -32,10 +32,20 @@ static enum nand_result nand_read(void *chip, uint32_t page, uint8_t *bytes, uin
     return result_of(is_read || errno == EUCLEAN); /* EUCLEAN: all errors were corrected */
 }
 
+/* A page whose program failed may have its bytes all the same, or look blank. Zeroes over its spare bytes make it unreadable, now and at
+ * each later start; that this program fails as well is no matter. */
+static void spoil(const struct mtd_part *m, uint32_t page) {
+    static const uint8_t zeroes[NAND_SPARE];
+    struct mtd_write_req ask = {.start = nand_at(m, page), .ooblen = NAND_SPARE, .usr_oob = (uintptr_t)zeroes, .mode = MTD_OPS_AUTO_OOB};
+    if (m->may_spoil) (void)ioctl(m->descriptor, MEMWRITE, &ask);
+}
+
 static enum nand_result nand_program(void *chip, uint32_t page, const uint8_t *bytes, const uint8_t *spare) {
     const struct mtd_part *m = chip;
     struct mtd_write_req ask = {.start = nand_at(m, page), .len = m->sizes.page, .ooblen = NAND_SPARE, .usr_data = (uintptr_t)bytes, .usr_oob = (uintptr_t)spare, .mode = MTD_OPS_AUTO_OOB};
-    return result_of(ioctl(m->descriptor, MEMWRITE, &ask) == 0);
+    enum nand_result result = result_of(ioctl(m->descriptor, MEMWRITE, &ask) == 0);
+    if (result == NAND_BROKEN) spoil(m, page);
+    return result;
 }
 
 static enum nand_result nand_erase(void *chip, uint32_t block) {
@@ -102,6 +112,7 @@ static int find_sizes(struct mtd_part *m, const struct mtd_info_user *info, int 
     uint32_t blocks = info->size / block / (m->is_nor ? 2 : 1);
     if (blocks > MOST_BYTES / block) blocks = MOST_BYTES / block;
     if (blocks > MOST_BLOCKS) blocks = MOST_BLOCKS;
+    m->may_spoil = info->type == MTD_NANDFLASH;
     m->erase_size = block;
     m->sizes = (struct undofs_sizes){page, block / page, blocks};
     return blocks < 16 ? ERANGE : 0;

@@ -7,6 +7,7 @@
 
 struct mtd_part {
     int descriptor, is_nor;
+    int may_spoil; /* a NAND page takes a second program of spare bytes; MLC does not, where it may spoil another page */
     uint32_t erase_size; /* bytes of a sector, which on NAND is a block */
     struct undofs_sizes sizes;
     struct nand_chip chip;

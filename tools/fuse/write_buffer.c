@@ -80,11 +80,20 @@ static void count(struct write_buffer *buffer, struct written_file *file) {
         file->run_bytes += run->length;
         file->run_count++;
     }
-    uint64_t nodes = file->runs == NULL ? 0 : most_nodes(buffer, file, file->runs->at, written_length(file));
+    uint64_t nodes = (uint64_t)file->is_new;
+    if (file->runs != NULL) nodes = most_nodes(buffer, file, file->runs->at, written_length(file));
     buffer->memory += memory - file->memory;
     buffer->most_nodes += nodes - file->most_nodes;
     file->memory = memory;
     file->most_nodes = nodes;
+}
+
+struct written_file *written_make(struct write_buffer *buffer, const char *path) {
+    struct written_file *file = written_know(buffer, path, 0);
+    if (file == NULL) return NULL;
+    file->is_new = 1;
+    count(buffer, file);
+    return file;
 }
 
 /* ---- runs ---- */
@@ -199,7 +208,7 @@ static void put_pieces(const struct write_buffer *buffer, const struct run *run,
 static void put_open(const struct written_file *file, struct undofs_lines *lines) {
     undofs_put_text(lines, "open ");
     undofs_put_word(lines, file->path);
-    undofs_put_text(lines, " 2\n");
+    undofs_put_text(lines, file->is_new ? " 6\n" : " 2\n");
 }
 
 static void put_zeroes(struct undofs_lines *lines, uint64_t wanted) {
@@ -208,11 +217,11 @@ static void put_zeroes(struct undofs_lines *lines, uint64_t wanted) {
 }
 
 /* The whole file in one line. */
-static void put_whole(const struct written_file *file, struct undofs_lines *lines) {
+static void put_whole(const struct written_file *file, const char *path, struct undofs_lines *lines) {
     uint64_t at = 0;
     undofs_put_text(lines, "write ");
-    undofs_put_word(lines, file->path);
-    undofs_put_text(lines, " ");
+    undofs_put_word(lines, path);
+    undofs_put_text(lines, file->runs == NULL ? " -" : " ");
     for (const struct run *run = file->runs; run != NULL; run = run->next) {
         put_zeroes(lines, run->at - at);
         undofs_put_data(lines, run->bytes, run->length);
@@ -222,17 +231,19 @@ static void put_whole(const struct written_file *file, struct undofs_lines *line
 }
 
 /* A line `write` has the whole path, of which a byte may be spelled as three. */
-static int is_one_line(const struct written_file *file) {
+static int is_one_line(const struct written_file *file, const char *path) {
     uint64_t length = written_length(file);
-    return file->given_length == 0 && length <= UNDOFS_MOST_DATA && 2 * length + 3 * strlen(file->path) + sizeof "write  " <= UNDOFS_LINE;
+    return file->given_length == 0 && length <= UNDOFS_MOST_DATA && 2 * length + 3 * strlen(path) + sizeof "write  " <= UNDOFS_LINE;
+}
+
+int written_put_at(const struct written_file *file, const char *path, struct undofs_lines *lines) {
+    if (!is_one_line(file, path)) return 0;
+    put_whole(file, path, lines);
+    return 1;
 }
 
 void written_put(const struct write_buffer *buffer, const struct written_file *file, struct undofs_lines *lines) {
-    if (file->runs == NULL) return;
-    if (is_one_line(file)) {
-        put_whole(file, lines);
-        return;
-    }
+    if ((file->runs == NULL && !file->is_new) || written_put_at(file, file->path, lines)) return;
     put_open(file, lines);
     for (const struct run *run = file->runs; run != NULL; run = run->next) put_pieces(buffer, run, end_of(run), lines);
     undofs_put_text(lines, "close 0\n");
@@ -259,12 +270,14 @@ static void drop_runs(struct written_file *file) {
 
 void written_given(struct write_buffer *buffer, struct written_file *file) {
     file->given_length = written_length(file);
+    file->is_new = 0;
     drop_runs(file);
     count(buffer, file);
 }
 
 void written_run_given(struct write_buffer *buffer, struct written_file *file, struct run *run, size_t given) {
     file->given_length = higher(file->given_length, run->at + given);
+    file->is_new = 0;
     memmove(run->bytes, run->bytes + given, run->length - given);
     run->at += given;
     run->length -= given;

@@ -17,6 +17,7 @@ struct written_file {
     struct written_file *next;
     char *path;
     uint64_t given_length; /* how many bytes the file system has of it */
+    int is_new;            /* the file system has no such file yet */
     struct run *runs;
     size_t run_count, run_bytes;
     size_t memory;       /* how much it takes, about */
@@ -42,6 +43,8 @@ enum {
 struct written_file *written_find(const struct write_buffer *buffer, const char *path);
 /* The file, of which nothing was known, is known to have so many bytes. Null where there is no memory. */
 struct written_file *written_know(struct write_buffer *buffer, const char *path, uint64_t given_length);
+/* The same of a file that the lines which give it make. */
+struct written_file *written_make(struct write_buffer *buffer, const char *path);
 /* Keeps bytes of a file, over those that are kept. 0 where there is no memory; then nothing has changed. */
 int written_keep(struct write_buffer *buffer, struct written_file *file, uint64_t at, const uint8_t *bytes, size_t count);
 /* How many nodes the file system would write at most, if these bytes were kept too. */
@@ -60,9 +63,11 @@ struct run *written_longest_of(const struct written_file *file);
 struct run *written_longest(const struct write_buffer *buffer, struct written_file **file);
 
 /* Puts the lines that give the runs of a file: `write` where the file has no bytes and that is enough, else `open`, a `pwrite` for each
- * piece, and `close`. A piece ends where a node ends, or with its run. */
+ * piece, and `close`. A piece ends where a node ends, or with its run. A new file is made by them. */
 void written_put(const struct write_buffer *buffer, const struct written_file *file, struct undofs_lines *lines);
-/* The same of one run, up to the last end of a node in it; of the whole run where there is none. How many bytes that is. */
+/* Puts all of a file in the one line `write`, at another path; whether that is enough. */
+int written_put_at(const struct written_file *file, const char *path, struct undofs_lines *lines);
+/* As `written_put`, of one run, up to the last end of a node in it; of the whole run where there is none. How many bytes that is. */
 size_t written_put_run(const struct write_buffer *buffer, const struct written_file *file, const struct run *run, struct undofs_lines *lines);
 /* The file system has taken these lines: what they gave is kept no more. */
 void written_given(struct write_buffer *buffer, struct written_file *file);

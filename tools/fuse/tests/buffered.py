@@ -245,6 +245,70 @@ def a_save_is_few_lines():
         want(listed <= 6, True, f"{listed} lines of a listing of 30 files")
 
 
+def a_new_file_is_one_change():
+    """A file that is made, written and renamed in a group is one line that changes the tree, and looks; one that is made and removed is none.
+    All see them meanwhile, and a kill finds nothing of the group."""
+    with counted("settle=100,commit=0", blocks=1024) as f:
+        names = [str(i) for i in range(20)]
+
+        def replace_all(text):
+            for name in names:
+                save(f("new"), text + name)
+                os.rename(f("new"), f(name))
+
+        replace_all("one")
+        f.order("sync")
+        lines = lines_of(f, lambda: replace_all("other"))
+        want(lines <= 5 * len(names), True, f"{lines} lines of {len(names)} files renamed over old ones")
+        want(tree_of(f.path), {name: f"other{name}".encode() for name in names}, "the tree in the group")
+        os.mkdir(f("d"))
+        lines = lines_of(f, lambda: [(save(f("d", name), name), os.unlink(f("d", name))) for name in names])
+        want(lines <= 2 * len(names), True, f"{lines} lines of {len(names)} files that are removed again")
+        os.rmdir(f("d"))
+        save(f("last"), "last")
+        f.kill()
+        f.mount()
+        want(tree_of(f.path), {name: f"one{name}".encode() for name in names}, "the tree after a kill")
+
+
+def new_files_are_seen_by_names():
+    """A new file is in each listing, keeps its folder, and is cut, moved and replaced as an old one."""
+    with mounted("settle=100", blocks=1024, history=4) as f:
+        for name in ("listed", "kept", "replaced", "other", "d"):
+            os.mkdir(f(name))
+        for name in ("listed/a", "kept/a", "replaced/a"):
+            save(f(name), "a")
+        want(os.listdir(f("listed")), ["a"], "a listing")
+        want(errno_of(lambda: os.rmdir(f("kept"))), errno.ENOTEMPTY, "a folder with a new file is removed")
+        want(errno_of(lambda: os.rename(f("other"), f("replaced"))), errno.ENOTEMPTY, "a folder takes the place of one with a new file")
+        for name, length in (("d/a", 0), ("d/b", 3), ("d/c", 5000)):
+            save(f(name), "x" * 100)
+            os.truncate(f(name), length)
+        save(f("d/b"), "again")
+        for name, length in (("empty", 0), ("one line", 100), ("more", 70000)):
+            save(f("new"), "y" * length)
+            os.rename(f("new"), f("other", name))
+            save(f("new"), "z" * length)
+            os.rename(f("new"), f("d/a"))
+            want(open(f("d/a"), "rb").read(), b"z" * length, f"a new file of {length} bytes over another one")
+        wanted = {"d/a": b"z" * 70000, "d/b": b"again", "d/c": b"x" * 100 + bytes(4900), "listed/a": b"a", "kept/a": b"a", "replaced/a": b"a"}
+        wanted |= {"other/empty": b"", "other/one line": b"y" * 100, "other/more": b"y" * 70000}
+        wanted |= dict.fromkeys(("listed", "kept", "replaced", "other", "d"))
+        want(tree_of(f.path), wanted, "the tree")
+        f.unmount()
+        f.mount()
+        want(tree_of(f.path), wanted, "the tree after a new mount")
+
+
+def a_full_folder_takes_no_file():
+    """A folder of 1,024 entries refuses one more when it is made, also where those are new."""
+    with mounted("settle=100", blocks=2048, history=2) as f:
+        for i in range(1024):
+            os.close(os.open(f(str(i)), os.O_WRONLY | os.O_CREAT))
+        want(errno_of(lambda: os.open(f("more"), os.O_WRONLY | os.O_CREAT)), errno.ENOSPC, "one file too many")
+        want(errno_of(lambda: os.mkdir(f("more"))), errno.ENOSPC, "one folder too many")
+
+
 def pages_are_kept_until_the_tree_moves():
     """A file that is read a second time asks no child, and after an undo, a rename and a removal no page is of another file."""
     with counted("settle=0,commit=0", blocks=1024) as f:
@@ -352,6 +416,9 @@ CASES = [
     a_write_is_refused_when_it_is_made,
     many_at_once,
     a_save_is_few_lines,
+    a_new_file_is_one_change,
+    new_files_are_seen_by_names,
+    a_full_folder_takes_no_file,
     pages_are_kept_until_the_tree_moves,
     a_rename_brings_no_stale_page,
     files_are_read_in_turn,

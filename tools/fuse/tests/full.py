@@ -170,23 +170,25 @@ def a_group_that_finds_no_room_at_its_end():
             file, made = os.open(f("a"), os.O_WRONLY), os.open(f("b"), os.O_WRONLY | os.O_CREAT)
             os.write(file, b"six")
             os.write(made, b"new")
+            os.mkdir(f("d"))
             refuse(f, "write pwrite")
+            seen = {"a": b"six", "b": b"new", "d": None}
             os.close(file)
             want(refusal_of(os.close, made), "ENOSPC", "the last close")
             for line in ("undo", "sync", "checkpoint y"):
                 want(f.refusal(line), errno.ENOSPC, line)
-            want((os.statvfs(f.path).f_blocks, tree_of(f.path)), (248, {"a": b"six", "b": b"new"}), "what is seen")
+            want((os.statvfs(f.path).f_blocks, tree_of(f.path)), (248, seen), "what is seen")
             for line, refusal in (("forget 1", None), ("forgetfree 9000", errno.ENOSPC), ("rmcheckpoint x", None)):
                 want(f.refusal(line), refusal, line)
-                want(tree_of(f.path), {"a": b"six", "b": b"new"}, f"what is seen after {line}")
+                want(tree_of(f.path), seen, f"what is seen after {line}")
             want(f.refusal("undo"), errno.ENOSPC, "undo before there is room")
             refuse(f, "")
             want(f.refusal("forgetfree 9"), None, "a line once there is room")
             f.kill()
             f.mount()
-            want(tree_of(f.path), {"a": b"six", "b": b"new"}, "after a kill")
+            want(tree_of(f.path), seen, "after a kill")
             f.order("undo")
-            want(tree_of(f.path), {"a": b"two", "b": b""}, "the version that was ended without them")
+            want(tree_of(f.path), {"a": b"two", "d": None}, "the version that was ended without them")
             f.unmount()
 
 
@@ -198,7 +200,7 @@ def what_was_refused_is_not_sent_again():
         saved(f("a"), b"one")
         refuse(f, "mkdir")
         want(refusal_of(os.mkdir, f("d")), "ENOSPC", "a folder")
-        refuse(f, "rename")
+        refuse(f, "rename write")
         want(refusal_of(os.rename, f("a"), f("b")), "ENOSPC", "a move")
         refuse(f, "")
         f.order("end")

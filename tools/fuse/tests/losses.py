@@ -341,10 +341,10 @@ def nand_behind_mtd():
 
 
 def failures_behind_mtd():
-    """One in forty programs fails: no save is lost, and blocks are bad afterwards."""
-    for kind in ("nor", "nand"):
+    """One in forty programs fails, with a part of its bytes done or all: no save is lost, and blocks are bad afterwards."""
+    for kind, whole in (("nor", "0"), ("nand", "0"), ("nand", "1")):
         with Folder(history=8) as f:
-            base = {"MTD_FILE": f.part, "MTD_KIND": kind, "MTD_FAIL": "40"}
+            base = {"MTD_FILE": f.part, "MTD_KIND": kind, "MTD_FAIL": "40", "MTD_WHOLE": whole}
             with open(f.part, "wb"):
                 pass
             f.mount(base, more="format")

@@ -91,6 +91,22 @@ static void blocks_that_are_bad(void) {
     done();
 }
 
+/* A page whose program fails with all its bytes done is unreadable, until it is erased. */
+static void a_nand_page_that_fails(void) {
+    setenv("MTD_FAIL", "1", 1);
+    open_new("nand", "MTD_WHOLE", "1");
+    unsetenv("MTD_FAIL");
+    want(programmed(0), UNDOFS_FAILED, "a program that fails");
+    want(state_of(0), UNDOFS_UNREADABLE, "its page");
+    done();
+    open_well("nand", NULL, NULL);
+    want(state_of(0), UNDOFS_UNREADABLE, "its page at the next start");
+    want(driver.erase_block(driver.part, 0), UNDOFS_DONE, "an erase");
+    want(programmed(0), UNDOFS_DONE, "a program that does not fail");
+    want(state_of(0), UNDOFS_DATA, "its page at last");
+    done();
+}
+
 static void too_few_spare_bytes(void) {
     (void)unlink(name);
     want(opened("nand", "MTD_SPARE", "63"), ERANGE, "a part with too few spare bytes");
@@ -147,6 +163,7 @@ int main(int count, char **words) {
     errors_that_were_corrected();
     sums_of_other_pages();
     blocks_that_are_bad();
+    a_nand_page_that_fails();
     too_few_spare_bytes();
     a_nor_page_that_fails();
     marks_that_are_torn();

@@ -5,6 +5,7 @@
  *   MTD_BAD=B    block B of a NAND is marked bad
  *   MTD_CUT=N    in the N-th program or erase power goes: the process ends, with a part of it done
  *   MTD_FAIL=N   one in N programs fails with EIO, with a part of it done
+ *   MTD_WHOLE=1  a program of a NAND that fails has all its bytes done
  *   MTD_WORN=N   from the N-th program or erase on each program of the first eight blocks fails so
  *   MTD_CORRECTED=1  each read of a NAND tells that it corrected errors
  *   MTD_SPARE=N  a NAND tells N spare bytes a page */
@@ -24,10 +25,10 @@
 
 enum { SPARE = 64, KEPT = 6, TORN = 8, ANCHORS = 8 };
 
-static int part = -1, is_nor, is_ram, is_corrected;
+static int part = -1, is_nor, is_ram, is_corrected, is_whole;
 static uint32_t spare_told;
 static uint32_t page, pages, blocks; /* of NOR: sectors of `pages` times 256 bytes */
-static uint64_t bad_block = ~0ull, operations, draw = 1, cut_at, fails_of, worn_from;
+static uint64_t bad_block = ~0ull, operations, draw = 1, cut_at, fails_of, worn_from, failed_at = ~0ull;
 static ssize_t (*write_really)(int, const void *, size_t, off_t);
 
 static void *real(const char *name) {
@@ -74,6 +75,7 @@ static int opened(int (*open_really)(const char *, int, ...), const char *name, 
     fails_of = number("MTD_FAIL", 0);
     worn_from = number("MTD_WORN", ~0ull);
     is_corrected = number("MTD_CORRECTED", 0) != 0;
+    is_whole = number("MTD_WHOLE", 0) != 0;
     spare_told = (uint32_t)number("MTD_SPARE", SPARE);
     write_really = (ssize_t(*)(int, const void *, size_t, off_t))real("pwrite");
     part = open_really(name, O_RDWR | O_CREAT | O_CLOEXEC, 0600);
@@ -170,15 +172,28 @@ static int is_programmed(uint64_t at) {
     return kept[0] != 0xff;
 }
 
+/* Spare bytes alone, of the page whose program failed last. It fails as well, and is done. */
+static int spoil_page(const struct mtd_write_req *ask) {
+    const uint8_t *spare = (const void *)(uintptr_t)ask->usr_oob;
+    uint8_t kept[KEPT];
+    check(ask->start == failed_at && ask->ooblen == KEPT && ask->mode == MTD_OPS_AUTO_OOB, "a program of spare bytes", ask->start);
+    get(kept, KEPT, spare_at(ask->start));
+    for (int i = 0; i < KEPT; i++) kept[i] &= spare[i];
+    put(kept, KEPT, spare_at(ask->start));
+    return refused(EIO);
+}
+
 static int write_page(const struct mtd_write_req *ask) {
     uint64_t at = ask->start, block = (uint64_t)page * pages;
+    if (ask->usr_data == 0) return spoil_page(ask);
     check(!is_nor && at % page == 0 && ask->len == page && ask->ooblen == KEPT && ask->mode == MTD_OPS_AUTO_OOB && at < size(), "a program", at);
     check(at / block != bad_block, "a program of a bad block", at);
     for (uint64_t later = at; later / block == at / block; later += page) check(!is_programmed(later), "a program twice, or out of order,", at);
     int cut = is_cut(), failed = is_failed(at / block);
-    put((void *)(uintptr_t)ask->usr_data, cut || failed ? page / TORN : page, at);
+    put((void *)(uintptr_t)ask->usr_data, cut || (failed && !is_whole) ? page / TORN : page, at);
     if (cut) _exit(77);
     put((void *)(uintptr_t)ask->usr_oob, KEPT, spare_at(at));
+    failed_at = failed ? at : ~0ull;
     return failed ? refused(EIO) : 0;
 }
 

@@ -12,6 +12,7 @@ struct model {
     const char *path;
     uint8_t shown[MOST], given[MOST]; /* as it is to be seen, and as the file system has it */
     size_t shown_length, given_length;
+    int is_made; /* the file system has the file */
     uint64_t first_node; /* the first that the lines of this give have written; none yet where it is above all */
 };
 
@@ -67,6 +68,8 @@ static void carry_out(const struct written_file *file) {
         *next++ = 0;
         if (strncmp(line, "open ", 5) == 0) {
             m = model_at(line + 5);
+            check(strcmp(strrchr(line, ' '), m->is_made ? " 2" : " 6") == 0, "a file is opened that is not there, or made that is");
+            m->is_made = 1;
         } else if (strncmp(line, "pwrite 0 ", 9) == 0) {
             check(m != NULL, "a file is open");
             uint64_t at = strtoull(line + 9, &line, 10), end = at + strlen(line + 1) / 2;
@@ -77,6 +80,7 @@ static void carry_out(const struct written_file *file) {
         } else if (strncmp(line, "write ", 6) == 0) {
             m = model_at(line + 6);
             check(m->given_length == 0, "a file that has bytes is replaced");
+            m->is_made = 1;
             write_given(m, 0, strchr(line + 6, ' ') + 1, most_nodes);
         } else {
             check(strcmp(line, "close 0") == 0, "a line that is none");
@@ -119,7 +123,7 @@ static struct written_file *any_file(void) {
 
 static struct written_file *file_of(const struct model *m) {
     struct written_file *file = written_find(&buffer, m->path);
-    if (file == NULL) file = written_know(&buffer, m->path, m->given_length);
+    if (file == NULL) file = m->is_made ? written_know(&buffer, m->path, m->given_length) : written_make(&buffer, m->path);
     check(file != NULL, "memory");
     return file;
 }
@@ -196,6 +200,7 @@ static void end_round(void) {
     written_drop_below(&buffer, "/");
     check(buffer.memory == 0, "memory of a buffer in which nothing is");
     for (int i = 0; i < FILES; i++) models[i].given_length = models[i].shown_length = 0;
+    for (int i = 0; i < FILES; i++) models[i].is_made = 0;
 }
 
 int main(void) {

@@ -2,8 +2,8 @@
  * crates/undofs_driver_checks. driver_checks.c defines the seven over a bench of driver_checks.h.
  *
  * Before each call this is proved: the page or the block is one that may be used up; `count` is that of the bytes of one page;
- * a page that is programmed was shown as erased. It is assumed that a read changes nothing that the driver shows, that moments
- * are the same each time, and that all else that C is to answer here is so; of what a program, an erase or a restart does
+ * a page that is programmed was shown as erased. It is assumed that a read and a plan change nothing that the driver shows, and
+ * that the sizes of the data sheet and the moments are the same each time. Of what a program, an erase or a restart does
  * nothing is assumed, since that is what is looked at. The numbers of answers are those of c_flash.h. */
 #ifndef C_CHIP_H
 #define C_CHIP_H

@@ -1,7 +1,7 @@
 #!/bin/bash
 # Tries undofs inside of a C program: tools/c/in_process/test.sh FOLDER PROGRAM [CASE ..]
 # FOLDER is one that build.sh filled, PROGRAM the `uffs` of the same sources. Without a CASE all are tried: demos, example,
-# sessions, handles, pages, liars, memory, nor, checks, wrong, proofs. The last line counts. By hand, and no part of ./test.sh.
+# sessions, handles, pages, liars, memory, holds, nor, checks, wrong, proofs. The last line counts. By hand, and no part of ./test.sh.
 [ $# -ge 2 ] || { sed -n 2,4p "$0"; exit 2; }
 room=$(realpath "$1") program=$(realpath "$2") || exit 2
 shift 2
@@ -196,6 +196,13 @@ try_memory() {
     done
 }
 
+# What is held: a figure, which is wrong only where a call is refused.
+try_holds() {
+    TURNS=tests/holds.c build holds "" ../flat_file.c
+    rm -f "$made/held.part"
+    run_cases "what a mounted file system holds" 300 holds "$made/held.part"
+}
+
 # ---- a serial NOR part, and the checklist for drivers ----
 
 try_nor() {
@@ -269,7 +276,7 @@ try_wrong() {
 
 . ./proofs.sh
 
-cases=${*:-demos example sessions handles pages liars memory nor checks wrong proofs}
+cases=${*:-demos example sessions handles pages liars memory holds nor checks wrong proofs}
 for case in $cases; do "try_$case"; done
 echo "$passed passed, $failed failed"
 [ "$failed" = 0 ]

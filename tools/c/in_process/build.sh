@@ -57,7 +57,7 @@ build_crate() {
         rattle "$room" "$1" build --empty-contracts --list-axioms "${links[@]}" --crate-type staticlib --toolchain "$kit/toolchain" --backend llvm -o "$room/lib$1.a"
     else
         rattle "$room" "$1" build --empty-contracts --list-axioms -o "out/rlib/$1.rlib"
-    fi > "$room/$1.said" || { cat "$room/$1.said"; return 1; }
+    fi > "$room/$1.said" 2>&1 || { cat "$room/$1.said"; return 1; }
 }
 
 own=$(sed 's/[ :].*//' "$here/crates.txt.in")

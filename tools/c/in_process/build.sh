@@ -15,9 +15,9 @@ case $room/ in "$top"/*) echo "build.sh: give a folder outside of the checkout, 
 # shellcheck source=rattle.sh
 . "$here/rattle.sh"
 
-# The names that some crates of crates.txt stand on, and those below them.
+# The names of a crates.txt that some of its crates stand on, they themselves too.
 names_below() {
-    python3 - "$top/crates.txt" "$@" << 'END'
+    python3 - "$@" << 'END'
 import sys
 lines = [line.split("#")[0].strip() for line in open(sys.argv[1])]
 table = {line.split(":")[0].split()[0]: line.split(":")[1].split() for line in lines if line}
@@ -53,7 +53,9 @@ build_crate() {
     local links=() name
     mkdir -p "$room/crates/$1/out/rlib"
     if grep -q "^$1 staticlib:" "$here/crates.txt.in"; then
-        for name in $of_c; do links+=(--links "$name=c"); done
+        for name in $(names_below "$room/crates.txt" "$1"); do
+            case " $of_c " in *" $name "*) links+=(--links "$name=c") ;; esac
+        done
         rattle "$room" "$1" build --empty-contracts --list-axioms "${links[@]}" --crate-type staticlib --toolchain "$kit/toolchain" --backend llvm -o "$room/lib$1.a"
     else
         rattle "$room" "$1" build --empty-contracts --list-axioms -o "out/rlib/$1.rlib"
@@ -65,7 +67,7 @@ for name in $own; do rm -rf "${room:?}/crates/$name/src" "$room/crates/$name/spe
 : > "$room/crates.txt"
 cp "$top/HANDLES" "$room/"
 # shellcheck disable=SC2046
-for name in $(names_below $(sed 's/.*://' "$here/crates.txt.in")); do copy_crate "$name"; done
+for name in $(names_below "$top/crates.txt" $(sed 's/.*://' "$here/crates.txt.in")); do copy_crate "$name"; done
 (cd "$room" && "$rt" ci) | tee "$room/below.said" | grep -E '^(rt: [a-z_]+ (proved|is kept)|rt: ok|[0-9]+ passed)'
 
 cat "$here/crates.txt.in" >> "$room/crates.txt"

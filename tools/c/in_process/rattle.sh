@@ -1,9 +1,13 @@
+# shellcheck shell=bash disable=SC2034
 # Sourced by build.sh and proofs.sh. rt takes no C functions in a run of the gate, so the prover is called here without it.
 rt=${RT:-rt}
 kit=$(dirname "$(dirname "$(readlink -f "$(command -v rt)")")")
 
+# The crates that declare C functions.
+of_c="c_flash c_chip c_nor"
+
 # Runs the prover on a crate over the libraries that were built in a folder: the folder, the crate, check or build, and more words.
-# Each crate says which C it is linked with: c_flash alone is with any.
+# Each crate says which C it is linked with: those of C alone with any.
 rattle() {
     local folder=$1 crate=$2 verb=$3 name words
     shift 3
@@ -16,6 +20,6 @@ rattle() {
         fi
     done
     for name in "$folder"/crates/*/out/rlib; do words+=(-L "dependency=$name"); done
-    [ "$crate" = c_flash ] && words+=(--links c_flash=c) || words+=(--links "$crate=")
+    case " $of_c " in *" $crate "*) words+=(--links "$crate=c") ;; *) words+=(--links "$crate=") ;; esac
     (cd "$folder/crates/$crate" && "$kit/bin/rattle" "$verb" "${words[@]}" "$@")
 }

@@ -1,5 +1,6 @@
 /* What each page was shown as, between the file system and a driver. */
 #include "shown_pages.h"
+#include "shown_sums.h"
 #include <stdlib.h>
 #include <string.h>
 
@@ -18,24 +19,16 @@ void shown_pages_end(struct shown_pages *p) {
     free(p->page);
 }
 
-/* Of a whole page, whose bytes are a multiple of eight. Each step can be undone, so that no change of eight bytes is lost in it;
- * the lower half of the last one has the upper half in it. */
-static uint32_t sum_of(const uint8_t *bytes, size_t count) {
-    uint64_t sum = 0, word;
-    for (size_t i = 0; i + sizeof word <= count; i += sizeof word) {
-        memcpy(&word, bytes + i, sizeof word);
-        sum = (sum ^ word) * 0x9E3779B97F4A7C15u;
-        sum ^= sum >> 32;
-    }
-    uint32_t half = (uint32_t)sum;
-    return half < SEEN_DATA ? half + SEEN_DATA : half;
+static uint32_t seen_of(const uint8_t *bytes, size_t count) {
+    uint32_t sum = sum_of(bytes, count);
+    return sum < SEEN_DATA ? sum + SEEN_DATA : sum;
 }
 
 /* What the driver shows of a page now, with its bytes in `p->page`; NOT_SEEN where it cannot tell. */
 static uint32_t look(struct shown_pages *p, uint32_t page) {
     switch (p->driver.read_page(p->driver.part, page, p->page)) {
     case UNDOFS_ERASED: return SEEN_ERASED;
-    case UNDOFS_DATA: return sum_of(p->page, p->driver.sizes.page);
+    case UNDOFS_DATA: return seen_of(p->page, p->driver.sizes.page);
     case UNDOFS_UNREADABLE: return SEEN_UNREADABLE;
     default: return NOT_SEEN;
     }
@@ -75,7 +68,7 @@ static uint32_t end_operation(struct shown_pages *p, enum undofs_answer told, ui
 
 uint32_t shown_pages_program(struct shown_pages *p, uint32_t page, const uint8_t *bytes) {
     if (p->is_cut) return C_FLASH_CUT;
-    uint32_t wanted = sum_of(bytes, p->driver.sizes.page);
+    uint32_t wanted = seen_of(bytes, p->driver.sizes.page);
     return end_operation(p, p->driver.program_page(p->driver.part, page, bytes), page, 1, wanted);
 }
 

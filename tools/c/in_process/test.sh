@@ -1,7 +1,7 @@
 #!/bin/bash
 # Tries undofs inside of a C program: tools/c/in_process/test.sh FOLDER PROGRAM [CASE ..]
 # FOLDER is one that build.sh filled, PROGRAM the `uffs` of the same sources. Without a CASE all are tried: demos, example,
-# sessions, handles, pages, liars, memory, wrong, proofs. The last line counts. By hand, and no part of ./test.sh.
+# sessions, handles, pages, liars, memory, holds, nor, checks, wrong, proofs. The last line counts. By hand, and no part of ./test.sh.
 [ $# -ge 2 ] || { sed -n 2,4p "$0"; exit 2; }
 room=$(realpath "$1") program=$(realpath "$2") || exit 2
 shift 2
@@ -25,14 +25,29 @@ tell() {
     fi
 }
 
-# Builds a program with the library: its name, the flags, and its sources. TURNS and SYSTEM name the files that run the service and
-# that are the handle, where others than those of this folder are wanted.
+of_flash="service.c in_process.c shown_pages.c"
+of_nor="service.c nor_in_process.c shown_sectors.c"
+
+# Builds a program with a library: its name, the flags, and its sources. LIBRARY is the library, where it is not undofs_in_process; TURNS
+# and SYSTEM name the files that run the service and that are the handle, where others than those of this folder are wanted.
 build() {
     local name=$1 flags=$2
     shift 2
     # shellcheck disable=SC2086
-    ${CC:-gcc} $strict -g -O1 $flags -I. -I.. ${SYSTEM:-in_process.c shown_pages.c} ${TURNS:-turns_context.c} ../undofs_calls.c "$@" \
-        -Wl,--gc-sections "$room/libundofs_in_process.a" "$room/libheap.a" -lm -lpthread -o "$made/$name"
+    ${CC:-gcc} $strict -g -O1 $flags -I. -I.. ${SYSTEM:-$of_flash} ${TURNS:-turns_context.c} ../undofs_calls.c "$@" \
+        -Wl,--gc-sections "$room/lib${LIBRARY:-undofs_in_process}.a" "$room/libheap.a" -lm -lpthread -o "$made/$name"
+}
+
+# The same with the library for a serial NOR part.
+build_nor() { LIBRARY=undofs_nor_in_process SYSTEM=${SYSTEM:-$of_nor} build "$@"; }
+
+# Builds a program with the checklist for drivers.
+build_checks() {
+    local name=$1 flags=$2
+    shift 2
+    # shellcheck disable=SC2086
+    ${CC:-gcc} $strict -g -O1 $flags -I. -I.. "$@" -Wl,--gc-sections "$room/libundofs_driver_checks.a" "$room/libheap.a" \
+        -lm -o "$made/$name"
 }
 
 # Builds the same over a child.
@@ -181,39 +196,87 @@ try_memory() {
     done
 }
 
+# What is held: a figure, which is wrong only where a call is refused.
+try_holds() {
+    TURNS=tests/holds.c build holds "" ../flat_file.c
+    rm -f "$made/held.part"
+    run_cases "what a mounted file system holds" 300 holds "$made/held.part"
+}
+
+# ---- a serial NOR part, and the checklist for drivers ----
+
+try_nor() {
+    build_nor nor "$sanitizers" tests/nor_memory.c tests/calls.c tests/nor.c
+    run_cases "a serial NOR part" 900 nor
+}
+
+nand="../nand_in_memory.c ../raw_nand.c"
+
+try_checks() {
+    # shellcheck disable=SC2086
+    build_checks checks "$sanitizers" driver_checks.c $nand tests/checks.c
+    run_cases "the checklist over drivers in C" 300 checks
+    try_wrong_nand 5 "a driver that tells a failed program as done" 's/return read_page(n, page, bytes) == UNDOFS_UNREADABLE.*/(void)n; (void)bytes; (void)page; return UNDOFS_DONE;/'
+    try_wrong_nand 7 "a driver that looks at no sum" 's/are_near(spare, wanted) ?/(are_near(spare, wanted) || spare[0] == mark[0] || (spare[0] \& 1)) ?/'
+}
+
+# The checklist over a driver for raw NAND that is wrong: the place of the case that tells it, what is wrong, and the edit.
+try_wrong_nand() {
+    sed "$3" ../raw_nand.c > "$made/raw_nand.c"
+    # shellcheck disable=SC2086
+    build_checks wrong_nand "$sanitizers" driver_checks.c ${nand/..\/raw_nand.c/$made\/raw_nand.c} tests/checks.c
+    run_cases "$2 is told by its case" 300 wrong_nand "$1"
+}
+
 # ---- C that is wrong, which a case has to see ----
 
-# An edit of a file, by sed, that the program of a case has to fail: what is wrong, the file, the edit, the case's source, its words.
+# An edit of a file, by sed, that the program of a case has to fail: what is wrong, the file, the edit, how the program is built, and
+# its words.
 wrong() {
-    local what=$1 file=$2 edit=$3 source=$4
+    local what=$1 file=$2 edit=$3 how=$4
     shift 4
     sed "$edit" "$file" > "$made/$file"
     if cmp -s "$file" "$made/$file"; then
         tell "$what: the edit applies" 1
         return
     fi
-    local system="in_process.c shown_pages.c"
-    SYSTEM=${system/$file/$made/$file} build wrong "" tests/ram_part.c tests/calls.c "tests/$source" && ! run 300 wrong "$@" > /dev/null 2>&1
+    "wrong_$how" "$file" && ! run 300 wrong "$@" > /dev/null 2>&1
     tell "$what is seen" $?
 }
 
+# How each program is built with an edited file.
+wrong_flash() { SYSTEM=${of_flash/$1/$made/$1} build wrong "" tests/ram_part.c tests/calls.c "tests/$2.c"; }
+wrong_handles() { wrong_flash "$1" handles; }
+wrong_pages() { wrong_flash "$1" pages; }
+wrong_liars() { wrong_flash "$1" liars; }
+wrong_nor() { SYSTEM=${of_nor/$1/$made/$1} build_nor wrong "" tests/nor_memory.c tests/calls.c tests/nor.c; }
+# shellcheck disable=SC2086
+wrong_checks() { build_checks wrong "" "$made/$1" $nand tests/checks.c; }
+
 try_wrong() {
-    wrong second_open_is_a_part in_process.c 's/u->is_open ? 0 : s->blocks/s->blocks/' handles.c
-    wrong one_driver_in_two_handles in_process.c 's/return !is_had;/return 1;/' handles.c
-    wrong a_copy_of_a_driver_is_another in_process.c 's/return u->driver == driver ||.*/return u->driver == driver;/;/const struct undofs_driver \*own/d' handles.c
-    wrong a_call_of_the_driver_writes_the_line in_process.c 's/    if (u->is_running) return &u->none;//' handles.c
-    wrong a_handle_is_live_after_its_end in_process.c 's/^    leave(u);$//' handles.c
-    wrong changed_page_is_shown shown_pages.c 's/(shown == NOT_SEEN || shown == now)/(shown == now || shown != now)/' liars.c 0 40 256 16 128
-    wrong half_of_a_page_is_summed shown_pages.c 's/i + sizeof word <= count/i + sizeof word <= count \/ 2/' pages.c
-    wrong what_a_cut_left_is_not_settled shown_pages.c 's/is_sure(shown, now) ? now : SEEN_UNREADABLE/is_sure(shown, now) ? now : now/' pages.c
-    wrong a_failed_page_is_shown shown_pages.c 's/told == UNDOFS_DONE ? wanted : SEEN_UNREADABLE/wanted/' pages.c
+    wrong second_open_is_a_part in_process.c 's/is_first ? s->blocks : 0/is_first ? s->blocks : s->blocks/' handles
+    wrong one_driver_in_two_handles service.c 's/return !is_had;/return 1;/' handles
+    wrong a_copy_of_a_driver_is_another service.c 's/return u->driver == other->driver ||.*/return u->driver == other->driver;/' handles
+    wrong a_call_of_the_driver_writes_the_line service.c 's/    if (u->is_running) return &u->none;//' handles
+    wrong a_handle_is_live_after_its_end service.c 's/^    leave(u);$//' handles
+    wrong changed_page_is_shown shown_pages.c 's/(shown == NOT_SEEN || shown == now)/(shown == now || shown != now)/' liars 0 40 256 16 128
+    wrong half_of_a_page_is_summed shown_pages.c 's/sum_of(bytes, count)/sum_of(bytes, count \/ 2)/' pages
+    wrong what_a_cut_left_is_not_settled shown_pages.c 's/is_sure(shown, now) ? now : SEEN_UNREADABLE/is_sure(shown, now) ? now : now/' pages
+    wrong a_failed_page_is_shown shown_pages.c 's/told == UNDOFS_DONE ? wanted : SEEN_UNREADABLE/wanted/' pages
+    wrong changed_bytes_are_shown shown_sectors.c 's/(shown == NOT_SEEN || shown == now)/(shown == now || shown != now)/' nor
+    wrong what_is_lost_is_shown shown_sectors.c 's/return is_lawful ? now : (uint32_t)NEVER_SHOWN;/return is_lawful ? now : now;/' nor
+    wrong marks_leave_no_trace shown_sectors.c 's/ \&\& !(is_failed \&\& is_without_trace(o, s->page))/ \&\& (is_failed || !is_failed || is_without_trace(o, s->page))/' nor
+    wrong a_cut_is_not_remembered shown_sectors.c 's/^    s->is_cut = 1;$//' nor
+    wrong a_second_handle_on_nor nor_in_process.c 's/n->handle.driver = driver;/n->handle.driver = n;/;s/n->handle.part = driver->part;/n->handle.part = n;/' nor
+    wrong power_is_never_off driver_checks.c 's/^    run->is_cut = 1;$//' checks
+    wrong sizes_are_those_of_the_sheet driver_checks.c 's/chip->told_blocks = told.blocks;//' checks
 }
 
 # ---- the proofs ----
 
 . ./proofs.sh
 
-cases=${*:-demos example sessions handles pages liars memory wrong proofs}
+cases=${*:-demos example sessions handles pages liars memory holds nor checks wrong proofs}
 for case in $cases; do "try_$case"; done
 echo "$passed passed, $failed failed"
 [ "$failed" = 0 ]

@@ -33,7 +33,10 @@ def run(*words, cwd=None, check=True, text=None, env=None):
     return done.stdout
 
 
-OF_C = ("undofs_client.c", "undofs_calls.c", "flat_file.c", "raw_nand.c")  # what build.sh takes beside its own folder
+LIBRARY = os.environ.get("UNDOFS_LIBRARY")  # as build.sh takes it
+HANDLE = ("in_process/in_process.c", "in_process/shown_pages.c", "in_process/turns_context.c") if LIBRARY else ("undofs_client.c",)
+OF_C = (*HANDLE, "undofs_calls.c", "flat_file.c", "raw_nand.c")  # what build.sh takes beside its own folder
+PROVED = ["-Wl,--gc-sections", f"{LIBRARY}/libundofs_in_process.a", f"{LIBRARY}/libheap.a", "-lm", "-lpthread"] if LIBRARY else []
 
 
 def compile_one(source, made):
@@ -57,7 +60,7 @@ def build(folder, *more):
     """Links the daemon that is tried, with more flags and sources; its name."""
     objects = {**objects_of(TOOLS, SHARED["shims"] + "/objects"), **SHARED["edited"]}
     os.makedirs(folder, exist_ok=True)
-    words = [*os.environ.get("CFLAGS", "").split(), *objects.values(), *more, *run("pkg-config", "--libs", "fuse3").split()]
+    words = [*os.environ.get("CFLAGS", "").split(), *objects.values(), *more, *PROVED, *run("pkg-config", "--libs", "fuse3").split()]
     run("gcc", "-w", *words, "-o", folder + "/undofs-fuse")
     return folder + "/undofs-fuse"
 
@@ -70,7 +73,9 @@ def build_with(source, name, folder):
 
 
 def child_of(process):
-    """The number of the daemon's child."""
+    """The number of the daemon's child; none where the file system is in the daemon."""
+    if LIBRARY:
+        return None
     with open(f"/proc/{process.pid}/task/{process.pid}/children") as children:
         numbers = children.read().split()
     return int(numbers[0]) if numbers else None

@@ -29,7 +29,7 @@ import synced
 import unchanged
 import users
 import versions
-from mounts import HERE, SHARED, TOOLS, NotBuilt, Wrong, build_with, objects_of
+from mounts import HERE, LIBRARY, SHARED, TOOLS, NotBuilt, Wrong, build_with, objects_of
 
 PARTS = (
     versions,
@@ -49,6 +49,12 @@ PARTS = (
 )
 CASES = {case.__name__: case for part in PARTS for case in part.CASES}
 LINKED = ("memory_that_grows_in_place", "no_memory_is_told")  # with a daemon of their own
+# Cases of the child, which a daemon with the file system in itself does not have: its lines are counted or refused by a program between,
+# or it is stopped or killed.
+OF_A_CHILD = (
+    "a_child_that_hangs_is_ended", "a_group_that_cannot_be_sent_again", "a_group_that_finds_no_room_at_its_end", "a_host_has_no_dev_fd", "a_save_is_few_lines",
+    "files_are_read_in_turn", "pages_are_kept_until_the_tree_moves", "reads_go_on_after_a_failure", "what_was_refused_is_not_sent_again",
+)
 LIMIT, AFTER = 400, 30  # seconds of a case; and then until its own process is ended too
 
 
@@ -183,6 +189,8 @@ def main():
     SHARED["daemon"], SHARED["program"], SHARED["shims"] = (os.path.abspath(word) for word in sys.argv[1:4])
     wrong = sorted(name[: -len(".edit")] for name in os.listdir(HERE + "/wrong"))
     names, start = sys.argv[4:] or list(CASES) + wrong, time.time()
+    if LIBRARY:
+        names = [name for name in names if (name if name in CASES else read_edit(name)[0]["case"]) not in OF_A_CHILD]
     if any(name not in CASES or name in LINKED for name in names):
         objects_of(TOOLS, SHARED["shims"] + "/objects")
     failed = run_all(names, int(os.environ.get("JOBS", "4")))

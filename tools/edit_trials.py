@@ -14,7 +14,7 @@ import edit_files
 from edit_files import TOP
 
 PARTS = ("src", "specs", "proofs")
-OPEN = re.compile(r"^note: (?:\./)?(src/\S+?):(\d+):\d+: it is not proved .*?\(`([^`]*)`\)", re.M)
+OPEN = re.compile(r"^note: (?:\./)?(src/\S+?):(\d+):\d+: (?:it is not proved .*?|`search` found no proof )\(`([^`]*)`\)", re.M)
 ANSWER = re.compile(r"^(?:\./)?proofs/(\S+)/(?:Answers|Invariants|Proof)\.antt:\d+:\d+: error: `([^`]*)`(.*(?:\n  .*)*)", re.M)
 HOLDS = re.compile(r"(?:expected type|reads) `Unit\b")
 WAITS = re.compile(r"^fn (\S+): no proof: it calls ", re.M)

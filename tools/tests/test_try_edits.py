@@ -193,6 +193,12 @@ class Reading(unittest.TestCase):
         self.assertEqual(edit_trials.goals_of(places(0), {"src/store.rt": text}, said), (["returns"], []))
         self.assertEqual(edit_trials.goals_of(places(1), {"src/store.rt": text}, said), ([], []))
 
+    def test_goals_of_a_type(self):
+        """What the fields of a type owe is told in other words."""
+        said = "note: src/store.rt:2:1: `search` found no proof (`invariant_of-result`); `search` gave up at one of its limits"
+        places = [edit_trials.Place("src/store.rt", 0, "")]
+        self.assertEqual(edit_trials.goals_of(places, {"src/store.rt": "fn one() {\n}\n"}, said), (["invariant_of-result"], []))
+
     def test_rounds(self):
         edits = [store_edit(old, "len") for old in ("        0", "result ≡ 0", "    one\n", "MOST: u8 = 9", "not there")]
         found = [[edit.text for edit, _ in one] for one in edit_trials.rounds_of(self.folder, edits)]

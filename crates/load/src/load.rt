@@ -1,8 +1,8 @@
 //! The load: a system on a flash, and the plain machine beside it.
-use crate::mounted::{HISTORY, Mounted, Taken};
+use crate::mounted::{HISTORY, Mounted, SIZES, Taken};
 use anyhow::{Result, bail, ensure};
 use flash_model::FaultKind;
-use fs_types::{Answer, Call, Event, Fault, Reply};
+use fs_types::{ANCHORS, Answer, Call, Event, Fault, Reply};
 use plain_machine::{PlainMachine, Space};
 use script::{LineAnswer, print_answer};
 use session_oracle::ask_of;
@@ -30,6 +30,12 @@ const FAULTS: [(u64, FaultKind); 12] = [
 
 /// The bytes of a file that a node of its body holds: a block's less 80.
 const CAPACITY: u64 = 4016;
+
+/// How many blocks a step of reclaiming reads at most.
+const STEP: u64 = 4;
+
+/// How many steps read each data block once.
+const LONGEST: u64 = 14;
 
 /// The plain machine knows nothing of the flash, and is not asked for it.
 const NO_SPACE: Space = Space {
@@ -83,6 +89,10 @@ pub struct Load {
     mounted: Mounted,
     plain: PlainMachine,
     counts: Counts,
+    /// Steps of reclaiming since a marking ended, or began anew on a full flash.
+    marking: u64,
+    /// Whether no round of cleaning goes on.
+    is_round_over: bool,
 }
 
 impl Load {
@@ -95,6 +105,8 @@ impl Load {
                 least_free: u64::MAX,
                 ..Counts::default()
             },
+            marking: 0,
+            is_round_over: true,
         })
     }
 
@@ -114,11 +126,47 @@ impl Load {
     /// Carries out the line of a number, and what comes beside it.
     pub fn turn(&mut self, alloc: Global, number: u64, line: &str) -> Result<()> {
         self.carry_out(alloc, line)?;
-        self.mounted.reclaim_step(alloc, 4)?;
+        self.reclaim(alloc)?;
         self.plan_faults(number)?;
         if number % 50 == 0 {
             self.sync(alloc)?;
         }
+        Ok(())
+    }
+
+    /// Takes a step of reclaiming. It reads the pages of so many blocks at most, and a marking ends in as many
+    /// steps as read each data block once.
+    fn reclaim(&mut self, alloc: Global) -> Result<()> {
+        let (has_ended, taken) = self.mounted.reclaim(alloc, STEP)?;
+        let read = taken.read;
+        ensure!(
+            read <= STEP * u64::from(SIZES.pages),
+            "{read} pages read in a step of reclaiming"
+        );
+        ensure!(
+            taken.erased == 0 && taken.programmed == 0,
+            "a step of reclaiming writes"
+        );
+        add(&mut self.marking, 1);
+        ensure!(self.marking <= LONGEST, "no marking ends");
+        if has_ended {
+            self.marking = 0;
+        }
+        Ok(())
+    }
+
+    /// Once all is synced and a marking has ended that began after it, a mount finds as many blocks at hand.
+    pub fn check_mount(mut self, alloc: Global) -> Result<()> {
+        self.sync(alloc)?;
+        for _ in 0..LONGEST.saturating_mul(2) {
+            self.reclaim(alloc)?;
+        }
+        let at_hand = self.mounted.at_hand();
+        let found = self.mounted.mounted_anew(alloc)?.at_hand();
+        ensure!(
+            found == at_hand,
+            "{at_hand} blocks at hand, and {found} after a mount"
+        );
         Ok(())
     }
 
@@ -191,9 +239,9 @@ impl Load {
     }
 
     /// Takes a step of cleaning. It erases no more blocks than it looks at, and as many are at hand after it,
-    /// but for those that go bad.
+    /// but for those that go bad. After a round in one step these are blank.
     fn clean(&mut self, budget: u64) -> Result<()> {
-        let taken = self.mounted.clean(budget)?;
+        let (is_over, taken) = self.mounted.clean(budget)?;
         let looked = budget.min(taken.at_hand);
         let erased = taken.erased;
         ensure!(
@@ -202,6 +250,12 @@ impl Load {
         );
         let left = self.mounted.at_hand().saturating_add(taken.bad);
         ensure!(left == taken.at_hand, "blocks taken by cleaning");
+        let is_round = self.is_round_over && is_over;
+        self.is_round_over = is_over;
+        ensure!(
+            !is_round || self.mounted.is_blank(),
+            "a block at hand is not blank"
+        );
         add(&mut self.counts.steps, 1);
         add(&mut self.counts.cleaned, erased);
         Ok(())
@@ -235,8 +289,10 @@ impl Load {
 
     /// Syncs, and notes how many blocks are free.
     fn sync(&mut self, alloc: Global) -> Result<()> {
-        let answer = self.mounted.call(alloc, &Call::Sync);
+        let (answer, taken) = self.mounted.measure(alloc, &Call::Sync);
+        let is_accepted = answer.is_ok();
         self.compare(alloc, &Call::Sync, answer)?;
+        check_record(is_accepted, taken)?;
         self.free(alloc)?;
         Ok(())
     }
@@ -281,6 +337,7 @@ impl Load {
         if taken.at_hand < allowed {
             allowed = allowed.saturating_add(need).saturating_add(1);
             add(&mut self.counts.tight, 1);
+            self.marking = 0;
         } else {
             add(&mut self.counts.written, taken.erased);
             add(&mut self.counts.needed, allowed);
@@ -295,12 +352,32 @@ impl Load {
 
     /// How many blocks are free, which is noted.
     fn free(&mut self, alloc: Global) -> Result<u64> {
-        let Reply::Df { free, .. } = self.mounted.call(alloc, &Call::Df)? else {
+        let Reply::Df {
+            bad,
+            free,
+            anchors,
+            ..
+        } = self.mounted.call(alloc, &Call::Df)?
+        else {
             bail!("no answer to df");
         };
+        self.check_worn(bad, anchors)?;
         self.counts.least_free = self.counts.least_free.min(free);
         self.counts.most_free = self.counts.most_free.max(free);
         Ok(free)
+    }
+
+    /// What is told of bad blocks and of anchors is what operations failed in.
+    fn check_worn(&self, bad: u64, anchors: u64) -> Result<()> {
+        let worn = self.mounted.worn(ANCHORS..SIZES.blocks);
+        ensure!(bad == worn, "{bad} bad blocks, and {worn} worn ones");
+        let worn = self.mounted.worn(0..ANCHORS);
+        let all = anchors.saturating_add(worn);
+        ensure!(
+            all == u64::from(ANCHORS),
+            "{anchors} anchors, and {worn} worn ones"
+        );
+        Ok(())
     }
 
     /// How many versions lie before the present one.
@@ -310,6 +387,18 @@ impl Load {
             _ => bail!("no answer to log"),
         }
     }
+}
+
+/// A record has one page here. It is programmed once, and once more for each operation that fails; an anchor
+/// is erased before it at most, and one for each of these. What is refused writes none.
+fn check_record(is_accepted: bool, taken: Taken) -> Result<()> {
+    let most = u64::from(is_accepted).saturating_mul(taken.bad.saturating_add(1));
+    let (programmed, erased) = (taken.programmed, taken.erased);
+    ensure!(
+        programmed <= most && erased <= most && is_accepted == (programmed > 0),
+        "{programmed} pages programmed and {erased} anchors erased for a record"
+    );
+    Ok(())
 }
 
 /// The text of an answer has to be that of the plain machine's.

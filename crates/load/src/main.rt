@@ -2,8 +2,9 @@
 //! their blocks and steps of cleaning by a fixed plan on a small flash, some of whose operations fail, each
 //! call beside the plain machine. A step of reclaiming follows each, and a sync each fiftieth. It prints two
 //! lines of counts. Where the two sides answer differently, a call takes more blocks than it may, or finds
-//! the flash full where it is not, where a step of cleaning takes a block, or where what is told of blocks
-//! may not be, it ends with an error that tells the line.
+//! the flash full where it is not, where a step or a sync does more or less than it may, or where what is told
+//! of blocks may not be, it ends with an error that tells the line. At the end a mount has to find as many
+//! blocks at hand.
 #![tactic(auto)]
 
 mod load;
@@ -20,7 +21,8 @@ const LINES: u64 = 20_000;
 
 fn main(rt: HostRuntime) -> Result<()> {
     let mut load = Load::new(rt.alloc())?;
-    run(&rt, &mut load)
+    run(&rt, &mut load)?;
+    load.check_mount(rt.alloc())
 }
 
 /// Carries out the plan, and tells what came of it.

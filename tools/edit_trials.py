@@ -17,7 +17,7 @@ PARTS = ("src", "specs", "proofs")
 OPEN = re.compile(r"^note: (?:\./)?(src/\S+?):(\d+):\d+: (?:it is not proved .*?|`search` found no proof )\(`([^`]*)`\)", re.M)
 ANSWER = re.compile(r"^(?:\./)?proofs/(\S+)/(?:Answers|Invariants|Proof)\.antt:\d+:\d+: error: `([^`]*)`(.*(?:\n  .*)*)", re.M)
 HOLDS = re.compile(r"(?:expected type|reads) `Unit\b")
-WAITS = re.compile(r"^fn (\S+): no proof: it calls ", re.M)
+WAITS = re.compile(r"^fn (\S+): (?:no proof|not proved)\b.*\bit calls `", re.M)
 VERDICT = re.compile(r"^logic=(\S+).*$", re.M)
 LATER = "waits for a function that it calls"
 
@@ -156,9 +156,11 @@ def verdict_on(edit, places, texts, said, waiting):
     for goals, how in ((search, "by search"), (answers, "by an answer")):
         if clauses[0] in map(edit_files.clause_of, goals):
             return Verdict(True, f"refused by {clauses[0]}, {how}", how)
+    if any(it.name in waiting for it in places):
+        return LATER
     if search or answers:
         return Verdict(False, f"REFUSED BY ANOTHER CLAUSE: by {', '.join(dict.fromkeys(map(edit_files.clause_of, [*search, *answers])))}, and not by {clauses[0]}")
-    return LATER if any(it.name in waiting for it in places) else Verdict(False, "NOT REFUSED: no goal of what it changes is open")
+    return Verdict(False, "NOT REFUSED: no goal of what it changes is open")
 
 
 def tried_once(one, texts, said):
@@ -174,7 +176,7 @@ def tried_once(one, texts, said):
     waiting = {it.rsplit("::", 1)[-1].split("+")[0] for it in WAITS.findall(said)}
     told = {edit.name: verdict_on(edit, places, texts, said, waiting) for edit, places in one}
     if len(one) == 1 and told[one[0][0].name] == LATER:
-        told[one[0][0].name] = Verdict(False, "NOT REFUSED: no goal of what it changes is open")
+        told = {edit.name: verdict_on(edit, places, texts, said, ()) for edit, places in one}
     return told
 
 

@@ -157,13 +157,15 @@ static size_t gather(const char *path, int are_new, struct written_file **files,
 /* In the midst of it a group that is too large may end, and begin anew: that is left to who gives. */
 static int is_giving;
 
-/* That bytes are given is no change: they were written before. */
+/* That bytes are given is no change: they were written before. Where the group is gone, as after a failure of the part, so is all that was
+ * kept of it, and no file is known any more. */
 static int give_lines(const struct undofs_lines *lines) {
     double changed_at = saves.changed_at;
     is_giving = 1;
     int why = saves_change(lines, NULL);
     is_giving = 0;
     saves.changed_at = changed_at;
+    if (!saves.in_group) writes_drop("/");
     return why;
 }
 
@@ -176,7 +178,7 @@ static int give_below(const char *path, int are_new) {
         size_t count = gather(path, are_new, files, lines);
         if (count == 0) break;
         why = give_lines(lines);
-        for (size_t i = 0; i < count; i++) note_given(files[i], why);
+        for (size_t i = 0; i < count && saves.in_group; i++) note_given(files[i], why);
     }
     if (!writes_are_kept()) forget_ways_below("/"); /* they take nothing for what is given */
     return why;
@@ -194,7 +196,7 @@ static int give_longest(struct written_file *file) {
     size_t count = written_put_run(&buffer, file, run, lines);
     int why = give_lines(lines);
     if (why == 0) written_run_given(&buffer, file, run, count);
-    else learn_length(file);
+    else if (saves.in_group) learn_length(file);
     return why;
 }
 

@@ -94,6 +94,17 @@ def head_of(lines, first):
     return head
 
 
+def owner_of(text, function):
+    """The type whose `impl` a function stands in, or nothing."""
+    for line in reversed(text.split("\n")[: function.first]):
+        if line == "}":
+            return ""
+        if line.startswith("impl"):
+            head = re.sub(r"<[^<>]*>", "", re.sub(r"<[^<>]*>", "", line)).removeprefix("impl").removesuffix("{")
+            return head.split(" for ")[-1].split("::")[-1].strip()
+    return ""
+
+
 def function_at(lines, first):
     """The function that begins on a line, or None where its end is not found."""
     begins, depth = BEGINS.match(lines[first]), 0

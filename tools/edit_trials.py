@@ -23,10 +23,11 @@ LATER = "waits for a function that it calls"
 
 
 class Place:
-    """What an edit changes: the function of that number in a file, or no function of its own (number is None)."""
+    """What an edit changes: the function of that number in a file, with the type that it is of, or no function of its own
+    (number is None)."""
 
-    def __init__(self, file, number, name):
-        self.file, self.number, self.name = file, number, name
+    def __init__(self, file, number, name, owner=""):
+        self.file, self.number, self.name, self.owner = file, number, name, owner
 
     def module(self):
         """The folder of proofs/ in which the answers of the file's functions stand."""
@@ -38,12 +39,15 @@ class Place:
         if self.number is None or other.number is None or (self.file, self.number) == (other.file, other.number):
             return True
         one, two = sorted((self.module(), other.module()), key=len)
-        return self.name == other.name and (not one or f"{two}/".startswith(f"{one}/"))
+        are_near = not one or f"{two}/".startswith(f"{one}/") or self.owner != "" and self.owner == other.owner
+        return self.name == other.name and are_near
 
     def has_answers_in(self, folder):
-        """Whether a folder of proofs/ has the answers of this function."""
-        module = self.module()
-        return folder.split("/")[-1].split("+")[0] == self.name and (not module or folder.startswith(f"{module}/"))
+        """Whether a folder of proofs/ has the answers of this function. Those of a method stand with its type, which may be
+        of another module."""
+        module, (*above, last) = self.module(), folder.split("/")
+        is_of_type = self.owner != "" and above != [] and above[-1].startswith(self.owner)
+        return last.split("+")[0] == self.name and (not module or folder.startswith(f"{module}/") or is_of_type)
 
 
 class Verdict:
@@ -67,7 +71,7 @@ def planted(edit, folder, texts):
         if not found or found[-1][1].is_const or not file.endswith(".rt"):
             places.append(Place(file, None, ""))
         else:
-            places.append(Place(file, found[-1][0], found[-1][1].name))
+            places.append(Place(file, found[-1][0], found[-1][1].name, edit_files.owner_of(text, found[-1][1])))
         texts[file] = text.replace(old, new)
     return places or None
 

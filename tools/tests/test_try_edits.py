@@ -193,6 +193,16 @@ class Reading(unittest.TestCase):
         self.assertEqual(edit_trials.goals_of(places(0), {"src/store.rt": text}, said), (["returns"], []))
         self.assertEqual(edit_trials.goals_of(places(1), {"src/store.rt": text}, said), ([], []))
 
+    def test_methods_of_another_module(self):
+        """The answers of a method stand with its type."""
+        text = "impl<N: Nodes<u8>> Walk for List<'_, N> {\n    fn next(&self) {\n    }\n}\n\nfn next() {\n}\n"
+        method, function = edit_files.functions_in(text)
+        self.assertEqual([edit_files.owner_of(text, it) for it in (method, function)], ["List", ""])
+        place = edit_trials.Place("src/walks.rt", 0, "next", "List")
+        self.assertTrue(place.has_answers_in("lists/ListWalk/next"))
+        self.assertFalse(edit_trials.Place("src/walks.rt", 1, "next").has_answers_in("lists/ListWalk/next"))
+        self.assertTrue(place.meets(edit_trials.Place("src/others.rt", 0, "next", "List")))
+
     def test_goals_of_a_type(self):
         """What the fields of a type owe is told in other words."""
         said = "note: src/store.rt:2:1: `search` found no proof (`invariant_of-result`); `search` gave up at one of its limits"

@@ -13,6 +13,8 @@ enum {
     HEAD_OF_NODE = 80,          /* bytes of a node of a file beside its data */
     ENTRIES_OF_NODE = 32,       /* of a directory */
     MOST_ENTRIES = 1024,
+    MOST_NAMES = 16,
+    MOST_NAME_BYTES = 64,
     MOST_LENGTH = 16777216,     /* of a file */
     LINES_AT_ONCE = 1 << 20,    /* bytes of lines that are given together, about, */
     FILES_AT_ONCE = 64,         /* and the files that they are of */
@@ -259,10 +261,17 @@ int writes_keep(const char *path, uint64_t at, const uint8_t *bytes, size_t coun
 
 /* ---- new files ---- */
 
+/* Whether a path has as many names, and its last one as many bytes, as the file system takes. */
+static int may_be_named(const char *path) {
+    size_t names = 0;
+    for (const char *at = path; *at != 0; at++) names += *at == '/';
+    return names <= MOST_NAMES && strlen(strrchr(path, '/') + 1) <= MOST_NAME_BYTES;
+}
+
 int writes_make_later(const char *path) {
     struct undofs_stat found;
     if (most_kept == 0 || ways.is_short || !undofs_is_there(saves.child) || written_find(&buffer, path) != NULL) return 0;
-    if (reads_stat(path, &found) != UNDOFS_ENOENT || learn_ways(path) != 0 || !has_entry_left(path)) return 0;
+    if (!may_be_named(path) || reads_stat(path, &found) != UNDOFS_ENOENT || learn_ways(path) != 0 || !has_entry_left(path)) return 0;
     touched_made(path);
     return space_has_room(&last_touch) && written_make(&buffer, path) != NULL;
 }

@@ -300,6 +300,21 @@ def new_files_are_seen_by_names():
         want(tree_of(f.path), wanted, "the tree after a new mount")
 
 
+def a_cut_goes_through_kept_bytes():
+    """A file that is there, of which bytes are kept, is cut within them."""
+    with mounted("settle=100", blocks=1024) as f:
+        save(f("a"), "a" * 10)
+        f.order("sync")
+        file = os.open(f("a"), os.O_RDWR)
+        os.pwrite(file, b"b" * 20, 0)
+        os.ftruncate(file, 15)
+        os.close(file)
+        want(open(f("a"), "rb").read(), b"b" * 15, "the file")
+        f.unmount()
+        f.mount()
+        want(open(f("a"), "rb").read(), b"b" * 15, "the file after a new mount")
+
+
 def a_full_folder_takes_no_file():
     """A folder of 1,024 entries refuses one more when it is made, also where those are new."""
     with mounted("settle=100", blocks=2048, history=2) as f:
@@ -418,6 +433,7 @@ CASES = [
     a_save_is_few_lines,
     a_new_file_is_one_change,
     new_files_are_seen_by_names,
+    a_cut_goes_through_kept_bytes,
     a_full_folder_takes_no_file,
     pages_are_kept_until_the_tree_moves,
     a_rename_brings_no_stale_page,

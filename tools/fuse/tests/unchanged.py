@@ -31,6 +31,8 @@ def looking_makes_no_version():
             index = open(f("work/.git/index"), "rb").read()
             saved(f("work/.git/index.lock"), index)  # as git status does it, where what it knows of times is old
             os.rename(f("work/.git/index.lock"), f("work/.git/index"))
+            os.mkdir(f("work/.git/made"))
+            os.rmdir(f("work/.git/made"))
             f.order("sync")
         want(f.versions(), before, "versions after git status")
         want(tree_of(f.path), tree, "the tree after git status")

@@ -285,13 +285,17 @@ def new_files_are_seen_by_names():
             save(f(name), "x" * 100)
             os.truncate(f(name), length)
         save(f("d/b"), "again")
-        for name, length in (("empty", 0), ("one line", 100), ("more", 70000)):
+        for name, length in (("empty", 0), ("more", 70000), ("one line", 100)):
             save(f("new"), "y" * length)
             os.rename(f("new"), f("other", name))
             save(f("new"), "z" * length)
             os.rename(f("new"), f("d/a"))
             want(open(f("d/a"), "rb").read(), b"z" * length, f"a new file of {length} bytes over another one")
-        wanted = {"d/a": b"z" * 70000, "d/b": b"again", "d/c": b"x" * 100 + bytes(4900), "listed/a": b"a", "kept/a": b"a", "replaced/a": b"a"}
+        file = os.open(f("opened"), os.O_WRONLY | os.O_CREAT)
+        os.rename(f("opened"), f("moved"))
+        os.write(file, b"later")
+        os.close(file)
+        wanted = {"moved": b"later", "d/a": b"z" * 100, "d/b": b"again", "d/c": b"x" * 100 + bytes(4900), "listed/a": b"a", "kept/a": b"a", "replaced/a": b"a"}
         wanted |= {"other/empty": b"", "other/one line": b"y" * 100, "other/more": b"y" * 70000}
         wanted |= dict.fromkeys(("listed", "kept", "replaced", "other", "d"))
         want(tree_of(f.path), wanted, "the tree")

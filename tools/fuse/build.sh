@@ -11,7 +11,7 @@ c=$here/../c
 handle=$c/undofs_client.c
 proved=
 if [ -n "$library" ]; then
-    handle="$c/in_process/in_process.c $c/in_process/shown_pages.c $c/in_process/turns_context.c"
+    handle="$c/in_process/service.c $c/in_process/in_process.c $c/in_process/shown_pages.c $c/in_process/turns_context.c"
     proved="-Wl,--gc-sections $library/libundofs_in_process.a $library/libheap.a -lm -lpthread"
 fi
 mkdir -p "$folder"

@@ -34,7 +34,8 @@ def run(*words, cwd=None, check=True, text=None, env=None):
 
 
 LIBRARY = os.environ.get("UNDOFS_LIBRARY")  # as build.sh takes it
-HANDLE = ("in_process/in_process.c", "in_process/shown_pages.c", "in_process/turns_context.c") if LIBRARY else ("undofs_client.c",)
+IN_PROCESS = ("service.c", "in_process.c", "shown_pages.c", "turns_context.c")
+HANDLE = tuple(f"in_process/{name}" for name in IN_PROCESS) if LIBRARY else ("undofs_client.c",)
 OF_C = (*HANDLE, "undofs_calls.c", "flat_file.c", "raw_nand.c")  # what build.sh takes beside its own folder
 PROVED = ["-Wl,--gc-sections", f"{LIBRARY}/libundofs_in_process.a", f"{LIBRARY}/libheap.a", "-lm", "-lpthread"] if LIBRARY else []
 

@@ -14,14 +14,17 @@ static void tell(const char *what, int is_right) {
     wrong += is_right == 0;
 }
 
-enum { PAGE = 512, PAGES = 8, BLOCKS = 16, FIRST = 3, COUNT = 12, EVERY = -1 };
+enum { PAGE = 512, PAGES = 8, BLOCKS = 16, FIRST = 3, COUNT = 12 };
 
-/* A chip whose pages show what they hold. `flaw` is the case whose rule it breaks, or none. */
+/* The cases in their order, by the rules that a chip breaks. */
+enum flaw { NONE = -1, SIZES, FRESH, READ_BACK, IN_ORDER, ONE_BLOCK, FAILED_PROGRAM, FAILED_ERASE, CUT_PROGRAM, CUT_ERASE, RESTART, ENDS, NEIGHBOURS };
+
+/* A chip whose pages show what they hold, but for its flaw. */
 struct chip {
     struct undofs_sizes sizes;
     uint32_t first, count;
     uint8_t states[PAGES * BLOCKS], bytes[PAGES * BLOCKS][PAGE];
-    int flaw;
+    enum flaw flaw;
     enum undofs_operation planned; /* 0: nothing */
     enum undofs_answer fault;
     uint8_t moment;
@@ -52,9 +55,9 @@ static int is_before(const struct chip *c) { return c->fault == UNDOFS_CUT && c-
 static void lose(struct chip *c, uint32_t block) { memset(c->states + block * PAGES, UNDOFS_ERASED, PAGES); }
 
 static int drops_program(const struct chip *c, uint32_t page) {
-    if (c->flaw == 2) return page % PAGES == 0;
-    if (c->flaw == 3) return page % PAGES == PAGES - 1;
-    return c->flaw == 11 && page % PAGES > 0 && page != c->last + 1;
+    if (c->flaw == READ_BACK) return page % PAGES == 0;
+    if (c->flaw == IN_ORDER) return page % PAGES == PAGES - 1;
+    return c->flaw == NEIGHBOURS && page % PAGES > 0 && page != c->last + 1;
 }
 
 static void store(struct chip *c, uint32_t page, const uint8_t *bytes, uint8_t state) {
@@ -63,7 +66,7 @@ static void store(struct chip *c, uint32_t page, const uint8_t *bytes, uint8_t s
 }
 
 static enum undofs_answer end_troubled(struct chip *c, uint32_t page, const uint8_t *bytes) {
-    int is_broken = c->flaw == (c->fault == UNDOFS_FAILED ? 5 : 7);
+    int is_broken = c->flaw == (c->fault == UNDOFS_FAILED ? FAILED_PROGRAM : CUT_PROGRAM);
     if (is_broken && c->fault == UNDOFS_FAILED) store(c, page, bytes, UNDOFS_DATA);
     else if (is_broken) lose(c, c->first);
     else if (is_within(c)) c->states[page] = UNDOFS_UNREADABLE;
@@ -83,7 +86,7 @@ static enum undofs_answer program_page(void *part, uint32_t page, const uint8_t 
 }
 
 static enum undofs_answer end_troubled_erase(struct chip *c, uint32_t block) {
-    if (c->flaw == (c->fault == UNDOFS_FAILED ? 6 : 8)) lose(c, c->first);
+    if (c->flaw == (c->fault == UNDOFS_FAILED ? FAILED_ERASE : CUT_ERASE)) lose(c, c->first);
     else if (is_within(c)) memset(c->states + block * PAGES, UNDOFS_UNREADABLE, PAGES / 2);
     else if (!is_before(c)) lose(c, block);
     return c->fault;
@@ -93,8 +96,8 @@ static enum undofs_answer erase_block(void *part, uint32_t block) {
     struct chip *c = part;
     int is_last = block == c->first + c->count - 1;
     c->is_misused |= !is_given(c, block);
-    if (c->flaw == 1 && c->last == block * PAGES + PAGES - 1) return UNDOFS_DONE;
-    if (c->flaw == 4 || (c->flaw == 10 && is_last)) lose(c, c->first);
+    if (c->flaw == FRESH && c->last == block * PAGES + PAGES - 1) return UNDOFS_DONE;
+    if (c->flaw == ONE_BLOCK || (c->flaw == ENDS && is_last)) lose(c, c->first);
     if (befalls(c, UNDOFS_ERASES)) return end_troubled_erase(c, block);
     lose(c, block);
     return UNDOFS_DONE;
@@ -116,12 +119,12 @@ static struct undofs_sizes restart(void *part) {
     struct chip *c = part;
     struct undofs_sizes told = c->sizes;
     c->planned = 0;
-    if (c->flaw == 9) lose(c, c->first);
-    if (c->flaw == 0) told.blocks--;
+    if (c->flaw == RESTART) lose(c, c->first);
+    if (c->flaw == SIZES) told.blocks--;
     return told;
 }
 
-static struct undofs_bench bench_of(struct chip *c, int flaw) {
+static struct undofs_bench bench_of(struct chip *c, enum flaw flaw) {
     struct undofs_sizes sizes = {PAGE, PAGES, BLOCKS};
     memset(c, 0, sizeof *c);
     c->sizes = sizes;
@@ -141,7 +144,7 @@ static struct chip chip;
 
 static void right_one(void) {
     uint8_t failed[UNDOFS_CASES];
-    struct undofs_bench bench = bench_of(&chip, EVERY);
+    struct undofs_bench bench = bench_of(&chip, NONE);
     memset(failed, 77, sizeof failed);
     tell("a right driver passes", undofs_check(&bench, failed) == 0 && none_failed(failed) && !chip.is_misused);
     tell("and once more, as it was left", undofs_check(&bench, failed) == 0 && none_failed(failed) && !chip.is_misused);
@@ -149,7 +152,7 @@ static void right_one(void) {
 
 /* Some flaws are met by other cases too: where one program is lost, each case that fills that page fails. */
 static void wrong_ones(void) {
-    for (int flaw = 0; flaw < UNDOFS_CASES; flaw++) {
+    for (enum flaw flaw = SIZES; flaw <= NEIGHBOURS; flaw++) {
         char what[64];
         uint8_t failed[UNDOFS_CASES];
         struct undofs_bench bench = bench_of(&chip, flaw);
@@ -163,10 +166,10 @@ static uint8_t no_moments(void *part, enum undofs_operation operation, enum undo
 static void refused_ones(void) {
     static const uint8_t planned[UNDOFS_CASES] = {0, 0, 0, 0, 0, 1, 1, 1, 1, 0, 0, 0};
     uint8_t failed[UNDOFS_CASES] = {77};
-    struct undofs_bench bench = bench_of(&chip, EVERY);
+    struct undofs_bench bench = bench_of(&chip, NONE);
     bench.moments = no_moments;
     tell("a bench with no moments fails the four planned cases alone", undofs_check(&bench, failed) == 0 && memcmp(failed, planned, sizeof planned) == 0);
-    bench = bench_of(&chip, EVERY);
+    bench = bench_of(&chip, NONE);
     failed[0] = 77;
     bench.blocks = 2;
     tell("two blocks are too few", undofs_check(&bench, failed) == 7 && failed[0] == 77);
@@ -201,7 +204,7 @@ static void any_ones(void) {
     unsigned ended = 0, passed = 0;
     for (seed = 1; seed < 2000000; seed += 10007) {
         uint8_t failed[UNDOFS_CASES];
-        struct undofs_bench bench = bench_of(&chip, EVERY);
+        struct undofs_bench bench = bench_of(&chip, NONE);
         struct undofs_driver driver = {bench.driver.sizes, &chip, read_any, program_any, erase_any};
         uint32_t next = seed;
         bench.driver = driver;

@@ -15,6 +15,7 @@ from edit_files import TOP
 
 PARTS = ("src", "specs", "proofs")
 OPEN = re.compile(r"^note: (?:\./)?(src/\S+?):(\d+):\d+: (?:it is not proved .*?|`search` found no proof )\(`([^`]*)`\)", re.M)
+UNPROVED = re.compile(r"^fn \S+: no proof: expected answers in \./proofs/(\S+)/Answers\.antt; `search` did not prove ((?:`[^`]+`(?:, )?)+)", re.M)
 ANSWER = re.compile(r"^(?:\./)?proofs/(\S+)/(?:Answers|Invariants|Proof)\.antt:\d+:\d+: error: `([^`]*)`(.*(?:\n  .*)*)", re.M)
 HOLDS = re.compile(r"(?:expected type|reads) `Unit\b")
 WAITS = re.compile(r"^fn (\S+): (?:no proof|not proved)\b.*\bit calls `", re.M)
@@ -146,6 +147,8 @@ def goals_of(places, texts, said):
     spans = [(it.file, edit_files.functions_in(texts[it.file])[it.number]) for it in places if it.number is not None]
     has = lambda file, line: is_alone or any(file == one and it.head < line <= it.last + 1 for one, it in spans)
     search = [goal for file, line, goal in OPEN.findall(said) if has(file, int(line))]
+    named = [goals for folder, goals in UNPROVED.findall(said) if is_alone or any(it.has_answers_in(folder) for it in places)]
+    search += [goal for goals in named for goal in re.findall(r"`([^`]+)`", goals) if goal not in search]
     told = [(folder, goal) for folder, goal, more in ANSWER.findall(said) if not HOLDS.search(more)]
     answers = [goal for folder, goal in told if is_alone or any(it.has_answers_in(folder) for it in places)]
     return search, answers

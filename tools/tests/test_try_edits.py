@@ -193,6 +193,12 @@ class Reading(unittest.TestCase):
         self.assertEqual(edit_trials.goals_of(places(0), {"src/store.rt": text}, said), (["returns"], []))
         self.assertEqual(edit_trials.goals_of(places(1), {"src/store.rt": text}, said), ([], []))
 
+    def test_goals_with_no_note(self):
+        """A goal may stand in the line of its function alone."""
+        said = "fn low::store::one: no proof: expected answers in ./proofs/store/one/Answers.antt; `search` did not prove `returns`, `more`; it calls `x`"
+        places = [edit_trials.Place("src/store.rt", 0, "one")]
+        self.assertEqual(edit_trials.goals_of(places, {"src/store.rt": "fn one() {\n}\n"}, said), (["returns", "more"], []))
+
     def test_methods_of_another_module(self):
         """The answers of a method stand with its type."""
         text = "impl<N: Nodes<u8>> Walk for List<'_, N> {\n    fn next(&self) {\n    }\n}\n\nfn next() {\n}\n"

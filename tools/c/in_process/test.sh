@@ -268,7 +268,7 @@ try_wrong() {
     wrong marks_leave_no_trace shown_sectors.c 's/ \&\& !(is_failed \&\& is_without_trace(o, s->page))/ \&\& (is_failed || !is_failed || is_without_trace(o, s->page))/' nor
     wrong a_cut_is_not_remembered shown_sectors.c 's/^    s->is_cut = 1;$//' nor
     wrong a_second_handle_on_nor nor_in_process.c 's/n->handle.driver = driver;/n->handle.driver = n;/;s/n->handle.part = driver->part;/n->handle.part = n;/' nor
-    wrong power_is_never_off driver_checks.c 's/^    run->is_cut = 1;$//' checks
+    wrong power_is_never_off driver_checks.c 's/^    run->is_cut = 1;$/    run->is_cut = 0;/' checks
     wrong sizes_are_those_of_the_sheet driver_checks.c 's/chip->told_blocks = told.blocks;//' checks
 }
 

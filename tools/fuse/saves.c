@@ -120,20 +120,23 @@ static void lose_group(void) {
 }
 
 /* Gives the group up, makes room, and sends all of it again, so that it stays one version. Then the lines are given, which have to leave
- * room for what they touch; null for lines of what was written before, and had its room then. */
+ * room for what they touch; null for lines of what was written before, and had its room then. What the group took before these lines is not
+ * free for them: what they lack then is made free beside it in the next step. */
 static int give_again(const struct undofs_lines *given, const struct touch *touch) {
     int why = UNDOFS_ENOSPC, is_whole = 1;
+    uint64_t lacking = 0;
     reads_forget();
     for (int step = 0; step < SPACE_STEPS && why == UNDOFS_ENOSPC; step++) {
         uint64_t blocks = touched_blocks() + (touch == NULL ? writes_twice() : space_twice(touch));
         if (saves.in_group && undofs_abandon(saves.child) != 0) return UNDOFS_GONE;
-        (void)space_is_made(step, blocks);
+        (void)space_is_made(step, blocks, lacking);
         if (saves.in_group && undofs_begin(saves.child) != 0) return UNDOFS_GONE;
         why = saves.in_group && kept.length > 0 ? undofs_exchange(saves.child, &kept) : 0;
         if (why == UNDOFS_GONE || why == UNDOFS_POWERCUT) return why;
         is_whole = why == 0;
         space_may_be_free();
-        if (is_whole) why = touch == NULL || space_has_room(touch) ? undofs_exchange(saves.child, given) : UNDOFS_ENOSPC;
+        lacking = is_whole && touch != NULL ? space_lacks(touch) : 0;
+        if (is_whole) why = lacking == 0 ? undofs_exchange(saves.child, given) : UNDOFS_ENOSPC;
     }
     if (!is_whole) lose_group();
     return why;

@@ -62,10 +62,13 @@ int space_has(uint64_t blocks) {
     return is_new && look() == 0 && is_left(blocks);
 }
 
-int space_has_room(const struct touch *t) {
+uint64_t space_lacks(const struct touch *t) {
     uint64_t blocks = wanted(t);
-    return blocks == 0 || space_has(blocks + writes_blocks());
+    if (blocks == 0 || space_has(blocks + writes_blocks())) return 0;
+    return blocks + writes_blocks() + (undofs_erases(saves.child) - space.erases) - space.free;
 }
+
+int space_has_room(const struct touch *t) { return space_lacks(t) == 0; }
 
 /* ---- room ---- */
 
@@ -87,9 +90,10 @@ static int are_forgotten(unsigned count) {
 }
 
 /* The fewest that leave so many blocks free; all, where all are not enough. */
-static int is_made_by_need(uint64_t blocks) {
+static int is_made_by_need(uint64_t blocks, uint64_t lacking) {
     struct undofs_lines *ask = emptied();
     blocks += space.reserve + space.data / SPARE_OF;
+    if (lacking > 0 && look() == 0 && blocks < space.free + lacking) blocks = space.free + lacking;
     int is_made = clock_checkpoints_make_room(blocks);
     undofs_put_text(ask, "forgetfree ");
     undofs_put_number(ask, blocks);
@@ -117,11 +121,12 @@ static int is_redo_dropped(void) {
     return 1;
 }
 
-int space_is_made(int step, uint64_t blocks) {
+int space_is_made(int step, uint64_t blocks, uint64_t lacking) {
     int is_made = 0;
-    if (step == 0) is_made = is_made_by_need(blocks);
-    if (step == 1 && versions(1) > 0 && is_redo_dropped()) is_made = 1;
-    if (step == 1 && is_made) (void)are_forgotten(versions(0));
+    const int is_last = step == SPACE_STEPS - 1;
+    if (!is_last) is_made = is_made_by_need(blocks, lacking);
+    if (is_last && versions(1) > 0 && is_redo_dropped()) is_made = 1;
+    if (is_last && is_made) (void)are_forgotten(versions(0));
     uint64_t serial = saves.next;
     if (saves_look_for_version() != 0 || look() != 0) return 0;
     if (saves.next != serial) times_belong(serial, saves.next); /* of the group, which comes after the version that was made */

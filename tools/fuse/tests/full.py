@@ -41,6 +41,19 @@ def a_full_flash_forgets_by_need():
         want("full: " in open(f(".undofs")).read(), False, "what .undofs tells")
 
 
+def no_save_is_refused_while_versions_can_go():
+    """A file that is cut and written anew takes blocks twice in one group. Whatever room there is, it is made for both."""
+    for blocks in range(32, 41):
+        with mounted("settle=0", page=2048, pages=32, blocks=blocks, history=8) as f:
+            saves = {}
+            for i in range(30):
+                name = f"f{i % 5}"
+                saves[name] = os.urandom(i * 7919 % 60000 + 1)
+                want(refusal_of(saved, f(name), saves[name]), None, f"save {i} on {blocks} blocks")
+                want(versions_kept(f) > 1, True, f"{versions_kept(f)} versions are kept after save {i} on {blocks} blocks")
+            want({name: open(f(name), "rb").read() == saves[name] for name in saves}, dict.fromkeys(saves, True), "the files")
+
+
 def a_save_over_what_could_be_redone():
     """All is undone on a full flash: what could be redone gives its blocks to the next save, which one undo takes back."""
     with mounted(**SMALL_PART) as f:
@@ -277,6 +290,7 @@ CASES = [
     a_full_flash_forgets_by_need,
     a_save_over_what_could_be_redone,
     the_reserve_is_for_what_grows_not,
+    no_save_is_refused_while_versions_can_go,
     no_more_is_forgotten_than_a_save_takes,
     a_move_takes_no_room_of_kept_bytes,
     a_group_that_finds_no_room_at_its_end,

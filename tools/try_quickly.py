@@ -19,10 +19,10 @@ from concurrent.futures import ThreadPoolExecutor
 
 TOP = os.path.dirname(os.path.dirname(os.path.abspath(__file__)))
 TEST = re.compile(r"^\s*#\[test\]", re.M)
-# The longest that one may take, its compilation included.
-SECONDS = 1500
-# What `rt try` does not end in time, and why.
-LEFT_OUT = {}
+# The longest that one may take, its compilation included, and what a program or a test has of it.
+SECONDS, RUN_SECONDS = 1500, 900
+# What `rt try` does not end in time, and why: it compiles without optimizing, and with an address checker.
+LEFT_OUT = dict.fromkeys(("fault_trials", "hostile_images", "load", "operations", "trial_update"), "it tries more cases than end within ten minutes")
 
 
 def text_of(path, missing=""):
@@ -51,10 +51,10 @@ def kinds_of(crate):
 def words_of(folder, kind):
     """The words of `rt try`."""
     if kind == "tests":
-        return ["--test"]
+        return ["--test", "--seconds", str(RUN_SECONDS)]
     data = [os.path.relpath(it, f"{folder}/data") for it in sorted(glob.glob(f"{folder}/data/**", recursive=True)) if os.path.isfile(it)]
     words = [word for it in data for word in ("--data", f"{it}=data/{it}")]
-    return ["--seconds", "600", *words, "--", *text_of(f"{folder}/args").splitlines()]
+    return ["--seconds", str(RUN_SECONDS), *words, "--", *text_of(f"{folder}/args").splitlines()]
 
 
 def tried(crate, kind):

@@ -1,25 +1,21 @@
-//! Tests of mounted systems: what mounts and verifications make of worked contents of a flash, refusals,
-//! reads, and mounts, calls and steps of reclaiming with less memory than they want.
+//! Tests of mounted systems: what mounts and verifications make of worked contents of a flash, refusals and
+//! reads. The file system over a serial NOR part in memory too.
 #![tactic(auto)]
 
 #[cfg(test)]
-mod budget;
+mod cleaned;
 #[cfg(test)]
 mod counted;
-#[cfg(test)]
-mod files_in_want;
 #[cfg(test)]
 mod flashes;
 #[cfg(test)]
 mod formats;
 #[cfg(test)]
-mod growths;
-#[cfg(test)]
-mod large_blocks;
-#[cfg(test)]
 mod many_files;
 #[cfg(test)]
-mod mounts_in_want;
+mod nor_reads;
+#[cfg(test)]
+mod nor_sessions;
 #[cfg(test)]
 mod reads;
 #[cfg(test)]

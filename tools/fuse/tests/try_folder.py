@@ -52,8 +52,9 @@ LINKED = ("memory_that_grows_in_place", "no_memory_is_told")  # with a daemon of
 # Cases of the child, which a daemon with the file system in itself does not have: its lines are counted or refused by a program between,
 # or it is stopped or killed.
 OF_A_CHILD = (
-    "a_child_that_hangs_is_ended", "a_group_that_cannot_be_sent_again", "a_group_that_finds_no_room_at_its_end", "a_host_has_no_dev_fd", "a_save_is_few_lines",
-    "files_are_read_in_turn", "pages_are_kept_until_the_tree_moves", "reads_go_on_after_a_failure", "what_was_refused_is_not_sent_again",
+    "a_child_that_hangs_is_ended", "a_group_that_cannot_be_sent_again", "a_group_that_finds_no_room_at_its_end", "a_host_has_no_dev_fd",
+    "a_new_file_is_one_change", "a_save_is_few_lines", "files_are_read_in_turn", "pages_are_kept_until_the_tree_moves", "reads_go_on_after_a_failure",
+    "times_wait_for_the_sync", "what_was_refused_is_not_sent_again",
 )
 LIMIT, AFTER = 400, 30  # seconds of a case; and then until its own process is ended too
 

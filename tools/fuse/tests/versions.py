@@ -7,7 +7,7 @@ import signal
 import subprocess
 import time
 
-from mounts import SHARED, Wrong, child_of, mounted, run, tree_of, want
+from mounts import LIBRARY, SHARED, Wrong, child_of, mounted, run, tree_of, want
 
 NODATA = 61
 
@@ -263,9 +263,10 @@ def a_signal_ends_it_well():
     with mounted("commit=0") as f:
         with open(f("a"), "w") as file:
             file.write("one")
-        child = child_of(f.process)
-        for number in (signal.SIGINT, signal.SIGHUP, signal.SIGTERM):
-            os.kill(child, number)
+        if not LIBRARY:
+            child = child_of(f.process)
+            for number in (signal.SIGINT, signal.SIGHUP, signal.SIGTERM):
+                os.kill(child, number)
         f.process.send_signal(signal.SIGTERM)
         want(f.process.wait(60), 0, "the daemon's status")
         want(os.path.ismount(f.path), False, "is it mounted")

@@ -27,17 +27,22 @@ for name in "${names[@]}"; do
 done >"$made/trials" || exit 2
 ./mkinit.sh "$made" || exit 2
 
-# A line `trial CASE WRONG STATUS SECONDS` ends each; what is wrong is told before.
-./vm.sh "$made" $((limit * ${#names[@]} + 300)) | tee "$made/log" | awk '
-    $1 == "trial" {
-        is_wrong = $3 != "-"
-        is_right = $4 == is_wrong # a wrong one that only comes to no end is not seen
-        print (is_right ? "ok    " : "WRONG ") (is_wrong ? "a wrong one is seen: " $3 : $2), $5 " s", substr(told, 1, 500)
-        told = ""
-        fflush()
-        next
-    }
-    { if (told == "" || !/^wrong/) told = told (told == "" ? "" : " ") $0; fflush() }'
+# Tells each trial on one line, of which a line `trial CASE WRONG STATUS SECONDS` ends each. A wrong one that only comes to no end is not seen.
+tell() {
+    local told="" line first name wrong status seconds
+    while read -r line; do
+        read -r first name wrong status seconds <<<"$line"
+        if [ "$first" != trial ]; then
+            [[ -n $told && $line == wrong* ]] || told+="${told:+ }$line"
+            continue
+        fi
+        if [ "$status" = "$([ "$wrong" = - ] && echo 0 || echo 1)" ]; then line="ok   "; else line=WRONG; fi
+        if [ "$wrong" = - ]; then line+=" $name"; else line+=" a wrong one is seen: $wrong"; fi
+        echo "$line $seconds s ${told:0:500}"
+        told=""
+    done
+}
+./vm.sh "$made" $((limit * ${#names[@]} + 300)) | tee "$made/log" | tell
 passed=$(awk '$1 == "trial" && $4 == ($3 != "-")' "$made/log" | wc -l)
 [ "$(grep -c '^trial ' "$made/log")" = ${#names[@]} ] || echo "the machine ended early: $(tail -n 3 "$made/log")"
 echo "$passed passed, $((${#names[@]} - passed)) failed"

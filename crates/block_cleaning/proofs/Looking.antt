@@ -112,6 +112,26 @@ module _ (d : Device) (s : Storage) (from to : ℕ) (e : Device) (t : Storage) (
         sum_within d.geometry.pages e.geometry.pages (ap (λ (g : Geometry). g.pages) first.device.geometry) (first.asks_blank (λ b looked. blank b (longer b looked)) early)
         (then.asks_blank (λ b looked. blank_kept b looked.0 (blank b (here b looked))) late)
 
+    -- what the second look lists as bad is of its own blocks
+    then_same : (b : ℕ) → b < to → set.contains u.bad b ≡ set.contains t.bad b
+    then_same b below = by (set.contains t.bad b) refl (set.contains u.bad b) refl
+      where
+        by : (x : Bool) → set.contains t.bad b ≡ x → (y : Bool) → set.contains u.bad b ≡ y → set.contains u.bad b ≡ set.contains t.bad b
+        by true was y is = then.stays_bad b was ∙ sym was
+        by false was false is = is ∙ sym was
+        by false was true is = let high : to ≤ b = (then.new_bad b is was).0.0 in absurd (omega arith)
+
+    blank_stays : (b : ℕ) → IsLooked s from (to + 1) b → IsBlank d b → f.failed_reads ≡ d.failed_reads → set.contains u.bad b ≡ set.contains s.bad b
+    blank_stays b looked blank still =
+        let up = first.device.failed_reads in
+        let up' = then.device.failed_reads in
+        let early : e.failed_reads ≡ d.failed_reads = omega arith in
+        let late : f.failed_reads ≡ e.failed_reads = omega arith in
+        elim (cases_lt b to) [
+          | inl below ↦ then_same b below ∙ first.blank_stays b (looked.0, below, looked.2) blank early
+          | inr high ↦ then.blank_stays b (high, looked.1, same_free b high ∙ looked.2) (blank_kept b high blank) late ∙ bad_same b high
+        ]
+
     pub looks_on : LooksAt d s from (to + 1) f u
     looks_on = record {
       device = record {
@@ -132,6 +152,7 @@ module _ (d : Device) (s : Storage) (from to : ℕ) (e : Device) (t : Storage) (
       fits = still_on d s e t f u first.fits then.fits;
       asks = sum_within (d.geometry.pages + 1) (e.geometry.pages + 1) (ap (λ (g : Geometry). g.pages + 1) first.device.geometry) first.asks then.asks;
       asks_blank = blank_sum;
+      blank_stays = blank_stays;
     }
 
     pub clean_on : AreClean s from to e t → AreClean t to (to + 1) f u → AreClean s from (to + 1) f u
@@ -157,6 +178,7 @@ looks_none d s from to = record {
   fits = still_itself d s;
   asks = omega arith;
   asks_blank = λ blank still. omega arith;
+  blank_stays = λ b looked blank still. refl;
 }
 
 pub clean_none : (s : Storage) (from : ℕ) (e : Device) (t : Storage) → AreClean s from from e t
@@ -201,6 +223,7 @@ module _ (d : Device) (s : Storage) (e : Device) (page : Vec ℕ Global) (b : �
     fits = still_fits d s e (record s { page = page }) reads.geometry long refl (λ fits. read_truthful d e s.cache lawful reads fits.truthful);
     asks = within_one s b (d.geometry.pages + 1) d.geometry.pages d.operations e.operations free (omega arith) few;
     asks_blank = λ blank still. within_one s b d.geometry.pages d.geometry.pages d.operations e.operations free (omega arith) few;
+    blank_stays = λ c looked blank still. refl;
   }
 
   -- what is found once the block is taken out is of another block
@@ -251,6 +274,10 @@ module _ (d : Device) (s : Storage) (e : Device) (page : Vec ℕ Global) (b : �
       fits = still_fits d s f left geometry long refl (λ fits. listed fits.truthful);
       asks = within_one s b (d.geometry.pages + 1) (d.geometry.pages + 1) d.operations f.operations free (omega arith) (omega (arith, erases.operations));
       asks_blank = λ blank still. let more = stale (blank b self) in absurd (omega (arith, erases.failed_reads));
+      blank_stays = λ c looked blank still.
+          let same : c ≡ b = omega (arith, looked.0, looked.1) in
+          let more = stale (subst (IsBlank d) same blank) in
+          absurd (omega (arith, erases.failed_reads));
     }
 
 -- ---- how a round ends

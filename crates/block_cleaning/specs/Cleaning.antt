@@ -49,6 +49,8 @@ pub record LooksAt (d : Device) (s : Storage) (from to : ℕ) (e : Device) (t : 
   pub asks : e.operations ≤ d.operations + free_between s from to * (d.geometry.pages + 1)
   pub asks_blank : ((b : ℕ) → IsLooked s from to b → IsBlank d b) → e.failed_reads ≡ d.failed_reads
       → e.operations ≤ d.operations + free_between s from to * d.geometry.pages
+  -- and a blank one is listed as bad only where a read failed. So none is erased, since each erase may fail
+  pub blank_stays : (b : ℕ) → IsLooked s from to b → IsBlank d b → e.failed_reads ≡ d.failed_reads → set.contains t.bad b ≡ set.contains s.bad b
 
 -- each of them is blank, or bad
 abbrev pub AreClean : Storage → ℕ → ℕ → Device → Storage → Type 0

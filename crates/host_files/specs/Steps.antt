@@ -1,5 +1,5 @@
 -- What is done to bytes in place, in order.
-use Rattle.std.specs.Prelude.{◌≡◌, ℕ, ◌+◌, List, [], ◌∷◌, ◌++◌, length, take, drop, Option, None, Some, ⊤}
+use Rattle.std.specs.Prelude.{◌≡◌, ℕ, ◌+◌, ◌≤◌, List, [], ◌∷◌, ◌++◌, length, take, drop, Option, None, Some, ⊤}
 
 -- bytes are written from a place on, or all that was written is brought to the medium
 pub data Step : Type 0 where
@@ -30,3 +30,15 @@ abbrev pub Becomes : Option (List ℕ) → List Step → Option (List ℕ) → T
 Becomes None steps new = new ≡ None
 Becomes (Some old) steps None = ⊥
 Becomes (Some old) steps (Some new) = new ≡ all_after steps old
+
+-- what stands outside of a place of so many bytes stays, and where the place ends in the bytes they are as many as before
+pub record StaysOutside (place count : ℕ) (old new : List ℕ) : Type 0 where
+  pub before : take place new ≡ take place old
+  pub after : drop (place + count) new ≡ drop (place + count) old
+  pub long : place + count ≤ length old → length new ≡ length old
+
+-- this is so, where the bytes are known; what is not known stays unknown
+abbrev pub KeepsOutside : ℕ → ℕ → Option (List ℕ) → Option (List ℕ) → Type 0
+KeepsOutside place count None new = new ≡ None
+KeepsOutside place count (Some old) None = ⊥
+KeepsOutside place count (Some old) (Some new) = StaysOutside place count old new

@@ -1,6 +1,6 @@
 //! Bytes that are read and written in place.
-ghost use Rattle.std.specs.Prelude.{◌≡◌, ℕ, List, [], ◌∷◌, Option, IfSome, OnOk, length, take, drop};
-ghost use Rattle.host_files.specs.Steps.{Step, writes, barrier, Does, Becomes};
+ghost use Rattle.std.specs.Prelude.{◌≡◌, ℕ, List, [], ◌∷◌, Option, IfSome, OnOk, OnErr, length, take, drop};
+ghost use Rattle.host_files.specs.Steps.{Step, writes, barrier, Does, Becomes, KeepsOutside};
 
 use std::io;
 
@@ -19,10 +19,12 @@ pub trait Backing {
         ensures steps { steps self.new ≡ steps self.old }
         ensures same { held self.new ≡ held self.old };
 
-    /// Writes bytes from a place on. Where that fails nothing is known of them.
+    /// Writes bytes from a place on. Where that fails nothing is known of them, and what stands outside of
+    /// the place is as before.
     fn write_at(&mut self, place: u64, bytes: &[u8]) -> io::Result<()>
         ensures steps { OnOk result (Does (steps self.old) (writes place bytes.now ∷ []) (steps self.new)) }
-        ensures bytes { OnOk result (Becomes (held self.old) (writes place bytes.now ∷ []) (held self.new)) };
+        ensures bytes { OnOk result (Becomes (held self.old) (writes place bytes.now ∷ []) (held self.new)) }
+        ensures failed { OnErr result (KeepsOutside place (length bytes.now) (held self.old) (held self.new)) };
 
     /// Brings all that was written to the medium.
     fn barrier(&mut self) -> io::Result<()>

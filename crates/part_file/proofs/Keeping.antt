@@ -126,7 +126,7 @@ one_zero j m low =
     ap (λ (l : List ℕ). take 1 l) more ∙ ap (λ (x : ℕ). x ∷ []) first
 
 -- a page of another block stands before or after its pages
-block-apart : (pages b q : ℕ) → q / pages ≢ b → 0 < pages → (q + 1 ≤ b * pages) ⊎ (b * pages + pages ≤ q)
+pub block-apart : (pages b q : ℕ) → q / pages ≢ b → 0 < pages → (q + 1 ≤ b * pages) ⊎ (b * pages + pages ≤ q)
 block-apart pages b q other some =
     let number : q / pages * pages + q % pages ≡ q = div-add-mod' q pages in
     let small : q % pages < pages = mod_below q pages some in

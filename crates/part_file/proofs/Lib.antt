@@ -5,6 +5,7 @@ pub mod Placing
 pub mod PagesRead
 pub mod Keeping
 pub mod Holding
+pub mod Failing
 pub mod BlankParts
 pub mod Putting
 pub mod Faults

@@ -1,5 +1,5 @@
 -- What the bytes of a part say that a flash holds.
-use Rattle.std.specs.Prelude.{◌≡◌, ℕ, ◌<◌, ◌≤◌, Bool, false, List, [], ◌∷◌, length, take, drop, Option, IfSome}
+use Rattle.std.specs.Prelude.{◌≡◌, ℕ, ◌<◌, ◌≤◌, Bool, false, List, [], ◌∷◌, length, take, drop, Option, None, Some, IfSome}
 use Rattle.flash_model.specs.declared.geometry.Geometry.{Geometry}
 use Rattle.flash_model.specs.declared.flash.PageState.{PageState}
 use Rattle.flash_model.specs.declared.flash.PageState.TheVariants.{Erased, Data, Unreadable}
@@ -58,6 +58,18 @@ pub record IsPart (d : Device) (bytes : List ℕ) : Type 0 where
 -- bytes that were the part of a flash are that of what it has become, where they are known
 abbrev pub KeepsPart : Option (List ℕ) → Device → Option (List ℕ) → Device → Type 0
 KeepsPart old d new e = IfSome old (λ bytes. IsPart d bytes → IfSome new (IsPart e))
+
+-- bytes of a part changed in some of its pages alone: there are as many, and its head and all other pages are as before
+pub record KeepsOthers (g : Geometry) (is_own : ℕ → Type 0) (old new : List ℕ) : Type 0 where
+  pub long : length new ≡ length old
+  pub head : take 20 new ≡ take 20 old
+  pub pages : (q : ℕ) → q < page_count g → (is_own q → ⊥) → (page : Page) → HasPage old g q page → HasPage new g q page
+
+-- this is so of whole parts, where the bytes are known; what is not known stays unknown
+abbrev pub KeepsOtherPages : Geometry → (ℕ → Type 0) → Option (List ℕ) → Option (List ℕ) → Type 0
+KeepsOtherPages g is_own None new = new ≡ None
+KeepsOtherPages g is_own (Some old) None = ⊥
+KeepsOtherPages g is_own (Some old) (Some new) = part_length g ≤ length old → KeepsOthers g is_own old new
 
 -- while a driver is not lost, the bytes behind it are the part of a flash, where they are known
 abbrev pub HoldsPart : Bool → Option (List ℕ) → Device → Type 0

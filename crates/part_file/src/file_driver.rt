@@ -33,9 +33,10 @@ impl<B> FileDriver<B> {
 }
 
 impl<B: Backing> FileDriver<B> {
-    ghost use Rattle.std.specs.Prelude.{◌≡◌, ◌<◌, IfErr, OnOk, OnErr, Err, true, false, length};
+    ghost use Rattle.std.specs.Prelude.{◌≡◌, ◌<◌, ◌/◌, IfErr, OnOk, OnErr, Err, true, false, length};
     ghost use Rattle.flash_model.specs.Geometry.{page_count};
     ghost use Rattle.part_file.specs.Layout.{program_steps, erase_steps};
+    ghost use Rattle.part_file.specs.Pages.{KeepsOtherPages};
     ghost use Rattle.part_file.specs.Parts.{sizes_of, backing_of, driven_part, is_lost};
     ghost use Rattle.host_files.specs.Steps.{Does, Becomes};
 
@@ -46,6 +47,7 @@ impl<B: Backing> FileDriver<B> {
         // What is written.
         ensures done { OnOk result (Does (B.steps (backing_of (driven_part self.old))) (program_steps (sizes_of (driven_part self.old)) page bytes.now) (B.steps (backing_of (driven_part self.new)))) }
         ensures bytes { OnOk result (Becomes (B.held (backing_of (driven_part self.old))) (program_steps (sizes_of (driven_part self.old)) page bytes.now) (B.held (backing_of (driven_part self.new)))) }
+        ensures failed { OnErr result (KeepsOtherPages (sizes_of (driven_part self.old)) (λ q. q ≡ page) (B.held (backing_of (driven_part self.old))) (B.held (backing_of (driven_part self.new)))) }
         // Where it is lost.
         ensures live { OnOk result (is_lost self.new ≡ false) }
         ensures cut { IfErr result (λ fault. fault ≡ DevFault.PowerCut) }
@@ -71,6 +73,7 @@ impl<B: Backing> FileDriver<B> {
         // What is written.
         ensures done { OnOk result (Does (B.steps (backing_of (driven_part self.old))) (erase_steps (sizes_of (driven_part self.old)) block) (B.steps (backing_of (driven_part self.new)))) }
         ensures bytes { OnOk result (Becomes (B.held (backing_of (driven_part self.old))) (erase_steps (sizes_of (driven_part self.old)) block) (B.held (backing_of (driven_part self.new)))) }
+        ensures failed { OnErr result (KeepsOtherPages (sizes_of (driven_part self.old)) (λ q. q / (sizes_of (driven_part self.old)).pages ≡ block) (B.held (backing_of (driven_part self.old))) (B.held (backing_of (driven_part self.new)))) }
         // Where it is lost.
         ensures live { OnOk result (is_lost self.new ≡ false) }
         ensures cut { IfErr result (λ fault. fault ≡ DevFault.PowerCut) }

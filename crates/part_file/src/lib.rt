@@ -14,7 +14,7 @@ mod reading;
 mod spelling;
 
 pub use laws::round_trip_law;
-pub use part_file::{PartFault, PartFile};
-pub use part_flash::PartFlash;
-pub use reading::{flash_of_part, read_part};
+pub use part_file::PartFault;
+pub use part_flash::{PartFlash, RefusedPart};
+pub use reading::flash_of_part;
 pub use spelling::spelled_part;

@@ -7,9 +7,8 @@ ghost use Rattle.part_file.specs.Props.{held-prop};
 
 use crate::file_driver::FileDriver;
 use crate::part_file::{PartFault, PartFile};
-use crate::reading::read_part;
+use crate::reading::flash_of_part;
 use flash_model::{DevFault, Flash, Geometry, PageState};
-use flash_simulation::SimFlash;
 use host_files::Backing;
 use mirrored_flash::Mirror;
 use std::alloc::Global;
@@ -28,6 +27,13 @@ pub struct PartFlash<B: Backing> {
     pub ghost held: { HoldsPart (is_lost driver) (B.held (backing_of (driven_part driver))) (mirror_device mirror) } by { held-prop (is_lost driver) (B.held (backing_of (driven_part driver))) (mirror_device mirror) },
 }
 
+/// Bytes that give no part, and why.
+#[derive(Drop)]
+pub struct RefusedPart<B> {
+    pub fault: PartFault,
+    pub backing: B,
+}
+
 impl<B: Backing> PartFlash<B> {
     ghost use Rattle.std.specs.Prelude.{◌≡◌};
     ghost use Rattle.part_file.specs.Flashes.{part_device, driver_of, backing_behind};
@@ -43,7 +49,7 @@ impl<B: Backing> PartFlash<B> {
     }
 }
 
-impl<B: Backing + Drop> PartFlash<B> {
+impl<B: Backing> PartFlash<B> {
     ghost use Rattle.std.specs.Prelude.{◌≡◌, ℕ, IfOk, IfErr, IfSome, false};
     ghost use Rattle.flash_image.specs.Images.{IsFresh};
     ghost use Rattle.part_file.specs.Flashes.{part_device, driver_of, backing_behind};
@@ -51,32 +57,41 @@ impl<B: Backing + Drop> PartFlash<B> {
     ghost use Rattle.part_file.specs.Parts.{is_lost};
     ghost use Rattle.part_file.specs.Reading.{IsPartFault};
 
-    /// The flash of a part. Power is on, no block is worn, and nothing is written yet.
-    pub fn start(alloc: Global, backing: B) -> Result<PartFlash<B>, PartFault>
+    /// The flash of a part. Power is on, no block is worn, and nothing is written. Bytes that are refused are
+    /// given back as they were.
+    pub fn start(alloc: Global, mut backing: B) -> Result<PartFlash<B>, RefusedPart<B>>
+        // What is shown.
         ensures shown { IfOk result (λ flash. IfSome (B.held backing) (IsPart (part_device flash))) }
         ensures fresh { IfOk result (λ flash. IsFresh (part_device flash)) }
         ensures unworn { IfOk result (λ flash. (b : ℕ) → (part_device flash).worn b ≡ false) }
         ensures live { IfOk result (λ flash. is_lost (driver_of flash) ≡ false) }
+
+        // The bytes are as before.
         ensures same { IfOk result (λ flash. B.held (backing_behind flash) ≡ B.held backing) }
         ensures steps { IfOk result (λ flash. B.steps (backing_behind flash) ≡ B.steps backing) }
-        ensures err { IfErr result (λ fault. IfSome (B.held backing) (IsPartFault fault)) }
+        ensures refused { IfErr result (λ refused. (B.held refused.backing ≡ B.held backing) × (B.steps refused.backing ≡ B.steps backing)) }
+        ensures err { IfErr result (λ refused. IfSome (B.held backing) (IsPartFault refused.fault)) }
     {
-        let mut part = PartFile::open(backing)?;
-        let shown = read_part(alloc, &mut part)?;
-        Ok(PartFlash {
-            mirror: Mirror::new(shown),
-            driver: FileDriver::new(part),
-        })
+        match flash_of_part(alloc, &mut backing) {
+            Ok(shown) => {
+                let part = PartFile::new(backing, shown.geometry());
+                Ok(PartFlash {
+                    mirror: Mirror::new(shown),
+                    driver: FileDriver::new(part),
+                })
+            }
+            Err(fault) => Err(RefusedPart { fault, backing }),
+        }
     }
 }
 
 impl<B: Backing> Flash for PartFlash<B> {
-    ghost use Rattle.std.specs.Prelude.{◌≡◌, ℕ, ◌<◌, true, false, length, Err, OnOk};
+    ghost use Rattle.std.specs.Prelude.{◌≡◌, ℕ, ◌<◌, ◌/◌, true, false, length, Err, OnOk, OnErr};
     ghost use Rattle.flash_model.specs.Geometry.{page_count};
     ghost use Rattle.flash_model.specs.Device.{block_of, erased, Reads, Programs, Erases};
     ghost use Rattle.part_file.specs.Flashes.{part_device, driver_of, backing_behind, whole_part_pages};
     ghost use Rattle.part_file.specs.Layout.{program_steps, erase_steps};
-    ghost use Rattle.part_file.specs.Pages.{KeepsPart};
+    ghost use Rattle.part_file.specs.Pages.{KeepsPart, KeepsOtherPages};
     ghost use Rattle.part_file.specs.Parts.{is_lost};
     ghost use Rattle.host_files.specs.Steps.{Does};
 
@@ -108,7 +123,8 @@ impl<B: Backing> Flash for PartFlash<B> {
         ensures done { OnOk result (Does (B.steps (backing_behind self.old)) (program_steps (part_device self.old).geometry page bytes.now) (B.steps (backing_behind self.new))) }
         ensures kept { OnOk result (KeepsPart (B.held (backing_behind self.old)) (part_device self.old) (B.held (backing_behind self.new)) (part_device self.new)) }
 
-        // Once power went, nothing is.
+        // Where it fails, the head and all other pages of the file are as before. Once power went, nothing is written.
+        ensures failed { OnErr result (KeepsOtherPages (part_device self.old).geometry (λ q. q ≡ page) (B.held (backing_behind self.old)) (B.held (backing_behind self.new))) }
         ensures off { (part_device self.old).powered ≡ false → driver_of self.new ≡ driver_of self.old }
         ensures lost { is_lost (driver_of self.old) ≡ true → (driver_of self.new ≡ driver_of self.old) × (result ≡ Err DevFault.PowerCut) }
     {
@@ -129,7 +145,8 @@ impl<B: Backing> Flash for PartFlash<B> {
         ensures done { OnOk result (Does (B.steps (backing_behind self.old)) (erase_steps (part_device self.old).geometry block) (B.steps (backing_behind self.new))) }
         ensures kept { OnOk result (KeepsPart (B.held (backing_behind self.old)) (part_device self.old) (B.held (backing_behind self.new)) (part_device self.new)) }
 
-        // Once power went, nothing is.
+        // Where it fails, the head and all pages of other blocks are as before. Once power went, nothing is written.
+        ensures failed { OnErr result (KeepsOtherPages (part_device self.old).geometry (λ q. q / (part_device self.old).geometry.pages ≡ block) (B.held (backing_behind self.old)) (B.held (backing_behind self.new))) }
         ensures off { (part_device self.old).powered ≡ false → driver_of self.new ≡ driver_of self.old }
         ensures lost { is_lost (driver_of self.old) ≡ true → (driver_of self.new ≡ driver_of self.old) × (result ≡ Err DevFault.PowerCut) }
     {

@@ -27,7 +27,7 @@ fn open_flash<F: Parts>(files: &F, alloc: Global, name: &str) -> Result<SimFlash
     ensures err { IfErr result (λ fault. IfSome (F.placed files.now name.now) (IsPartFault fault)) }
 {
     match files.open_part(alloc, name) {
-        Ok(backing) => flash_of_part(alloc, backing),
+        Ok(mut backing) => flash_of_part(alloc, &mut backing),
         Err(FileFault::Memory) => Err(PartFault::Memory),
         Err(_) => Err(PartFault::Read),
     }

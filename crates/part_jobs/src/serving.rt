@@ -30,7 +30,7 @@ pub fn serve_part_file<F: Parts, R: Read, W: Write>(
     };
     let mut flash = match PartFlash::start(alloc, backing) {
         Ok(flash) => flash,
-        Err(fault) => return Err(Failure::of_part(fault)),
+        Err(refused) => return Err(Failure::of_part(refused.fault)),
     };
     match serve_part(alloc, &mut flash, history, reader, out) {
         Ok(()) => Ok(()),

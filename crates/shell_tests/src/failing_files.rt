@@ -91,26 +91,47 @@ impl Sources for FailingFiles {
     }
 }
 
+/// What is heard of a driver: eight bytes, which are no image.
+const HEARD: &[u8] = b"\x08\0\0\0\0\0\0\0UFFSIMG2";
+
+/// A driver is heard under `heard`, and is given orders under `given`.
 impl Channels for FailingFiles {
+    ghost use Rattle.std.specs.Prelude.{◌∷◌, Some, codes};
+
     type Incoming = &'static [u8];
 
     type Outgoing = Vec<u8>;
 
-    fn open_incoming(&self, _name: &str) -> Result<&'static [u8], FileFault> {
-        Err(FileFault::Failed)
+    ghost written = { λ _ _. Some (8 ∷ 0 ∷ 0 ∷ 0 ∷ 0 ∷ 0 ∷ 0 ∷ 0 ∷ codes "UFFSIMG2") };
+
+    fn open_incoming(&self, name: &str) -> Result<&'static [u8], FileFault> {
+        match name {
+            "heard" => Ok(HEARD),
+            _ => Err(FileFault::Failed),
+        }
     }
 
-    fn open_outgoing(&self, _alloc: Global, _name: &str) -> Result<Vec<u8>, FileFault> {
-        Err(FileFault::Failed)
+    fn open_outgoing(&self, alloc: Global, name: &str) -> Result<Vec<u8>, FileFault> {
+        match name {
+            "given" => Ok(Vec::new(alloc)),
+            _ => Err(FileFault::Failed),
+        }
     }
 }
 
 /// A part is opened as a copy of `x`.
 impl Parts for FailingFiles {
+    ghost use Rattle.std.specs.Prelude.{Some};
+
     type Part = FlatPart;
 
+    ghost placed = { λ files _. Some files.bytes.items };
+
     fn open_part(&self, alloc: Global, name: &str) -> Result<FlatPart, FileFault> {
-        let bytes = self.read(alloc, name)?;
+        if name != "x" {
+            return Err(FileFault::Failed);
+        }
+        let bytes = Vec::from_slice(alloc, &self.bytes).map_err(|_| FileFault::Memory)?;
         Ok(FlatPart { bytes })
     }
 }
@@ -164,7 +185,7 @@ fn assert_unwritten<R: Abort>(rt: &R, alloc: Global) -> Result<(), Fail> {
     assert_calls(rt, &mut files, alloc, &gets)
 }
 
-/// Asserts that a part is made and served.
+/// Asserts that a part is made and served, and that a driver which tells no image is refused.
 fn assert_served<R: Abort>(rt: &R, alloc: Global) -> Result<(), Fail> {
     let mut files = FailingFiles {
         bytes: Vec::new(alloc),
@@ -172,10 +193,22 @@ fn assert_served<R: Abort>(rt: &R, alloc: Global) -> Result<(), Fail> {
     let made = "log next 2 dropped 0 versions *1 checkpoints\n";
     let lines = "mkdir /a\nsync\nls /\nfault read 1\n";
     let served = "ok\nok\nentries 1 a/\nerr SYNTAX\n";
-    let calls: [Wanted<'_>; 3] = [
+    let no_image = (3, "", "uffs: image NotImage\n");
+    let calls: [Wanted<'_>; 6] = [
         (&["format", "--part", "x"], "", (0, "", "")),
         (&["serve", "--part", "x"], "log\n", (0, made, "")),
         (&["serve", "--part", "x"], lines, (0, served, "")),
+        (&["serve", "heard", "given"], "ls /\n", no_image),
+        (
+            &["serve", "x", "given"],
+            "",
+            (1, "", "uffs: cannot read x\n"),
+        ),
+        (
+            &["serve", "heard", "x"],
+            "",
+            (1, "", "uffs: cannot write x\n"),
+        ),
     ];
     assert_calls(rt, &mut files, alloc, &calls)
 }

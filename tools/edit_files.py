@@ -1,5 +1,6 @@
 """Reads the edits of crates/*/must-fail and crates/*/wrong, the functions that they change, and the lines
-of crates/*/wrong/TRIED. For check_edits.py and try_edits.py."""
+of crates/*/wrong/TRIED. For check_edits.py and try_edits.py. The text of this file is in the sums of TRIED,
+so a change here has all edits tried anew."""
 import glob
 import hashlib
 import os
@@ -8,6 +9,8 @@ from dataclasses import dataclass
 
 TOP = os.path.dirname(os.path.dirname(os.path.abspath(__file__)))
 FOLDERS = ("must-fail", "wrong")
+# The folders of a crate that a check reads.
+PARTS = ("src", "specs", "proofs")
 BEGINS = re.compile(r'^\s*(?:pub(?:\([a-z]+\))? )?(const )?(?:unsafe )?(?:extern "C" )?fn (\w+)')
 # What a line of TRIED may say of how an edit was refused.
 HOWS = ("by search", "by an answer")

@@ -6,14 +6,9 @@ change here has all edits tried anew.
 """
 import os
 import re
-import shutil
-import subprocess
-import tempfile
 
 import edit_files
-from edit_files import TOP
 
-PARTS = ("src", "specs", "proofs")
 OPEN = re.compile(r"^note: (?:\./)?(src/\S+?):(\d+):\d+: (?:it is not proved .*?|`search` found no proof )\(`([^`]*)`\)", re.M)
 UNPROVED = re.compile(r"^fn \S+: no proof: expected answers in \./proofs/(\S+)/Answers\.antt; `search` did not prove ((?:`[^`]+`(?:, )?)+)", re.M)
 ANSWER = re.compile(r"^(?:\./)?proofs/(\S+)/(?:Answers|Invariants|Proof)\.antt:\d+:\d+: error: `([^`]*)`(.*(?:\n  .*)*)", re.M)
@@ -91,56 +86,6 @@ def rounds_of(folder, edits):
     return rounds
 
 
-class Copy:
-    """A copy of a crate and of those below it, in which its edits are tried."""
-
-    def __init__(self, crate, lines, way, room):
-        self.crate, self.way, self.room = crate, way, room
-        names = [*edit_files.libraries_of(crate, lines), crate]
-        for name in names:
-            for part in (*PARTS, "c"):
-                if os.path.isdir(f"{TOP}/crates/{name}/{part}"):
-                    shutil.copytree(f"{TOP}/crates/{name}/{part}", f"{room}/crates/{name}/{part}")
-        with open(f"{room}/crates.txt", "w", encoding="utf-8") as it:
-            it.writelines(" ".join(lines[name]).replace(" :", ":", 1) + "\n" for name in names)
-        shutil.copyfile(f"{TOP}/HANDLES", f"{room}/HANDLES")
-        self.folder = f"{room}/crates/{crate}"
-
-    def rt(self, *words, at):
-        """Calls `rt` in a folder of the copy, and returns its status and what it printed."""
-        how = {"cwd": at, "stdin": subprocess.DEVNULL, "stdout": subprocess.PIPE, "stderr": subprocess.STDOUT}
-        ran = subprocess.run([os.environ.get("RT", "rt"), *words], **how, encoding="utf-8", errors="replace")
-        return ran.returncode, ran.stdout
-
-    def said(self, one):
-        """What a check of the crate with these edits says, after the texts of the changed files."""
-        texts = {}
-        for edit, _ in one:
-            if planted(edit, f"{TOP}/crates/{self.crate}", texts) is None:
-                return {}, f"{edit.name} cannot be applied"
-        for part in PARTS:
-            shutil.rmtree(f"{self.folder}/{part}", ignore_errors=True)
-            if os.path.isdir(f"{TOP}/crates/{self.crate}/{part}"):
-                shutil.copytree(f"{TOP}/crates/{self.crate}/{part}", f"{self.folder}/{part}")
-        for file, text in texts.items():
-            with open(f"{self.folder}/{file}", "w", encoding="utf-8") as it:
-                it.write(text)
-        if self.way == "check":
-            status, said = self.rt("check", at=self.folder)
-            chunks = said.split("\nlogic=")
-            # (the libraries below it are told before it, if they had to be built)
-            own = "\nlogic=".join(chunks[-2:])
-            own = own if f"\ncrate {self.crate}: modules" in own else said[-2000:].replace("\nlogic=", "\n")
-        else:
-            # (the gate takes a crate only in the layout of `rt fmt`)
-            self.rt("fmt", at=self.folder)
-            status, said = self.rt("ci", at=self.room)
-            found = re.search(rf"^== {self.crate}$.*?^rt: {self.crate} (?:NOT )?PROVED$", said, re.M | re.S | re.I)
-            own = found[0] if found else said[-2000:].replace("\nlogic=", "\n")
-        texts = {it: edit_files.text_of(f"{self.folder}/{it}") for it in texts}
-        return texts, own
-
-
 def goals_of(places, texts, said):
     """The open goals of the functions of these places, and their goals of which an answer no longer fits."""
     is_alone = any(it.number is None for it in places)
@@ -187,32 +132,16 @@ def tried_once(one, texts, said):
     return told
 
 
-def way_for(crate, lines):
-    """How a crate is tried best: by `rt check` where it kept work here, and else by `rt ci`."""
-    work = f"{TOP}/crates/{crate}/out/incremental"
-    is_kept = os.path.isdir(work) and os.listdir(work)
-    below = (f"{TOP}/crates/{it}/out/rlib/stamp" for it in edit_files.libraries_of(crate, lines))
-    return "check" if is_kept and all(map(os.path.isfile, below)) else "ci"
-
-
-def try_crate(crate, edits, lines, by, keep, say):
-    """Tries edits of a crate, by a command of `rt` or the best one, and returns the verdicts by the edits' names.
-    `keep` takes what each check said, with its number, and `say` what came of each edit."""
-    way, checks, verdicts = by or way_for(crate, lines), 0, {}
-    with tempfile.TemporaryDirectory(prefix="undofs-edits-") as room:
-        copy = Copy(crate, lines, way, room)
-        left = rounds_of(f"{TOP}/crates/{crate}", edits)
-        while left:
-            one, checks = left.pop(0), checks + 1
-            texts, said = copy.said(one)
-            keep(checks, said)
-            told = tried_once(one, texts, said)
-            later = [it for it in one if told[it[0].name] == LATER]
-            # what waits is tried without those that it waits for
-            left += [later] if len(later) < len(one) and later else [[it] for it in later]
-            for edit, _ in one:
-                if told[edit.name] != LATER:
-                    verdicts[edit.name] = told[edit.name]
-                    say(f"{crate}/{edit.name}: {told[edit.name].words}")
-    say(f"{crate}: {len(edits)} edits in {checks} checks by rt {way}")
-    return verdicts
+def verdicts_of(folder, edits, check):
+    """Tries edits of the crate in a folder, and yields each with its verdict once a check told it. `check` takes the texts of
+    the files that edits change, and returns these as they were checked, with what it said of the crate."""
+    left = rounds_of(folder, edits)
+    while left:
+        one, texts = left.pop(0), {}
+        unfit = [edit.name for edit, _ in one if planted(edit, folder, texts) is None]
+        texts, said = ({}, f"{unfit[0]} cannot be applied") if unfit else check(texts)
+        told = tried_once(one, texts, said)
+        later = [it for it in one if told[it[0].name] == LATER]
+        # what waits is tried without those that it waits for
+        left += [later] if len(later) < len(one) and later else [[it] for it in later]
+        yield from ((edit, told[edit.name]) for edit, _ in one if told[edit.name] != LATER)

@@ -1,17 +1,21 @@
 #!/usr/bin/env python3
 """What try_edits.py has to see: tools/tests/test_try_edits.py [--proofs]. With --proofs it also tries edits of two
-crates of a few lines, in a folder of their own, by `rt ci`: that takes some minutes."""
+crates of a few lines, in a folder of their own, by `rt ci` and by `rt check`: that takes some minutes."""
 import os
 import shutil
 import subprocess
 import sys
 import tempfile
+import threading
+import time
 import unittest
+from unittest import mock
 
 TOOLS = os.path.dirname(os.path.dirname(os.path.abspath(__file__)))
 sys.dont_write_bytecode = True
 sys.path.insert(0, TOOLS)
 
+import edit_copies  # noqa: E402
 import edit_files  # noqa: E402
 import edit_trials  # noqa: E402
 import try_edits  # noqa: E402
@@ -136,16 +140,23 @@ def repository(room):
     write(f"{room}/HANDLES", "Handles allowed: none.\n")
     for path, (old, new, clause) in EDITS.items():
         write(f"{room}/crates/{path}", f"file: src/lib.rt\nold: {old}\nnew: {new}\nclause: {clause}\n")
-    for name in ("try_edits.py", "edit_trials.py", "edit_files.py"):
-        shutil.copy(f"{TOOLS}/{name}", f"{room}/tools-{name}")
-        os.makedirs(f"{room}/tools", exist_ok=True)
-        os.rename(f"{room}/tools-{name}", f"{room}/tools/{name}")
+    os.makedirs(f"{room}/tools")
+    for name in ("try_edits.py", "edit_trials.py", "edit_files.py", "edit_copies.py"):
+        shutil.copy(f"{TOOLS}/{name}", f"{room}/tools/{name}")
 
 
-def called(room, *words):
+def called(room, *words, **environment):
     """The status of the tool, and the lines that it prints."""
-    ran = subprocess.run([sys.executable, f"{room}/tools/try_edits.py", *words], stdin=subprocess.DEVNULL, capture_output=True, text=True, check=False)
+    how = {"stdin": subprocess.DEVNULL, "capture_output": True, "text": True, "env": {**os.environ, **environment}}
+    ran = subprocess.run([sys.executable, f"{room}/tools/try_edits.py", *words], **how, check=False)
     return ran.returncode, ran.stdout.splitlines()
+
+
+def write_tried(room, crate):
+    """Writes lines with today's sums for all edits of a crate."""
+    edits = edit_files.edits_of(crate, room)
+    here = try_edits.Sums(edit_files.listed(room), room).of(crate, edits)
+    write(f"{room}/crates/{crate}/wrong/TRIED", "".join(f"{it.name} {here[it.name]} by-search {it.clauses[0]}\n" for it in edits))
 
 
 def store_edit(old, clause):
@@ -224,7 +235,7 @@ class Reading(unittest.TestCase):
         """A changed edit, proof, clause below or constant below is tried, and a changed body or comment below is not."""
         names = lambda *words: called(self.room, "--list", *words)[1][0].split(" are tried")[0]
         self.assertEqual(names("high"), "1 of 1 edits")
-        self.write_tried("high")
+        write_tried(self.room, "high")
         for name, old, new, count in (
             ("low/src/lib.rt", "if a < b { a }", "if a < b { b }", 0),
             ("low/src/lib.rt", "/// The lesser of two", "/// The least of two", 0),
@@ -247,10 +258,145 @@ class Reading(unittest.TestCase):
         self.assertEqual(names("--all", "high"), "1 of 1 edits")
         self.assertEqual(names(), "6 of 6 edits")
 
-    def write_tried(self, crate):
-        lines, edits = edit_files.listed(self.room), edit_files.edits_of(crate, self.room)
-        here = try_edits.Sums(lines, self.room).of(crate, edits)
-        write(f"{self.room}/crates/{crate}/wrong/TRIED", "".join(f"{it.name} {here[it.name]} by-search {it.clauses[0]}\n" for it in edits))
+    def test_order(self):
+        """Crates with an edit that has no line are begun first, and then the ones with less source."""
+        order = lambda: [it.partition(":")[0] for it in called(self.room, "--all", "--list")[1][1:]]
+        self.assertEqual(order(), ["low", "high"])
+        write_tried(self.room, "low")
+        self.assertEqual(order(), ["high", "low"])
+        write_tried(self.room, "high")
+        self.assertEqual(order(), ["low", "high"])
+
+
+class Calling(unittest.TestCase):
+    """What the tool calls, with a command in the place of `rt` that proves nothing."""
+
+    def setUp(self):
+        room = tempfile.TemporaryDirectory()
+        self.addCleanup(room.cleanup)
+        self.room = room.name
+        repository(self.room)
+        line = LOW.split("\n").index("    if a < b { a } else { b }") + 1
+        write(f"{self.room}/said", f"note: src/lib.rt:{line}:5: it is not proved that it is so (`returns-clause-one`)\n{{}}logic=not-proved\n")
+        write(f"{self.room}/version", "rattle-kit-1 logic aa\n")
+        write(f"{self.room}/crates/low/out/rlib/low.rlib/code", "code\n")
+        write(f"{self.room}/crates/low/out/rlib/stamp", "stamp")
+        os.mkdir(f"{self.room}/copies")
+        self.environment = {"RT": f"{self.room}/rt", "TMPDIR": f"{self.room}/copies"}
+
+    def stand_in(self, checks):
+        """Makes the command: what it does in a check is a script."""
+        said = f"""crate=$(basename "$PWD"); echo $1 $crate >> {self.room}/calls
+{checks}
+echo "crate $crate: modules loaded=1"
+sed "s/{{}}/crate $crate: modules\\n/" {self.room}/said
+"""
+        write(f"{self.room}/rt", f"#!/bin/sh\nif [ $1 = version ]; then exec cat {self.room}/version; fi\n{said}")
+        os.chmod(f"{self.room}/rt", 0o755)
+
+    def called(self, *words):
+        return called(self.room, *words, **self.environment)
+
+    def sleeps_in(self, crate):
+        """Makes the command, which does not end in a check of this crate."""
+        self.stand_in(f"if [ $crate = {crate} ]; then echo $$ > {self.room}/asleep; sleep 600; fi")
+
+    def wait_until_asleep(self):
+        while not os.path.exists(f"{self.room}/asleep") or not edit_files.text_of(f"{self.room}/asleep"):
+            time.sleep(0.1)
+
+    def assert_all_ended(self):
+        """Of the call that slept no process runs any more, and no copy is left."""
+        call = int(edit_files.text_of(f"{self.room}/asleep"))
+        self.assertEqual(list(edit_copies.processes_of({call})), [])
+        self.assertEqual(os.listdir(f"{self.room}/copies"), [])
+
+    def test_out_of_time(self):
+        """What was not tried in time fails nothing and is told, and the rest is counted."""
+        self.sleeps_in("high")
+        began = time.monotonic()
+        status, lines = self.called("--minutes", "0.05", "--write")
+        self.assertLess(time.monotonic() - began, 60)
+        self.assertEqual(lines[-1], "1 passed, 4 failed", lines)
+        self.assertIn("1 of the 6 edits were not tried in 0.05 minutes: high/first_twice.edit", lines)
+        self.assertEqual(status, 1)
+        self.assertEqual(list(edit_files.tried_of("low", self.room)), ["least_is_the_second.edit"])
+        self.assertFalse(os.path.exists(f"{self.room}/crates/high/wrong/TRIED"))
+        self.assert_all_ended()
+
+    def test_nothing_in_time(self):
+        self.sleeps_in("low")
+        status, lines = self.called("--minutes", "0.05", "--jobs", "1")
+        self.assertEqual((status, lines[-1]), (0, "0 passed, 0 failed"))
+        self.assertTrue(lines[-2].startswith("none of the 6 edits was tried in 0.05 minutes: low/last_is_forgotten.edit "), lines)
+        self.assertTrue(lines[-2].endswith(" high/first_twice.edit"), lines)
+        self.assertEqual(edit_files.text_of(f"{self.room}/calls"), "check low\n")
+        self.assert_all_ended()
+
+    def test_interrupted(self):
+        self.sleeps_in("low")
+        words = [sys.executable, f"{self.room}/tools/try_edits.py", "low"]
+        with subprocess.Popen(words, stdout=subprocess.DEVNULL, env={**os.environ, **self.environment}) as ran:
+            self.wait_until_asleep()
+            ran.terminate()
+            self.assertEqual(ran.wait(60), 143)
+        self.assert_all_ended()
+
+    def test_killed(self):
+        """What does not end by itself is killed."""
+        write(f"{self.room}/rt", f"#!/bin/sh\ntrap '' TERM\necho $$ > {self.room}/asleep\nsleep 600\n")
+        os.chmod(f"{self.room}/rt", 0o755)
+        calls, came = edit_copies.Calls(), []
+
+        def call():
+            try:
+                calls.rt("check", at=self.room)
+            except edit_copies.OutOfTime:
+                came.append("out of time")
+
+        with mock.patch.dict(os.environ, self.environment), mock.patch.object(edit_copies, "PATIENCE", 3):
+            thread = threading.Thread(target=call)
+            thread.start()
+            self.wait_until_asleep()
+            calls.end()
+            thread.join()
+        self.assertEqual(came, ["out of time"])
+        self.assertRaises(edit_copies.OutOfTime, calls.rt, "check", at=self.room)
+        self.assert_all_ended()
+
+    def test_kept_work(self):
+        """A copy has the libraries below it and the kept work of its crate, and nothing of either changes here."""
+        kept = {"low/out/rlib/low.rlib/code", "low/out/rlib/stamp", "high/out/incremental/work"}
+        for name in ("high/out/incremental/work", "high/out/rlib/high.rlib/code", "low/out/incremental/work"):
+            write(f"{self.room}/crates/{name}", "code\n")
+        self.stand_in(f"(cd .. && find */out -type f) >> {self.room}/seen\necho more >> out/incremental/work\nrm -r ../low/out/rlib")
+        self.assertIn("high: 1 edits in 1 checks by rt check", self.called("high")[1])
+        self.assertEqual(set(edit_files.text_of(f"{self.room}/seen").split()), kept)
+        for name in kept - {"low/out/rlib/stamp"}:
+            self.assertEqual(edit_files.text_of(f"{self.room}/crates/{name}"), "code\n")
+
+    def test_way(self):
+        """By `rt ci` nothing is taken that was kept here: where a library below has no stamp, or where it is asked for."""
+        write(f"{self.room}/crates/high/out/incremental/work", "code\n")
+        self.stand_in(f"find . -path '*/out/*' >> {self.room}/seen")
+        self.called("high", "--by", "ci")
+        os.remove(f"{self.room}/crates/low/out/rlib/stamp")
+        self.called("high")
+        calls = [it.split()[0] for it in edit_files.text_of(f"{self.room}/calls").splitlines()]
+        self.assertEqual((calls, edit_files.text_of(f"{self.room}/seen")), (["fmt", "ci", "fmt", "ci"], ""))
+
+    def test_version(self):
+        """Of a version the logic alone is in the sums, or all of it where it names none."""
+        self.stand_in("")
+
+        def sums(version):
+            write(f"{self.room}/version", version)
+            with mock.patch.dict(os.environ, self.environment):
+                return try_edits.Sums(edit_files.listed(self.room), self.room).of("low", edit_files.edits_of("low", self.room))
+
+        self.assertEqual(sums("rattle-kit-1 logic aa\n"), sums("rattle-kit-2 logic aa\n"))
+        self.assertNotEqual(sums("rattle-kit-1 logic aa\n"), sums("rattle-kit-1 logic bb\n"))
+        self.assertNotEqual(sums("rattle-kit-1\n"), sums("rattle-kit-2\n"))
 
 
 class Proving(unittest.TestCase):
@@ -272,6 +418,18 @@ class Proving(unittest.TestCase):
             self.assertEqual(called(room, "--list", "low")[1][0].split(" are")[0], "3 of 5 edits")
             write(f"{room}/crates/low/src/lib.rt", low.replace("ensures one { result ≤ a }", "ensures one { result ≤ a }\n    ensures still { result ≤ a }"))
             self.assertEqual(called(room, "--list", "high")[1][0].split(" are")[0], "1 of 1 edits")
+
+    def test_kept_work(self):
+        """Over a library that is kept here, a check proves the crate above it alone."""
+        with tempfile.TemporaryDirectory() as room:
+            repository(room)
+            subprocess.run(["rt", "lib"], cwd=f"{room}/crates/low", stdin=subprocess.DEVNULL, stdout=subprocess.DEVNULL, check=True)
+            status, lines = called(room, "high", "--logs", f"{room}/logs")
+            self.assertEqual((status, lines[-1]), (0, "1 passed, 0 failed"), lines)
+            self.assertIn("high: 1 edits in 1 checks by rt check", lines)
+            said = edit_files.text_of(f"{room}/logs/high.1")
+            self.assertIn("\ncrate high: modules", said)
+            self.assertNotIn("\ncrate low: modules", said)
 
 
 if __name__ == "__main__":

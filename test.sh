@@ -3,10 +3,12 @@
 #   ./test.sh        the gate (rt ci), then edits (tools/try_edits.py), then the checks of tools/ that need no rights,
 #                    with the program that the gate built
 #   ./test.sh quick  all tests and programs with no proof (tools/try_quickly.py), and the checks that need no program
-# The last line is `N passed, M failed` over all of them, and the status is 0 only where M is 0.
+# The last line is `N passed, M failed` over all of them, and the status is 0 only where M is 0. Before it stands what each
+# part took.
 cd "$(dirname "$0")" || exit 2
 exec < /dev/null
 passed=0 failed=0 program=$PWD/crates/uffs/out/uffs
+parts=() clock=0 used=0
 
 # Runs a command that ends in a line `N passed, M failed`, and adds these.
 counted() {
@@ -35,11 +37,27 @@ checked() {
     fi
 }
 
+# Keeps what a part took since the one before it: by the clock, and of processor time, of all commands that have ended.
+took() {
+    local of all
+    read -ra of < "/proc/$$/stat"
+    all=$(((of[15] + of[16]) / $(getconf CLK_TCK)))
+    parts+=("$1: $(((SECONDS - clock + 30) / 60)) minutes by the clock, $(((all - used + 30) / 60)) of processor time")
+    clock=$SECONDS used=$all
+}
+
 case ${1:-} in
     '') counted rt ci
-        # without its proofs, each edit would prove crates anew
-        if [ "$failed" = 0 ]; then counted tools/try_edits.py --confirmed --jobs "$(nproc)"; else echo "== the edits are not tried, since the gate failed"; fi ;;
-    quick) counted tools/try_quickly.py ;;
+        took "rt ci"
+        # (an edit of a crate that is not proved tells nothing)
+        if [ "$failed" = 0 ]; then
+            counted tools/try_edits.py --confirmed --jobs "$(nproc)" --minutes 20
+            took tools/try_edits.py
+        else
+            echo "== the edits are not tried, since the gate failed"
+        fi ;;
+    quick) counted tools/try_quickly.py
+        took tools/try_quickly.py ;;
     *) echo "test.sh: it takes quick, or no word" >&2
        exit 2 ;;
 esac
@@ -66,5 +84,8 @@ else
     counted tools/c/client_test.sh "$program"
 fi
 
+took "the checks of tools/"
+
+printf '%s\n' "${parts[@]}"
 echo "$passed passed, $failed failed"
 [ "$failed" = 0 ]

@@ -364,6 +364,19 @@ sed "s/{{}}/crate $crate: modules\\n/" {self.room}/said
         self.assertRaises(edit_copies.OutOfTime, calls.rt, "check", at=self.room)
         self.assert_all_ended()
 
+    def test_copy(self):
+        """A copy has what is read for the proofs of its crate and of those below it, with the edits of one round alone."""
+        for name in ("low/specs/Lib.antt", "low/proofs/Lib.antt", "high/proofs/Lib.antt", "high/c/high.c"):
+            write(f"{self.room}/crates/{name}", "code\n")
+        write(f"{self.room}/crates/high/wrong/first_alone.edit", "file: src/lib.rt\nold: least(a, b)\nnew: a\nclause: returns\n")
+        self.stand_in(f"echo more >> proofs/Lib.antt; find ../.. -type f ! -path '*/out/*' >> {self.room}/seen; cat src/lib.rt proofs/Lib.antt >> {self.room}/read")
+        self.assertIn("high: 2 edits in 2 checks by rt check", self.called("high")[1])
+        found = [it.removeprefix("../../crates/") for it in edit_files.text_of(f"{self.room}/seen").split()]
+        files = ["high/c/high.c", "high/proofs/Lib.antt", "high/src/lib.rt", "low/proofs/Lib.antt", "low/specs/Lib.antt", "low/src/lib.rt"]
+        self.assertEqual(sorted(found), sorted(2 * ["../../HANDLES", "../../crates.txt", *files]))
+        texts = [HIGH.replace("least(a, b)", it) + "code\nmore\n" for it in ("a", "least(a, a)")]
+        self.assertEqual(edit_files.text_of(f"{self.room}/read"), "".join(texts))
+
     def test_kept_work(self):
         """A copy has the libraries below it and the kept work of its crate, and nothing of either changes here."""
         kept = {"low/out/rlib/low.rlib/code", "low/out/rlib/stamp", "high/out/incremental/work"}

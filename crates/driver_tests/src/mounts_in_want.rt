@@ -1,4 +1,4 @@
-//! Mounts, which keep no bytes of bodies and five bytes a block while they go on.
+//! Mounts, which keep no bytes of bodies and nine bytes a block while they go on.
 use crate::budget::Budget;
 use flash_model::Geometry;
 use flash_simulation::SimFlash;
@@ -9,7 +9,7 @@ use undofs::{Fs, Path, format};
 
 /// How many bytes a mount may want of a flash of so many blocks.
 fn mount_bytes(blocks: u32) -> usize {
-    32_768 + 5 * blocks as usize
+    32_768 + 9 * blocks as usize
 }
 
 /// Writes a file of so many bytes, and commits it.
@@ -50,7 +50,7 @@ fn body_of_1_mib_on_blocks_of_128_kib_is_not_kept(rt: HostRuntime) -> Result<(),
 }
 
 #[test]
-fn most_blocks_want_five_bytes_each(rt: HostRuntime) -> Result<(), Fail> {
+fn most_blocks_want_nine_bytes_each(rt: HostRuntime) -> Result<(), Fail> {
     let sizes = Geometry {
         page: 256,
         pages: 16,

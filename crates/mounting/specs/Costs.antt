@@ -24,8 +24,8 @@ pub record AsksEach (old : Device) (roots : List ℕ) (new : Device) : Type 0 wh
   pub are : AreReached (node_of old) roots blocks
   pub most : new.operations ≤ old.operations + length blocks * old.geometry.pages
 
--- the most pages of a verification for these blocks: each of their nodes' own once, and one first page for each pointer of a
--- body's node but the last and for the node after a directory's; and a block's pages for each read of the depths
+-- the most pages of a verification for these blocks: each of their nodes' own once, and the first page of the node after one of a
+-- directory; and a block's pages for each read of the depths
 abbrev pub verify_pages : Device → List ℕ → ℕ
 verify_pages d blocks = sum_by (λ b. all_pages d.geometry.page (block_bytes d.geometry) (node_of d b)) blocks
 

@@ -1,6 +1,6 @@
 //! The mounts that are measured.
 use crate::error::MeasureError;
-use crate::texts::{HISTORY, MANY_BLOCKS, SMALL_BLOCKS, counts_after, formatted};
+use crate::texts::{BLOCKS_OF_A_PAGE, HISTORY, MANY_BLOCKS, SMALL_BLOCKS, counts_after, formatted};
 use crate::watched::{Counts, Watched};
 use flash_model::Geometry;
 use std::alloc::Global;
@@ -75,5 +75,21 @@ pub const MOUNTS: &[Mount] = &[
         sizes: SMALL_BLOCKS,
         history: HISTORY,
         before: &["open /f 7", "fill 1048576", "sync"],
+    },
+    Mount {
+        name: "mount with 40 MiB in blocks of one page",
+        sizes: BLOCKS_OF_A_PAGE,
+        history: HISTORY,
+        before: &[
+            "open /f 7",
+            "fill 16777216",
+            "close 0",
+            "open /g 7",
+            "fill 16777216",
+            "close 0",
+            "open /h 7",
+            "fill 8388608",
+            "sync",
+        ],
     },
 ];

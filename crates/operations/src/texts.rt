@@ -30,6 +30,13 @@ pub const LARGE_BLOCKS: Geometry = Geometry {
     blocks: 512,
 };
 
+/// Blocks of one page.
+pub const BLOCKS_OF_A_PAGE: Geometry = Geometry {
+    page: 4096,
+    pages: 1,
+    blocks: 16_384,
+};
+
 /// How many bytes the files have that are read in pieces.
 const MIB: usize = 1_048_576;
 

@@ -25,7 +25,7 @@ halved : (m power n : ℕ) → n ≡ suc m * (power + power) → n - power ≡ s
 halved m power n e = omega arith
 
 -- the node that slot x leads to has slot x too
-half_divides : (x index : ℕ) → Divides (suc x) index → Divides x (index - 2 ^ x)
+pub half_divides : (x index : ℕ) → Divides (suc x) index → Divides x (index - 2 ^ x)
 half_divides x index (zero, e) = (0, omega arith)
 half_divides x index (suc m, e) = (suc (m + m), halved m (2 ^ x) index (e ∙ ap (λ (p : ℕ). suc m * p) (power_double x)))
 
@@ -33,7 +33,7 @@ half_divides x index (suc m, e) = (suc (m + m), halved m (2 ^ x) index (e ∙ ap
 doubled : (m power n : ℕ) → n ≡ m * (power + power) → n ≡ (m + m) * power
 doubled m power n e = omega arith
 
-fewer_divides : (x index : ℕ) → Divides (suc x) index → Divides x index
+pub fewer_divides : (x index : ℕ) → Divides (suc x) index → Divides x index
 fewer_divides x index (m, e) = (m + m, doubled m (2 ^ x) index (e ∙ ap (λ (p : ℕ). m * p) (power_double x)))
 
 -- the same of the slots that nodes have

@@ -1,11 +1,12 @@
 -- What nodes allow of the lengths of files, and what a table tells of it.
-use Rattle.std.proofs.Common.{◌≡◌, ◌⊎◌, inl, inr, ℕ, zero, suc, ◌+◌, ◌-◌, ◌*◌, ◌/◌, ◌^◌, ◌<◌, ◌≤◌, Bool, true, false, cond, Option, Some, None, List, [], ◌∷◌, ◌++◌, length, take, drop, length-drop, refl, sym, ap, subst, ◌∙◌, arith}
+use Rattle.std.proofs.Common.{◌≡◌, ◌⊎◌, inl, inr, ℕ, zero, suc, ◌+◌, ◌-◌, ◌*◌, ◌/◌, ◌^◌, ◌<◌, ◌≤◌, Bool, true, false, cond, Option, Some, None, List, [], ◌∷◌, ◌++◌, length, take, drop, length-drop, refl, sym, ap, subst, ◌∙◌, arith, suc-mul}
 use Rattle.std.specs.Prelude.{Contains, slice_index, is_some, map, nat_le, nat_lt, ◌==◌}
 use Rattle.std.specs.FinSet as set
 use Rattle.std.specs.Ordering.{nat_cmp}
 use Rattle.std.specs.Option.{option_map_or}
 use Rattle.std.specs.List.{flat_map}
 use Rattle.std.proofs.lemmas.Nat.{div-mul-add}
+use Rattle.std.proofs.Math.Nat.{zero-mul}
 use Rattle.std.proofs.lemmas.Bool.{true≢false, cases_lt, lt-ltb, ltb-true, leb-true}
 use Rattle.std.proofs.lemmas.List.{take_more, take-append-drop, take-append-le, flat_map_more, get_or-take, length-take-le}
 use Rattle.std.proofs.lemmas.List.Elements.{Contains-append_left, Contains-append_right, Contains-append_cases, Contains-get_or}
@@ -16,11 +17,11 @@ use Rattle.node_format.specs.Links.{Link}
 use Rattle.node_format.specs.Directories.{size_of}
 use Rattle.node_format.specs.declared.place.Place.{Place}
 use Rattle.node_format.specs.declared.place.Place.TheVariants.{Dir, File}
-use Rattle.block_trees.specs.Bodies.{Blocks, index_of, data_of, head_index}
+use Rattle.block_trees.specs.Bodies.{Blocks, index_of, pointer_of, data_of, head_index}
 use Rattle.block_trees.specs.Chains.{link_of, link_items}
 use Rattle.block_trees.specs.Reached.{Reached}
 use Rattle.block_trees.proofs.Entries.{directory_no_index}
-use Rattle.reclaim.specs.Heads.{fits, in_word, longest, longest_by, FitsHead, FitHeads, IsKept, KeepsHeads, places_read, HeadsAreTold}
+use Rattle.reclaim.specs.Heads.{fits, in_word, longest, longest_by, length_before, before_told, told_in, told_by, FitsHead, FitHeads, IsKept, KeepsHeads, places_read, HeadsAreTold}
 use Rattle.reclaim.specs.Looks.{IsSoundFile, places_of, used_of, Says}
 use Rattle.reclaim.specs.Passes.{Pass, IsPass, Advances}
 use Rattle.reclaim.specs.Sound.{IsHead, IsSoundPlace}
@@ -28,7 +29,7 @@ use Rattle.reclaim.specs.Tables.{IsTold, HasSeen}
 use Rattle.reclaim.specs.Verified.{AreRoots}
 use Rattle.reclaim.specs.declared.looks.Parts.{Parts}
 use Rattle.reclaim.specs.declared.table.Table.{Table}
-use Rattle.reclaim.proofs.FrontHeads.{used_bytes, item_of}
+use Rattle.reclaim.proofs.FrontNames.{size_is}
 use Rattle.reclaim.proofs.Heads.{fits_parts, fits_from, fits_none}
 use Rattle.reclaim.proofs.Lengths.{entry_short, head_short}
 use Rattle.reclaim.proofs.Marking.{begins_at, begins_length}
@@ -38,6 +39,16 @@ some_is : (a b : ℕ) → Some a ≡ Some b → a ≡ b
 some_is a b is = ap (λ (o : Option ℕ). option_map_or (λ n. n) o a) is
 
 -- ---- body nodes
+
+-- the bytes of a body node after its header are those that it uses
+used_bytes : (block index : ℕ) (bytes : List ℕ) → IsNode block bytes → index_of (Some bytes) ≡ Some index → field bytes 8 ≡ length (drop 80 bytes)
+used_bytes block index bytes node is = on (field bytes 0 == body_magic) is node
+  where
+    on : (t : Bool) → cond t (Some (field bytes 4)) None ≡ Some index
+        → cond t (body_size block (field bytes 8)) (cond (field bytes 0 == directory_magic) (directory_size block (field bytes 4) (field bytes 8)) (cond (field bytes 0 == chain_magic) (directory_size block (field bytes 4) (field bytes 8)) None)) ≡ Some (length bytes)
+        → field bytes 8 ≡ length (drop 80 bytes)
+    on true is size = omega (arith, size_is block (field bytes 8) (length bytes) size, length-drop 80 bytes)
+    on false is size = absurd cc
 
 body_within : (limit used n : ℕ) → body_size limit used ≡ Some n → (0 < used) × (n ≡ 80 + used) × (80 + used ≤ limit)
 body_within limit used n is = on (nat_lt 0 used) (nat_le (body_header + used) limit) refl refl is
@@ -124,6 +135,56 @@ module _ (limit : ℕ) (f : Blocks) (whole : (b : ℕ) (bytes : List ℕ) → f 
   file_fits (File head zero) small few own = own
   file_fits (File head (suc n)) small few own = head_fits head n small few own
 
+  -- the head of the file of all full nodes up to one is that one, and it is full
+  pub full_from : (before i n : ℕ) → suc n ≡ suc i * (limit - 80) → IsHead (limit - 80) f before (suc n) → (index_of (f before) ≡ Some i) × (length (data_of (f before)) ≡ limit - 80)
+  full_from before i n same own =
+      let size = data_within before (head_index capacity (suc n)) own.0 in
+      let all : suc n ≡ i * capacity + capacity = omega (arith, same, suc-mul i capacity) in
+      let at : head_index capacity (suc n) ≡ i = ap (head_index capacity) all ∙ last_index capacity i capacity (omega (arith, size.0, size.1)) (omega arith) in
+      let few : suc n ≤ i * capacity + length (data_of (f before)) = subst (λ (k : ℕ). suc n ≤ k * capacity + length (data_of (f before))) at own.1 in
+      (own.0 ∙ ap (λ (k : ℕ). Some k) at, omega (arith, few, all, size.1))
+    where
+      capacity : ℕ
+      capacity = limit - 80
+
+  pub full_head : (before i n : ℕ) → suc n ≡ suc i * (limit - 80) → index_of (f before) ≡ Some i → length (data_of (f before)) ≡ limit - 80 → IsHead (limit - 80) f before (suc n)
+  full_head before i n same is full =
+      let size = data_within before i is in
+      let all : suc n ≡ i * capacity + capacity = omega (arith, same, suc-mul i capacity) in
+      let at : head_index capacity (suc n) ≡ i = ap (head_index capacity) all ∙ last_index capacity i capacity (omega (arith, size.0, size.1)) (omega arith) in
+      (is ∙ ap (λ (k : ℕ). Some k) (sym at), subst (λ (k : ℕ). suc n ≤ k * capacity + length (data_of (f before))) (sym at) (omega (arith, all, full)))
+    where
+      capacity : ℕ
+      capacity = limit - 80
+
+  -- where a node of a body follows others, blocks have room for bytes
+  pub some_room : (b i : ℕ) → index_of (f b) ≡ Some i → 0 < limit - 80
+  some_room b i is = let size = data_within b i is in omega (arith, size.0, size.1)
+
+-- ---- the bytes before a node
+
+before_in : (before n : ℕ) (place : Place) → Contains (before_told before n) place → (k : ℕ) × (n ≡ suc k) × (place ≡ File before (suc k))
+before_in before zero place has = absurd (omega (arith, has.1))
+before_in before (suc k) place (zero, lt, is) = (k, refl, sym is)
+before_in before (suc k) place (suc j, lt, is) = absurd (omega (arith, lt))
+
+length_is : (capacity i n : ℕ) → length_before capacity (Some i) ≡ suc n → (suc n ≡ i * capacity) × (suc n < MAX_FILE_BYTES)
+length_is capacity i n is = on (nat_lt (i * capacity) MAX_FILE_BYTES) refl is
+  where
+    on : (t : Bool) → nat_lt (i * capacity) MAX_FILE_BYTES ≡ t → cond t (i * capacity) 0 ≡ suc n → (suc n ≡ i * capacity) × (suc n < MAX_FILE_BYTES)
+    on true less same = (sym same, omega (arith, same, ltb-true (i * capacity) MAX_FILE_BYTES less))
+    on false past same = absurd (omega (arith, same))
+
+length_of : (capacity i : ℕ) → i * capacity < MAX_FILE_BYTES → length_before capacity (Some i) ≡ i * capacity
+length_of capacity i less = ap (λ (t : Bool). cond t (i * capacity) 0) (lt-ltb (i * capacity) MAX_FILE_BYTES less)
+
+-- what parts tell is what the node tells
+pub told_said : (capacity : ℕ) (node : Option (List ℕ)) (parts : Parts) → Says node parts → told_in capacity parts ≡ told_by capacity node
+told_said capacity node parts says =
+    ap (λ (l : List Place). l ++ before_told (slice_index parts.pointers.items 0) (length_before capacity parts.index)) says.places
+    ∙ ap (λ (b : ℕ). places_of node ++ before_told b (length_before capacity parts.index)) (says.named.pointers_are 0 (omega arith))
+    ∙ ap (λ (o : Option ℕ). places_of node ++ before_told (pointer_of node 0) (length_before capacity o)) says.named.index_is
+
 -- a node of a directory allows none
 pub link_allows : (capacity : ℕ) (node : Option (List ℕ)) (l : Link) → link_of node ≡ Some l → longest capacity node ≡ 0
 link_allows capacity node l is = ap (λ (o : Option ℕ). longest_by capacity o (length (data_of node))) (directory_no_index node l is)
@@ -150,18 +211,23 @@ parts_allow limit node parts whole says =
 
 -- ---- the entries that were read
 
-entry_in : (g : ℕ → List Place) (xs : List ℕ) (b : ℕ) (place : Place) → Contains xs b → Contains (g b) place → Contains (flat_map g xs) place
-entry_in g [] b place (k, lt, is) has = absurd (omega (arith, lt))
-entry_in g (x ∷ xs) b place (zero, lt, is) has = Contains-append_left (g x) (flat_map g xs) place (subst (λ (c : ℕ). Contains (g c) place) (sym is) has)
-entry_in g (x ∷ xs) b place (suc k, lt, is) has = Contains-append_right (g x) (flat_map g xs) place (entry_in g xs b place (k, omega (arith, lt), is) has)
+pub entry_in : {X : Type 0} → (g : ℕ → List X) (xs : List ℕ) (b : ℕ) (place : X) → Contains xs b → Contains (g b) place → Contains (flat_map g xs) place
+entry_in {X} g [] b place (k, lt, is) has = absurd (omega (arith, lt))
+entry_in {X} g (x ∷ xs) b place (zero, lt, is) has = Contains-append_left (g x) (flat_map g xs) place (subst (λ (c : ℕ). Contains (g c) place) (sym is) has)
+entry_in {X} g (x ∷ xs) b place (suc k, lt, is) has = Contains-append_right (g x) (flat_map g xs) place (entry_in g xs b place (k, omega (arith, lt), is) has)
 
-entry_of : (g : ℕ → List Place) (xs : List ℕ) (place : Place) → Contains (flat_map g xs) place → (b : ℕ) × Contains xs b × Contains (g b) place
-entry_of g [] place (k, lt, is) = absurd (omega (arith, lt))
-entry_of g (x ∷ xs) place has = either (Contains-append_cases (g x) (flat_map g xs) place has) (entry_of g xs place)
+pub entry_of : {X : Type 0} → (g : ℕ → List X) (xs : List ℕ) (place : X) → Contains (flat_map g xs) place → (b : ℕ) × Contains xs b × Contains (g b) place
+entry_of {X} g [] place (k, lt, is) = absurd (omega (arith, lt))
+entry_of {X} g (x ∷ xs) place has = either (Contains-append_cases (g x) (flat_map g xs) place has) (entry_of g xs place)
   where
     either : Contains (g x) place ⊎ Contains (flat_map g xs) place → (Contains (flat_map g xs) place → (b : ℕ) × Contains xs b × Contains (g b) place) → (b : ℕ) × Contains (x ∷ xs) b × Contains (g b) place
     either (inl here) again = (x, (0, omega arith, refl), here)
     either (inr there) again = let own = again there in (own.0, Contains-append_right (x ∷ []) xs own.0 own.1, own.2)
+
+-- the block of a place
+abbrev head_at : Place → ℕ
+head_at (Dir block) = block
+head_at (File head size) = head
 
 -- a place among those of a node's entries
 place_in : (items : List Item) (item : Item) → Contains items item → Contains (map (λ (item : Item). item.place) items) item.place
@@ -169,27 +235,57 @@ place_in [] item (k, lt, is) = absurd (omega (arith, lt))
 place_in (x ∷ xs) item (zero, lt, is) = (0, omega arith, ap (λ (i : Item). i.place) is)
 place_in (x ∷ xs) item (suc k, lt, is) = Contains-append_right (x.place ∷ []) (map (λ (item : Item). item.place) xs) item.place (place_in xs item (k, omega (arith, lt), is))
 
+-- the entry that has a place
+item_of : (items : List Item) (at : Place) → Contains (map (λ (item : Item). item.place) items) at → (item : Item) × Contains items item × (item.place ≡ at)
+item_of [] at (k, lt, is) = absurd (omega arith)
+item_of (x ∷ xs) at (zero, lt, is) = (x, (0, omega arith, refl), is)
+item_of (x ∷ xs) at (suc k, lt, is) = let rest = item_of xs at (k, omega arith, is) in (rest.0, Contains-append_right (x ∷ []) xs rest.0 rest.1, rest.2)
+
 -- what was read is among the blocks that were taken
 pub seen_taken : (f : Blocks) (p : Pass) (b : ℕ) → IsPass f p → HasSeen p b → Contains (take p.next p.order) b
 seen_taken f p b pass (k, lt, at) =
     subst (Contains (take p.next p.order)) (get_or-take p.next p.order k 0 lt ∙ at) (Contains-get_or (take p.next p.order) k 0 (omega (arith, lt, length-take-le p.next p.order pass.within)))
 
-taken_listed : (p : Pass) (b : ℕ) → Contains (take p.next p.order) b → Contains p.order b
+pub taken_listed : (p : Pass) (b : ℕ) → Contains (take p.next p.order) b → Contains p.order b
 taken_listed p b has = subst (λ (l : List ℕ). Contains l b) (take-append-drop p.next p.order) (Contains-append_left (take p.next p.order) (drop p.next p.order) b has)
 
 -- ---- where all was read
 
 module _ (limit : ℕ) (f : Blocks) (p : Pass) (t : Table) (pass : IsPass f p) (whole : (b : ℕ) (bytes : List ℕ) → f b ≡ Some bytes → IsNode limit bytes) (heads : HeadsAreTold (limit - 80) f p t) where
-  -- the file of an entry of a node that was read is sound, where its head was read
-  pub told_file : (b : ℕ) (item : Item) → HasSeen p b → Contains (link_items (f b)) item → ((head size : ℕ) → item.place ≡ File head size → 0 < size → HasSeen p head) → IsSoundFile (limit - 80) f item.place
-  told_file b item seen within head_seen = file_from limit f whole item.place (on item.place refl (heads.kept item.place (entry_in (λ c. places_of (f c)) (take p.next p.order) b item.place (seen_taken f p b pass seen) (place_in (link_items (f b)) item within))))
+  -- what a node that was read tells of a head is so, where that was read
+  told_place : (b : ℕ) (place : Place) → HasSeen p b → Contains (told_by (limit - 80) (f b)) place → ((head size : ℕ) → place ≡ File head size → 0 < size → HasSeen p head) → IsSoundFile (limit - 80) f place
+  told_place b place seen within head_seen = file_from limit f whole place (on place refl (heads.kept place (entry_in (λ c. told_by (limit - 80) (f c)) (take p.next p.order) b place (seen_taken f p b pass seen) within)))
     where
-      on : (place : Place) → item.place ≡ place → IsKept (limit - 80) t place → FitsHead (limit - 80) (λ c. longest (limit - 80) (f c)) place
-      on (Dir block) at kept = tt
-      on (File head zero) at kept = kept
-      on (File head (suc n)) at kept =
-          let was = heads.all head (seen_taken f p head pass (head_seen head (suc n) at (omega arith))) in
+      on : (at : Place) → place ≡ at → IsKept (limit - 80) t at → FitsHead (limit - 80) (λ c. longest (limit - 80) (f c)) at
+      on (Dir block) is kept = tt
+      on (File head zero) is kept = kept
+      on (File head (suc n)) is kept =
+          let was = heads.all head (seen_taken f p head pass (head_seen head (suc n) is (omega arith))) in
           ap (fits (limit - 80) (suc n)) (sym (heads.read head was kept.1)) ∙ kept.2
+
+  -- the file of an entry is sound
+  pub told_file : (b : ℕ) (item : Item) → HasSeen p b → Contains (link_items (f b)) item → ((head size : ℕ) → item.place ≡ File head size → 0 < size → HasSeen p head) → IsSoundFile (limit - 80) f item.place
+  told_file b item seen within head_seen =
+      told_place b item.place seen
+      (Contains-append_left (places_of (f b)) (before_told (pointer_of (f b) 0) (length_before (limit - 80) (index_of (f b)))) item.place (place_in (link_items (f b)) item within)) head_seen
+
+  -- the node before one of a body is full and has the index before
+  pub told_before : (b i : ℕ) → HasSeen p b → index_of (f b) ≡ Some (suc i) → suc i * (limit - 80) < MAX_FILE_BYTES → HasSeen p (pointer_of (f b) 0)
+      → (index_of (f (pointer_of (f b) 0)) ≡ Some i) × (length (data_of (f (pointer_of (f b) 0))) ≡ limit - 80)
+  told_before b i seen is short before_seen = on (suc i * (limit - 80)) refl
+    where
+      before : ℕ
+      before = pointer_of (f b) 0
+
+      on : (n : ℕ) → suc i * (limit - 80) ≡ n → (index_of (f before) ≡ Some i) × (length (data_of (f before)) ≡ limit - 80)
+      on zero none = absurd (omega (arith, none, suc-mul i (limit - 80), some_room limit f whole b (suc i) is))
+      on (suc n) some =
+          let size : length_before (limit - 80) (index_of (f b)) ≡ suc n = ap (length_before (limit - 80)) is ∙ length_of (limit - 80) (suc i) short ∙ some in
+          full_from limit f whole before i n (sym some)
+          (told_place b (File before (suc n)) seen
+          (Contains-append_right (places_of (f b)) (before_told before (length_before (limit - 80) (index_of (f b)))) (File before (suc n))
+          (subst (λ (k : ℕ). Contains (before_told before k) (File before (suc n))) (sym size) (0, omega arith, refl)))
+          (λ head size at more. subst (HasSeen p) (ap head_at at) before_seen))
 
 -- ---- where roots have trees
 
@@ -211,31 +307,59 @@ module _ (limit : ℕ) (f : Blocks) (roots : List ℕ) (trees : AreRoots limit f
           on None is within = absurd (omega (arith, within.1))
           on (Some l) is within = file item.place (((trees_are_sound (limit - 80) f roots trees).nodes b reached).names.entries l is item within)
 
-  -- all entries that a pass has read fit, and those of a block that it reads next
-  pub trees_fit : (p : Pass) (block : ℕ) (places : List Place) → p.roots ≡ roots → IsPass f p → Reached f roots block → places ≡ places_of (f block) → FitHeads (limit - 80) (λ c. longest (limit - 80) (f c)) (places_read f p ++ places)
-  trees_fit p block places same pass reached are place has = elim (Contains-append_cases (places_read f p) places place has) [
+  -- the node before one of a body
+  before_fits : (b : ℕ) → Reached f roots b → (place : Place) → Contains (before_told (pointer_of (f b) 0) (length_before (limit - 80) (index_of (f b)))) place → FitsHead (limit - 80) (λ c. longest (limit - 80) (f c)) place
+  before_fits b reached place has = on (index_of (f b)) refl has
+    where
+      before : ℕ
+      before = pointer_of (f b) 0
+
+      by : (i n : ℕ) → index_of (f b) ≡ Some i → suc n ≡ i * (limit - 80) → suc n < MAX_FILE_BYTES → FitsHead (limit - 80) (λ c. longest (limit - 80) (f c)) (File before (suc n))
+      by zero n is same few = absurd (omega (arith, same, zero-mul (limit - 80)))
+      by (suc i) n is same few =
+          let own = ((trees_are_sound (limit - 80) f roots trees).nodes b reached).names.pointers (suc i) is in
+          file_fits limit f whole (File before (suc n)) small (omega (arith, few)) (full_head limit f whole before i n same own.0 own.1)
+
+      on : (o : Option ℕ) → index_of (f b) ≡ o → Contains (before_told before (length_before (limit - 80) o)) place → FitsHead (limit - 80) (λ c. longest (limit - 80) (f c)) place
+      on None is within = absurd (omega (arith, within.1))
+      on (Some i) is within =
+          let (n, size, at) = before_in before (length_before (limit - 80) (Some i)) place within in
+          let own = length_is (limit - 80) i n size in
+          subst (FitsHead (limit - 80) (λ c. longest (limit - 80) (f c))) (sym at) (by i n is own.0 own.1)
+
+  -- all that a node tells
+  all_fits : (b : ℕ) → Reached f roots b → (place : Place) → Contains (told_by (limit - 80) (f b)) place → FitsHead (limit - 80) (λ c. longest (limit - 80) (f c)) place
+  all_fits b reached place has = elim (Contains-append_cases (places_of (f b)) (before_told (pointer_of (f b) 0) (length_before (limit - 80) (index_of (f b)))) place has) [
+    | inl entry ↦ node_fits b reached place entry
+    | inr before ↦ before_fits b reached place before
+  ]
+
+  -- all that the nodes tell that a pass has read, and that of a block that it reads next
+  pub trees_fit : (p : Pass) (block : ℕ) (places : List Place) → p.roots ≡ roots → IsPass f p → Reached f roots block → places ≡ told_by (limit - 80) (f block)
+      → FitHeads (limit - 80) (λ c. longest (limit - 80) (f c)) (places_read (limit - 80) f p ++ places)
+  trees_fit p block places same pass reached are place has = elim (Contains-append_cases (places_read (limit - 80) f p) places place has) [
     | inl before ↦
-        let own = entry_of (λ c. places_of (f c)) (take p.next p.order) place before in
-        node_fits own.0 (subst (λ (l : List ℕ). Reached f l own.0) same (pass.reached own.0 (taken_listed p own.0 own.1))) place own.2
-    | inr here ↦ node_fits block reached place (subst (λ (l : List Place). Contains l place) are here)
+        let own = entry_of (λ c. told_by (limit - 80) (f c)) (take p.next p.order) place before in
+        all_fits own.0 (subst (λ (l : List ℕ). Reached f l own.0) same (pass.reached own.0 (taken_listed p own.0 own.1))) place own.2
+    | inr here ↦ all_fits block reached place (subst (λ (l : List Place). Contains l place) are here)
   ]
 
 -- ---- one block more
 
 module _ (f : Blocks) (p q : Pass) (block : ℕ) (on : Advances p q) (left : p.next < length p.order) (at : block ≡ slice_index p.order p.next) (next : q.next ≡ p.next + 1) where
-  taken_on : take q.next q.order ≡ take p.next p.order ++ block ∷ []
+  pub taken_on : take q.next q.order ≡ take p.next p.order ++ block ∷ []
   taken_on =
       ap (λ (n : ℕ). take n q.order) next ∙ take_more q.order p.next 0 (omega (arith, left, begins_length p.order q.order on.begins))
       ∙ ap (λ (l : List ℕ). l ++ slice_index q.order p.next ∷ []) (ap (take p.next) (sym on.begins.1) ∙ take-append-le p.next p.order on.begins.0 (omega (arith, left)))
       ∙ ap (λ (b : ℕ). take p.next p.order ++ b ∷ []) (begins_at p.order q.order p.next on.begins left ∙ sym at)
 
-  places_on : places_read f q ≡ places_read f p ++ places_of (f block)
-  places_on = ap (flat_map (λ b. places_of (f b))) taken_on ∙ sym (flat_map_more (λ b. places_of (f b)) [] (take p.next p.order) block)
+  places_on : (capacity : ℕ) → places_read capacity f q ≡ places_read capacity f p ++ told_by capacity (f block)
+  places_on capacity = ap (flat_map (λ b. told_by capacity (f b))) taken_on ∙ sym (flat_map_more (λ b. told_by capacity (f b)) [] (take p.next p.order) block)
 
-  pub heads_on : (capacity : ℕ) (places : List Place) (t : Table) → places ≡ places_of (f block) → KeepsHeads capacity (λ b. longest capacity (f b)) (take p.next p.order ++ block ∷ []) (places_read f p ++ places) t → HeadsAreTold capacity f q t
+  pub heads_on : (capacity : ℕ) (places : List Place) (t : Table) → places ≡ told_by capacity (f block) → KeepsHeads capacity (λ b. longest capacity (f b)) (take p.next p.order ++ block ∷ []) (places_read capacity f p ++ places) t → HeadsAreTold capacity f q t
   heads_on capacity places t are keeps =
-      subst (λ (l : List ℕ). KeepsHeads capacity (λ b. longest capacity (f b)) l (places_read f q) t) (sym taken_on)
-      (subst (λ (l : List Place). KeepsHeads capacity (λ b. longest capacity (f b)) (take p.next p.order ++ block ∷ []) l t) (ap (λ (l : List Place). places_read f p ++ l) are ∙ sym places_on) keeps)
+      subst (λ (l : List ℕ). KeepsHeads capacity (λ b. longest capacity (f b)) l (places_read capacity f q) t) (sym taken_on)
+      (subst (λ (l : List Place). KeepsHeads capacity (λ b. longest capacity (f b)) (take p.next p.order ++ block ∷ []) l t) (ap (λ (l : List Place). places_read capacity f p ++ l) are ∙ sym (places_on capacity)) keeps)
 
 -- a block that is read next is not known
 pub next_fresh : (f : Blocks) (p : Pass) (t : Table) (block : ℕ) → IsPass f p → IsTold f p t → p.next < length p.order → block ≡ slice_index p.order p.next → set.contains t.links.members block ≡ false
@@ -258,6 +382,6 @@ heads_none capacity f p t none high links read words = record {
   links = λ b has. absurd (true≢false (sym has ∙ ap (λ s. set.contains s b) links ∙ set.contains-empty nat_cmp b));
   all = λ b has. absurd (omega (arith, (subst (λ (n : ℕ). Contains (take n p.order) b) none has).1));
   read = λ b has. absurd (true≢false (sym has ∙ ap (λ s. set.contains s b) read ∙ set.contains-empty nat_cmp b));
-  kept = λ place has. absurd (omega (arith, (subst (λ (n : ℕ). Contains (flat_map (λ b. places_of (f b)) (take n p.order)) place) none has).1));
+  kept = λ place has. absurd (omega (arith, (subst (λ (n : ℕ). Contains (flat_map (λ b. told_by capacity (f b)) (take n p.order)) place) none has).1));
   from = λ b lacks unread word. absurd (word (words b));
 }

@@ -53,24 +53,24 @@ fits_either capacity a b most first second fails = elim (cases_lt b a) [
 
 -- ---- entries
 
-by_same : (P : Type 0) (a b : ℕ) → (a ≡ b → P) → (a ≢ b → P) → P
+pub by_same : (P : Type 0) (a b : ℕ) → (a ≡ b → P) → (a ≢ b → P) → P
 by_same P a b same other = on (eqb a b) refl
   where
     on : (s : Bool) → eqb a b ≡ s → P
     on true is = same (eqb-true a b is)
     on false is = other (λ e. true≢false (sym (eq-eqb a b e) ∙ is))
 
-by_bool : (P : Type 0) (t : Bool) → (t ≡ true → P) → (t ≡ false → P) → P
+pub by_bool : (P : Type 0) (t : Bool) → (t ≡ true → P) → (t ≡ false → P) → P
 by_bool P true holds fails = holds refl
 by_bool P false holds fails = fails refl
 
 -- another block of a set with one more was in it before
-contains_other : (members : set.FinSet nat_cmp) (b c : ℕ) → c ≢ b → set.contains (set.insert members b) c ≡ true → set.contains members c ≡ true
+pub contains_other : (members : set.FinSet nat_cmp) (b c : ℕ) → c ≢ b → set.contains (set.insert members b) c ≡ true → set.contains members c ≡ true
 contains_other members b c other has =
     ap (λ t. t || set.contains members c) (sym (unsigned_tied c b ∙ ne_eqb c b other))
     ∙ sym (set.contains-insert nat_cmp_total members b c) ∙ has
 
-lacked : (members : set.FinSet nat_cmp) (b c : ℕ) → set.contains (set.insert members b) c ≡ false → set.contains members c ≡ false
+pub lacked : (members : set.FinSet nat_cmp) (b c : ℕ) → set.contains (set.insert members b) c ≡ false → set.contains members c ≡ false
 lacked members b c lacks = by_bool (set.contains members c ≡ false) (set.contains members c) (λ has. absurd (true≢false (sym (contains-kept members b c has) ∙ lacks))) (λ none. none)
 
 lacks_other : (members : set.FinSet nat_cmp) (b c : ℕ) → c ≢ b → set.contains members c ≡ false → set.contains (set.insert members b) c ≡ false

@@ -14,7 +14,7 @@ use Rattle.node_format.specs.declared.place.Place.TheVariants.{Dir, File}
 use Rattle.block_trees.specs.Bodies.{Blocks, index_of}
 use Rattle.block_trees.specs.Reached.{Reached, Names, PlaceNames, Agrees}
 use Rattle.reclaim.specs.Kinds.{HoldsBodyNode, FileNames, NamesBody, IsKnownMarking, Knows, read_pages, mark_pages, HasAsked}
-use Rattle.reclaim.specs.Passes.{Pass, Begins, IsMarked, IsPass, AreNoted, Advances}
+use Rattle.reclaim.specs.Passes.{Pass, Begins, IsMarked, IsPass, AreNoted}
 use Rattle.reclaim.specs.Verified.{AreRoots}
 use Rattle.reclaim.proofs.Costs.{sum_more}
 use Rattle.reclaim.proofs.Marking.{begins_has, begins_at, begins_length, pass_stays}

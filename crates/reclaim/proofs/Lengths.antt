@@ -1,9 +1,9 @@
 -- The files of a directory are not too long, and so the indices of their nodes are small.
-use Rattle.std.proofs.Common.{◌≡◌, ◌⊎◌, inl, inr, ℕ, zero, suc, ◌-◌, ◌*◌, ◌^◌, ◌<◌, ◌≤◌, cond, Option, Some, None, List, [], ◌∷◌, drop, refl, sym, subst, arith}
+use Rattle.std.proofs.Common.{◌≡◌, ◌⊎◌, inl, inr, ℕ, zero, suc, ◌-◌, ◌*◌, ◌<◌, ◌≤◌, cond, Option, Some, None, List, [], ◌∷◌, drop, refl, sym, subst, arith}
 use Rattle.std.specs.Prelude.{Contains, eqb, leb}
 use Rattle.std.specs.Option.{option_map_or}
-use Rattle.std.proofs.Math.Nat.{div-mul-le_self, pow-le-pow_right}
-use Rattle.std.proofs.lemmas.Bool.{leb-true, cases_lt}
+use Rattle.std.proofs.Math.Nat.{div-mul-le_self}
+use Rattle.std.proofs.lemmas.Bool.{leb-true}
 use Rattle.std.proofs.lemmas.Nat.{mul-le}
 use Rattle.node_format.specs.Headers.{field}
 use Rattle.node_format.specs.Items.{Item}
@@ -16,9 +16,7 @@ use Rattle.fields.specs.Numbers.{byte_at, number_at}
 use Rattle.fields.proofs.Found.{bind_some, passed, chosen, some_is}
 use Rattle.block_trees.specs.Bodies.{head_index}
 use Rattle.block_trees.specs.Chains.{link_items}
-use Rattle.reclaim.proofs.Chains.{divides_least}
 use Rattle.fs_types.specs.declared.limits.TheConstants.{MAX_FILE_BYTES}
-use Rattle.node_format.specs.BodyNodes.{Divides}
 
 -- ---- files
 
@@ -82,18 +80,3 @@ head_short capacity n few = omega (arith, div-mul-le_self (suc n - 1) capacity)
 
 pub shorter : (capacity i j : ℕ) → j ≤ i → i * capacity < MAX_FILE_BYTES → j * capacity < MAX_FILE_BYTES
 shorter capacity i j le short = omega (arith, mul-le j capacity i capacity le (omega arith), short)
-
--- a small index, where nodes are large
-pub index_small : (capacity index : ℕ) → 2 ^ 11 ≤ capacity → index * capacity < MAX_FILE_BYTES → index < 2 ^ 13
-index_small capacity index large short = elim (cases_lt index (2 ^ 13)) [
-  | inl below ↦ below
-  | inr past ↦ absurd (omega (arith, mul-le (2 ^ 13) (2 ^ 11) index capacity past large, short))
-]
-
-pub divides-short : (index x : ℕ) → 0 < index → index < 2 ^ 13 → Divides x index → x < 13
-divides-short index x some small divides = elim (cases_lt x 13) [
-  | inl below ↦ below
-  | inr past ↦
-      let more : 2 ^ 13 ≤ 2 ^ x = pow-le-pow_right {n = 2} (omega arith) past in
-      absurd (omega (arith, more, divides_least x index some divides, small))
-]

@@ -8,7 +8,6 @@ pub mod Soundness
 pub mod Verifying
 pub mod Costs
 pub mod FrontNames
-pub mod FrontHeads
 pub mod KnownPasses
 pub mod Tables
 pub mod Linked
@@ -16,7 +15,11 @@ pub mod Looked
 pub mod Follows
 pub mod Telling
 pub mod Heads
+pub mod Steps
+pub mod LastSlots
 pub mod HeadLengths
+pub mod BodyChains
+pub mod ToldTops
 pub mod MoreRoots
 pub mod Paths
 pub mod BodyHeaders

@@ -1,5 +1,5 @@
 -- Roots have trees exactly where each look finds a node sound, and the table whole.
-use Rattle.std.proofs.Common.{◌≡◌, ◌≢◌, inl, inr, ℕ, ◌-◌, ◌<◌, ◌≤◌, Bool, true, false, cond, Option, Some, None, List, [], refl, sym, ap, subst, ◌∙◌, arith}
+use Rattle.std.proofs.Common.{◌≡◌, ◌≢◌, inl, inr, ℕ, suc, ◌-◌, ◌*◌, ◌<◌, ◌≤◌, Bool, true, false, cond, Option, Some, None, List, [], length, refl, sym, ap, subst, ◌∙◌, arith}
 use Rattle.std.specs.FinSet as set
 use Rattle.std.specs.Prelude.{Contains, All, slice_index, nat_lt, not}
 use Rattle.std.specs.Option.{option_map_or}
@@ -9,20 +9,24 @@ use Rattle.node_format.specs.Items.{Item}
 use Rattle.node_format.specs.Links.{Link}
 use Rattle.node_format.specs.declared.place.Place.{Place}
 use Rattle.node_format.specs.declared.place.Place.TheVariants.{Dir, File}
-use Rattle.block_trees.specs.Bodies.{Blocks}
+use Rattle.fs_types.specs.declared.limits.TheConstants.{MAX_FILE_BYTES}
+use Rattle.node_format.specs.BodyNodes.{HasSlot}
+use Rattle.block_trees.specs.Bodies.{Blocks, index_of, pointer_of, data_of}
 use Rattle.block_trees.specs.Chains.{link_of, next_of, link_items, most_after}
 use Rattle.block_trees.specs.Reached.{Reached, IsNamed, Names, PlaceNames}
-use Rattle.reclaim.specs.Looks.{NamesNodes, NextHoldsLink, IsSoundFile, IsLooked}
+use Rattle.reclaim.specs.Looks.{NextHoldsLink, IsSoundFile, IsLooked}
 use Rattle.reclaim.specs.Passes.{Pass, IsPass, IsFinished}
-use Rattle.reclaim.specs.Sound.{HoldsLink, IsSoundPlace, IsSoundNode, IsPlain, IsPlainNode}
+use Rattle.reclaim.specs.Sound.{HoldsLink, IsSoundPlace, IsSoundBody, IsSoundNode, IsPlain, IsPlainNode}
 use Rattle.reclaim.specs.Tables.{IsTold, HasSeen, NamesDirectory, has_link, ends_after, ends_from, is_whole_at}
+use Rattle.reclaim.specs.Tops.{top_of}
 use Rattle.reclaim.specs.Verified.{AreRoots, AreLooked}
 use Rattle.reclaim.specs.declared.table.Table.{Table}
+use Rattle.reclaim.proofs.BodyChains.{told_body}
 use Rattle.reclaim.proofs.Costs.{next_held}
 use Rattle.reclaim.proofs.Directories.{begun_exact}
 use Rattle.reclaim.proofs.Linked.{ends_go, goes_end, ends_first, directory_followed, next_is}
 use Rattle.reclaim.proofs.Marking.{pass_marks}
-use Rattle.reclaim.proofs.Soundness.{trees_are_sound, trees_hold_nodes}
+use Rattle.reclaim.proofs.Soundness.{trees_are_sound}
 use Rattle.reclaim.proofs.Verifying.{all_of, at_place}
 
 pub list_is : (node : Option (List ℕ)) (l : Link) → link_of node ≡ Some l → link_items node ≡ l.items
@@ -56,7 +60,9 @@ module _ (f : Blocks) (p : Pass) (pass : IsPass f p) (end : IsFinished p) where
 -- ---- where all was looked at, and the table is whole
 
 module _ (capacity : ℕ) (f : Blocks) (plain : Bool) (p : Pass) (t : Table) (pass : IsPass f p) (end : IsFinished p) (told : IsTold f p t) (high : (b : ℕ) → p.blocks ≤ b → f b ≡ None)
-    (looked : AreLooked capacity f plain p) (files : (b : ℕ) (item : Item) → HasSeen p b → Contains (link_items (f b)) item → IsSoundFile capacity f item.place) (whole : (b : ℕ) → b < t.links.blocks → is_whole_at t b ≡ true) where
+    (looked : AreLooked capacity f plain p) (files : (b : ℕ) (item : Item) → HasSeen p b → Contains (link_items (f b)) item → IsSoundFile capacity f item.place)
+    (before : (b i : ℕ) → HasSeen p b → index_of (f b) ≡ Some (suc i) → suc i * capacity < MAX_FILE_BYTES → (index_of (f (pointer_of (f b) 0)) ≡ Some i) × (length (data_of (f (pointer_of (f b) 0))) ≡ capacity))
+    (tops : (b i x : ℕ) → HasSeen p b → index_of (f b) ≡ Some i → HasSlot i (suc x) → top_of (f (pointer_of (f b) x)) ≡ pointer_of (f b) (suc x)) (whole : (b : ℕ) → b < t.links.blocks → is_whole_at t b ≡ true) where
   parts_of : (b : ℕ) → has_link t b ≡ true → (nat_lt b t.links.blocks ≡ true) × (set.contains t.links.members b ≡ true)
   parts_of b has = and_parts (nat_lt b t.links.blocks) (set.contains t.links.members b) has
 
@@ -80,11 +86,8 @@ module _ (capacity : ℕ) (f : Blocks) (plain : Bool) (p : Pass) (t : Table) (pa
       let at : slice_index t.words.items b ≡ l.next = (tells b has).1 ∙ next_is (f b) l is in
       (tells l.next (ends_first 30 (has_link t) (slice_index t.words.items) l.next some (ap (ends_from most_after (has_link t) (slice_index t.words.items)) (sym at) ∙ ends b has))).0
 
-  names_nodes : (b : ℕ) → HasSeen p b → NamesNodes f (f b)
-  names_nodes b seen c names = seen_holds f p pass end c (names_seen f p pass end b c seen names)
-
   own : (b : ℕ) → HasSeen p b → IsLooked capacity f plain (f b)
-  own b seen = looked b seen (names_nodes b seen) (next_holds b seen)
+  own b seen = looked b seen (next_holds b seen)
 
   entry : (b : ℕ) → HasSeen p b → (l : Link) → link_of (f b) ≡ Some l → (item : Item) → Contains l.items item → IsSoundPlace capacity f item.place
   entry b seen l is item within = subst (IsSoundPlace capacity f) refl (on item.place refl (files b item seen there))
@@ -95,15 +98,23 @@ module _ (capacity : ℕ) (f : Blocks) (plain : Bool) (p : Pass) (t : Table) (pa
       on : (place : Place) → item.place ≡ place → IsSoundFile capacity f place → IsSoundPlace capacity f place
       on (Dir c) at file =
           let names : Names (f b) c = inl (item, there, subst (λ (q : Place). PlaceNames q c) (sym at) refl) in
-          let below : c < p.blocks = elim (cases_lt c p.blocks) [ inl less ↦ less | inr past ↦ absurd (names_nodes b seen c names (high c past)) ] in
+          let below : c < p.blocks = elim (cases_lt c p.blocks) [ inl less ↦ less | inr past ↦ absurd (seen_holds f p pass end c (names_seen f p pass end b c seen names) (high c past)) ] in
           (tells c (named_held c (told.named b c seen (item, there, at) below) below)).0
       on (File head size) at file = file
+
+  short : (b i : ℕ) → Reached f p.roots b → index_of (f b) ≡ Some i → i * capacity < MAX_FILE_BYTES
+  short b i reached is = (own b (reached_seen f p pass end b reached)).short i is
+
+  bodies : (b i : ℕ) → Reached f p.roots b → index_of (f b) ≡ Some i → IsSoundBody capacity f (pointer_of (f b)) i
+  bodies =
+      told_body capacity f p.roots short (λ b i reached is. before b i (reached_seen f p pass end b reached) is (short b (suc i) reached is))
+      (λ b i x reached is has. tops b i x (reached_seen f p pass end b reached) is has)
 
   pub looked_sound : (b : ℕ) → Reached f p.roots b → IsSoundNode capacity f b
   looked_sound b reached =
       let seen = reached_seen f p pass end b reached in
       record {
-        names = record { entries = entry b seen; pointers = (own b seen).parts.pointers; short = (own b seen).parts.short };
+        names = record { entries = entry b seen; pointers = λ i is. bodies b i reached is; short = λ i is. short b i reached is };
         directory = λ (l, is).
             let has = told.links b seen (l, is) in
             let at : slice_index t.words.items b ≡ l.next = (tells b has).1 ∙ next_is (f b) l is in
@@ -124,9 +135,6 @@ module _ (limit : ℕ) (f : Blocks) (roots : List ℕ) (trees : AreRoots limit f
   sound_at : (b : ℕ) → Reached f roots b → IsSoundNode (limit - 80) f b
   sound_at b reached = (trees_are_sound (limit - 80) f roots trees).nodes b reached
 
-  pub tree_names : (b : ℕ) → Reached f roots b → NamesNodes f (f b)
-  tree_names b reached c names = trees_hold_nodes (limit - 80) f roots trees c (IsNamed reached names)
-
   pub tree_next : (b : ℕ) → Reached f roots b → NextHoldsLink f (f b)
   tree_next b reached l is some =
       let at = next_is (f b) l is in
@@ -136,7 +144,7 @@ module _ (limit : ℕ) (f : Blocks) (roots : List ℕ) (trees : AreRoots limit f
   tree_looked plain b reached alone =
       let own = sound_at b reached in
       record {
-        parts = record { pointers = own.names.pointers; short = own.names.short };
+        short = own.names.short;
         followed = directory_followed f b own.directory;
         alone = alone;
       }

@@ -1,26 +1,20 @@
 -- What one look at a block shows.
-use Rattle.std.proofs.Common.{◌≡◌, ◌≢◌, ◌↔◌, ◌⊎◌, inl, inr, ℕ, zero, suc, ◌+◌, ◌-◌, ◌*◌, ◌^◌, ◌<◌, ◌≤◌, Bool, true, false, cond, ◌&&◌, Option, Some, None, List, [], length, drop, length-drop, refl, sym, ap, subst, ◌∙◌, arith}
-use Rattle.std.specs.Prelude.{◌||◌, not, IsTrue, is_some, nat_eq, nat_lt, unwrap_or, slice_index}
-use Rattle.std.specs.Option.{option_map, option_map_or, option_eq}
-use Rattle.std.proofs.lemmas.Bool.{true≢false, cases_lt, and_parts, ltb-true, lt-ltb, eqb-true, ne_eqb}
+use Rattle.std.proofs.Common.{◌≡◌, ◌≢◌, ◌↔◌, ◌⊎◌, inl, inr, ℕ, ◌<◌, ◌≤◌, Bool, true, false, cond, Option, Some, None, List, [], refl, sym, ap, subst, ◌∙◌, arith}
+use Rattle.std.specs.Prelude.{IsTrue, is_some}
+use Rattle.std.specs.Option.{option_map, option_map_or}
+use Rattle.std.proofs.lemmas.Bool.{true≢false, cases_lt, ne_eqb}
 use Rattle.fs_types.specs.declared.fault.Fault.{Fault}
 use Rattle.fs_types.specs.declared.fault.Fault.TheVariants.{ReadFailed, PowerCut, NoMemory, Damaged}
 use Rattle.nodes.specs.Faults.{IsLookFault, IsReadFault}
 use Rattle.node_format.specs.Links.{Link}
-use Rattle.block_trees.specs.Bodies.{Blocks, index_of, pointer_of, data_of}
+use Rattle.block_trees.specs.Bodies.{Blocks, index_of}
 use Rattle.block_trees.specs.Chains.{link_of, next_of}
-use Rattle.reclaim.specs.Naming.{has_slot}
 use Rattle.reclaim.specs.declared.edge.Edge.{Edge}
 use Rattle.reclaim.specs.declared.looks.Parts.{Parts}
-use Rattle.reclaim.specs.Sound.{IsPlainNode, HoldsSlot, IsSoundBody}
-use Rattle.reclaim.specs.Looks.{SlotsHold, NextHoldsLink, IsFollowed, IsLooked, is_chained, edge_of, edge_at, last_name, may_follow, body_of, index_reads, link_reads, edge_reads, parts_reads, look_reads, Says, AreSteppedTo, ArePartsOf, IsSoundAt, AreSoundParts}
+use Rattle.reclaim.specs.Sound.{IsPlainNode}
+use Rattle.reclaim.specs.Looks.{NextHoldsLink, IsFollowed, IsShort, IsLooked, is_chained, edge_of, edge_at, last_name, may_follow, link_reads, edge_reads, look_reads, Says}
 use Rattle.fs_types.specs.Names.{Name}
 use Rattle.fields.proofs.Found.{some_is as found_is}
-use Rattle.reclaim.proofs.Chains.{fewer_slots}
-use Rattle.reclaim.proofs.NamedLaws.{has_slot-divides, divides-has_slot}
-use Rattle.reclaim.proofs.Lengths.{divides-short}
-use Rattle.fs_types.specs.declared.limits.TheConstants.{MAX_FILE_BYTES}
-use Rattle.node_format.specs.declared.headers.TheConstants.{SLOTS}
 
 pub never : IsTrue false → ⊥
 never is = true≢false (sym is)
@@ -40,144 +34,6 @@ look_other fault is damaged = never (subst IsLookFault damaged is)
 pub read_look : (fault : Fault) → IsReadFault fault → (fault ≡ Damaged → ⊥) → IsLookFault fault
 read_look Damaged is other = absurd (other refl)
 read_look _ is other = is
-
--- ---- bodies
-
--- the parts of a body
-pub body_parts : (node : Option (List ℕ)) (index held : ℕ) → body_of node ≡ Some (index, held) → (index_of node ≡ Some index) × (length (data_of node) ≡ held)
-body_parts node index held is = on (index_of node) is
-  where
-    on : (o : Option ℕ) → option_map {U = ℕ × ℕ} (λ (i : ℕ). (i, length (data_of node))) o ≡ Some (index, held) → (o ≡ Some index) × (length (data_of node) ≡ held)
-    on None is = absurd cc
-    on (Some i) is =
-        let pair : (i, length (data_of node)) ≡ (index, held) = ap (λ (o : Option (ℕ × ℕ)). unwrap_or o (i, length (data_of node))) is in
-        (ap (λ (p : ℕ × ℕ). Some p.0) pair, ap (λ (p : ℕ × ℕ). p.1) pair)
-
--- a test of pairs that says no difference
-pub same_pair : (o : Option (ℕ × ℕ)) (index held : ℕ) (differs : Bool) → differs ≡ not (option_eq (λ x y. nat_eq x.0 y.0 && nat_eq x.1 y.1) o (Some (index, held)))
-    → differs ≡ false → o ≡ Some (index, held)
-same_pair None index held differs is equal = absurd (true≢false (sym is ∙ equal))
-same_pair (Some (i, n)) index held differs is equal =
-    let both = and_parts (nat_eq i index) (nat_eq n held) (not_false (nat_eq i index && nat_eq n held) (sym is ∙ equal)) in
-    ap (λ (k : ℕ). Some (k, n)) (eqb-true i index both.0) ∙ ap (λ (k : ℕ). Some (index, k)) (eqb-true n held both.1)
-  where
-    not_false : (t : Bool) → not t ≡ false → t ≡ true
-    not_false true e = refl
-    not_false false e = absurd (true≢false e)
-
-some_is : (a b : ℕ) → Some a ≡ Some b → a ≡ b
-some_is a b is = ap (λ (o : Option ℕ). unwrap_or o a) is
-
--- ---- pointers
-
-pub stepped_not : (f : Blocks) (p : ℕ → ℕ) (index x : ℕ) (holds : Bool) → x < 12 → has_slot index (suc x) ≡ true → holds ≡ false
-    → (IsTrue holds ↔ HoldsSlot (f (p x)) x (p (suc x))) → IsTrue false ↔ AreSteppedTo f p index 12
-stepped_not f p index x holds below has fails exact = (λ t. absurd (never t), λ all. sym fails ∙ exact.1 (all x below has))
-
-pub stepped_more : (f : Blocks) (p : ℕ → ℕ) (index x : ℕ) → AreSteppedTo f p index x → (has_slot index (suc x) ≡ true → HoldsSlot (f (p x)) x (p (suc x))) → AreSteppedTo f p index (x + 1)
-stepped_more f p index x so_far here y below has = elim (cases_lt y x) [
-  | inl before ↦ so_far y before has
-  | inr past ↦
-      let same : x ≡ y = omega arith in
-      subst (λ (k : ℕ). HoldsSlot (f (p k)) k (p (suc k))) same (here (ap (λ (k : ℕ). has_slot index (suc k)) same ∙ has))
-]
-
--- what stands at the first slot of the node before
-pub or_has : (names has : Bool) → (names || not has) ≡ true → has ≡ true → names ≡ true
-or_has true has one is = refl
-or_has false true one is = cc
-or_has false false one is = cc
-
-pub or_lacks : (names has : Bool) → (names || not has) ≡ false → (has ≡ true) × (names ≡ false)
-or_lacks true has none = absurd (true≢false none)
-or_lacks false true none = (refl, refl)
-or_lacks false false none = absurd (true≢false none)
-
-pub body_good : (capacity : ℕ) (f : Blocks) (p : ℕ → ℕ) (index : ℕ) (stepped : Bool) → index < 2 ^ 13 → index ≢ 0 → body_of (f (p 0)) ≡ Some (index - 1, capacity)
-    → (IsTrue stepped ↔ AreSteppedTo f p index 12) → IsTrue stepped ↔ IsSoundBody capacity f p index
-body_good capacity f p zero stepped fits some is exact = absurd (some refl)
-body_good capacity f p (suc i) stepped fits some is exact = (
-  λ t. let all = exact.0 t in (
-    parts.0 ∙ ap (λ (n : ℕ). Some n) less,
-    parts.1,
-    λ x slot.
-        let below : suc x < 13 = divides-short (suc i) (suc x) slot.1 fits slot.2 in
-        all x (omega arith) (divides-has_slot (suc i) (suc x) slot.1 slot.2),
-  ),
-  λ h. exact.1 (λ x below has. let own = has_slot-divides (suc i) (suc x) has in h.2 x (omega arith, own.0, own.1)),
-)
-  where
-    less : suc i - 1 ≡ i
-    less = omega arith
-
-    parts : (index_of (f (p 0)) ≡ Some (suc i - 1)) × (length (data_of (f (p 0))) ≡ capacity)
-    parts = body_parts (f (p 0)) (suc i - 1) capacity is
-
--- pointers that are the same at all slots
-pub body_same : (capacity : ℕ) (f : Blocks) (p q : ℕ → ℕ) (index : ℕ) → ((x : ℕ) → x < SLOTS → p x ≡ q x) → IsSoundBody capacity f p index → IsSoundBody capacity f q index
-body_same capacity f p q zero same h = tt
-body_same capacity f p q (suc i) same h = (
-  subst (λ (b : ℕ). index_of (f b) ≡ Some i) first h.0,
-  subst (λ (b : ℕ). length (data_of (f b)) ≡ capacity) first h.1,
-  λ x has.
-      let before : x < SLOTS = omega (arith, has.0) in
-      subst (λ (b : ℕ). HoldsSlot (f b) x (q (suc x))) (same x before) (subst (HoldsSlot (f (p x)) x) (same (suc x) has.0) (h.2 x has)),
-)
-  where
-    first : p 0 ≡ q 0
-    first = same 0 (omega arith)
-
--- ---- nodes
-
-pub node_plain : (capacity : ℕ) (f : Blocks) (node : Option (List ℕ)) → index_of node ≡ None → IsTrue true ↔ AreSoundParts capacity f node
-node_plain capacity f node none = (
-  λ t. record {
-    pointers = λ index some. absurd (true≢false (ap is_some (sym some ∙ none)));
-    short = λ index some. absurd (true≢false (ap is_some (sym some ∙ none)));
-  },
-  λ h. refl,
-)
-
-pub node_body : (capacity : ℕ) (f : Blocks) (node : Option (List ℕ)) (index : ℕ) (pointers : ℕ → ℕ) (sound : Bool) → index_of node ≡ Some index → ((x : ℕ) → x < SLOTS → pointers x ≡ pointer_of node x)
-    → index * capacity < MAX_FILE_BYTES → (IsTrue sound ↔ IsSoundBody capacity f pointers index) → IsTrue sound ↔ AreSoundParts capacity f node
-node_body capacity f node index pointers sound has same short body = (
-  λ t. record {
-    pointers = λ i some.
-        let own : index ≡ i = some_is index i (sym has ∙ some) in
-        subst (IsSoundBody capacity f (pointer_of node)) own (body_same capacity f pointers (pointer_of node) index same (body.0 t));
-    short = λ i some. subst (λ (k : ℕ). k * capacity < MAX_FILE_BYTES) (some_is index i (sym has ∙ some)) short;
-  },
-  λ h. body.1 (body_same capacity f (pointer_of node) pointers index (λ x below. sym (same x below)) (h.pointers index has)),
-)
-
--- the same parts in other words
-pub parts_same : (node : Option (List ℕ)) (pointers pointers' : List ℕ) (index : Option ℕ) → pointers' ≡ pointers → ArePartsOf node pointers index → ArePartsOf node pointers' index
-parts_same node pointers pointers' index same_pointers parts = subst (λ (p : List ℕ). ArePartsOf node p index) (sym same_pointers) parts
-
--- a node by its parts: no index, and an index
-pub parts_plain : (capacity : ℕ) (f : Blocks) (pointers : List ℕ) (index : Option ℕ) → index ≡ None → (node : Option (List ℕ)) → ArePartsOf node pointers index → IsTrue true ↔ AreSoundParts capacity f node
-parts_plain capacity f pointers index none node parts = node_plain capacity f node (sym parts.index_is ∙ none)
-
-pub parts_body : (capacity : ℕ) (f : Blocks) (pointers : List ℕ) (index : ℕ) (sound : Bool) → (IsTrue sound ↔ IsSoundAt capacity f (slice_index pointers) index) → (node : Option (List ℕ)) → ArePartsOf node pointers (Some index)
-    → IsTrue sound ↔ AreSoundParts capacity f node
-parts_body capacity f pointers index sound here node parts = (λ t. (whole t).0 t, λ h. here.1 (h.short index (sym parts.index_is), body_same capacity f (pointer_of node) (slice_index pointers) index (λ x below. sym (parts.pointers_are x below)) (h.pointers index (sym parts.index_is))))
-  where
-    whole : IsTrue sound → IsTrue sound ↔ AreSoundParts capacity f node
-    whole t =
-        let at = here.0 t in
-        node_body capacity f node index (slice_index pointers) sound (sym parts.index_is) parts.pointers_are at.0 (λ s. (here.0 s).1, λ b. t)
-
--- a test that is answered by another, where a file can have the index
-pub at_long : (capacity : ℕ) (f : Blocks) (p : ℕ → ℕ) (index : ℕ) (short : Bool) → short ≡ nat_lt (index * capacity) MAX_FILE_BYTES → short ≡ false → IsTrue false ↔ IsSoundAt capacity f p index
-at_long capacity f p index short is long = (λ t. absurd (never t), λ h. sym long ∙ is ∙ lt-ltb (index * capacity) MAX_FILE_BYTES h.0)
-
--- ---- what calls answered
-
--- the node that a slot before another leads to
-pub slot_there : (f h : Blocks) (p : ℕ → ℕ) (index x : ℕ) → h ≡ f → suc x < SLOTS → has_slot index (suc x) ≡ true → SlotsHold f p index → h (p x) ≢ None
-slot_there f h p index x same below has hold none =
-    let own = has_slot-divides index (suc x) has in
-    hold x (fewer_slots x index (below, own.0, own.1)) (ap (λ (k : Blocks). k (p x)) (sym same) ∙ none)
 
 -- ---- what comes after
 
@@ -239,19 +95,21 @@ edge_next node edge says = first edge ∙ ap (λ (o : Option (Name × ℕ)). opt
     second (Some l) = refl
 
 -- the parts of a node tell how many reads a look at it may ask
-pub said_reads : (node : Option (List ℕ)) (parts : Parts) → Says node parts → parts_reads parts ≡ look_reads node
-said_reads node parts says = omega (arith, ap index_reads says.named.index_is, edge_next node parts.edge says.edge)
+pub said_reads : (node : Option (List ℕ)) (parts : Parts) → Says node parts → edge_reads parts.edge ≡ look_reads node
+said_reads node parts says = edge_next node parts.edge says.edge
 
 -- ---- a whole look
 
 pub alone_of : (node : Option (List ℕ)) (chained : Bool) → chained ≡ is_chained node → chained ≡ false → IsPlainNode node
 alone_of node chained same alone l is = sym (ap (λ (o : Option Link). option_map_or (λ k. k.chained) o false) is) ∙ sym same ∙ alone
 
-pub look_exact : (capacity : ℕ) (f h : Blocks) (plain : Bool) (node : Option (List ℕ)) (good : Bool) → h ≡ f → (IsTrue good ↔ AreSoundParts capacity h node) → IsFollowed f node → (plain ≡ true → IsPlainNode node)
+pub look_exact : (capacity : ℕ) (f : Blocks) (plain : Bool) (node : Option (List ℕ)) (good : Bool) → IsShort capacity (index_of node) → (IsTrue good ↔ IsFollowed f node) → (plain ≡ true → IsPlainNode node)
     → IsTrue good ↔ IsLooked capacity f plain node
-look_exact capacity f h plain node good same exact followed alone =
-    let own : IsTrue good ↔ AreSoundParts capacity f node = subst (λ (k : Blocks). IsTrue good ↔ AreSoundParts capacity k node) same exact in
-    (λ t. record { parts = own.0 t; followed = followed; alone = alone }, λ h. own.1 h.parts)
+look_exact capacity f plain node good short exact alone = (λ t. record { short = short; followed = exact.0 t; alone = alone }, λ h. exact.1 h.followed)
+
+-- an index that no file has
+pub look_long : (capacity : ℕ) (f : Blocks) (plain : Bool) (node : Option (List ℕ)) (index : Option ℕ) (short : Bool) → index ≡ index_of node → (IsTrue short ↔ IsShort capacity index) → short ≡ false → IsTrue false ↔ IsLooked capacity f plain node
+look_long capacity f plain node index short same exact fails = (λ t. absurd (never t), λ h. sym fails ∙ exact.1 (subst (IsShort capacity) (sym same) h.short))
 
 -- what is told of the node after one that says this
 pub edge_some : (node : Option (List ℕ)) (edge : Option Edge) → option_map (λ (e : Edge). (e.last.items, e.next)) edge ≡ edge_at node → is_some edge ≡ is_some (link_of node)

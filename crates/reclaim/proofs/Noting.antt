@@ -9,22 +9,29 @@ use Rattle.block_trees.specs.Reached.{Reached, Names}
 use Rattle.nodes.specs.Words.{Looks}
 use Rattle.nodes.specs.declared.nodes.Nodes.{Ghosts}
 use Rattle.reclaim.specs.Facts.{AreFacts}
-use Rattle.reclaim.specs.Heads.{IsNew, TakesNode, HeadsAreTold, longest, places_read}
+use Rattle.reclaim.specs.Heads.{IsNew, TakesNode, HeadsAreTold, longest, told_in, places_read}
 use Rattle.reclaim.specs.Levels.{GoesOn, Stands, AreLeveled}
-use Rattle.reclaim.specs.Looks.{Says, NamesNodes, NextHoldsLink, IsLooked}
+use Rattle.reclaim.specs.Looks.{Says, NextHoldsLink, IsLooked}
 use Rattle.reclaim.specs.Passes.{Pass, IsPass, Advances}
 use Rattle.reclaim.specs.Tables.{IsTold, TakesIn, NamesDirectory}
+use Rattle.reclaim.specs.Tops.{HasSize, TakesTop, TopsAreTold, top_by, top_of, steps_by, steps_read}
 use Rattle.reclaim.specs.Verified.{AreAllowed}
-use Rattle.reclaim.specs.Verifying.{HasNoted, IsVerifying, HasLookedAt}
+use Rattle.reclaim.specs.Verifying.{HasNoted, HasTold, IsVerifying, HasLookedAt}
 use Rattle.reclaim.specs.declared.edge.Edge.{Edge}
 use Rattle.reclaim.specs.declared.facts.Facts.{Facts}
 use Rattle.reclaim.specs.declared.levels.Levels.{Levels}
 use Rattle.reclaim.specs.declared.table.Table.{Table}
-use Rattle.reclaim.proofs.HeadLengths.{parts_allow, linked_allows, next_fresh, trees_fit, heads_on}
-use Rattle.reclaim.proofs.Looked.{tree_names, tree_next, tree_looked}
+use Rattle.reclaim.specs.declared.tops.Tops.{Tops}
+use Rattle.reclaim.proofs.HeadLengths.{parts_allow, linked_allows, told_said, next_fresh, trees_fit, heads_on}
+use Rattle.reclaim.proofs.Looked.{tree_next, tree_looked}
 use Rattle.reclaim.proofs.Looking.{next_said, edge_some}
 use Rattle.reclaim.proofs.Paths.{leveled_on, stands_block, no_entries}
 use Rattle.reclaim.proofs.Telling.{told_on, next_reached}
+use Rattle.reclaim.proofs.ToldTops.{top_said, steps_said, tree_tops, tops_on}
+
+-- what is kept of last slots is of the same flash
+pub sized_on : (p q : Pass) (k m : Tops) → Advances p q → HasSize p.blocks k → HasSize k.read.blocks m → HasSize q.blocks m
+sized_on p q k m on before now = subst (λ (n : ℕ). HasSize n m) (before.read ∙ sym on.blocks) now
 
 -- one block more was read, and this is what its node tells
 module _ (f : Blocks) (p q : Pass) (t u : Table) (v w : Levels) (block : ℕ) (facts : Facts) (noted : HasNoted f p t v) (left : p.next < length p.order) (at : block ≡ slice_index p.order p.next)
@@ -73,41 +80,54 @@ module _ (f : Blocks) (p q : Pass) (t u : Table) (v w : Levels) (block : ℕ) (f
 
     pub heads_next : (good : Bool) → HeadsAreTold (limit - 80) f p t → TakesNode (limit - 80) block facts.parts t u good → good ≡ true → HeadsAreTold (limit - 80) f q u
     heads_next good heads taken is =
-        heads_on f p q block on left at next (limit - 80) facts.parts.places.items u are.says.places (taken.kept (λ b. longest (limit - 80) (f b)) (take p.next p.order) (places_read f p) heads is_new is)
+        heads_on f p q block on left at next (limit - 80) (told_in (limit - 80) facts.parts) u (told_said (limit - 80) (f block) facts.parts are.says)
+        (taken.kept (λ b. longest (limit - 80) (f b)) (take p.next p.order) (places_read (limit - 80) f p) heads is_new is)
 
     pub heads_fail : (good plain : Bool) → limit ≤ 2 ^ 18 → HeadsAreTold (limit - 80) f p t → TakesNode (limit - 80) block facts.parts t u good → good ≡ false → AreAllowed limit f p.roots plain → ⊥
     heads_fail good plain small heads taken is trees =
-        taken.bad (λ b. longest (limit - 80) (f b)) (take p.next p.order) (places_read f p) heads is_new is
-        (trees_fit limit f p.roots trees.0 small whole p block facts.parts.places.items refl noted.pass (next_reached f p block noted.pass left at) are.says.places)
+        taken.bad (λ b. longest (limit - 80) (f b)) (take p.next p.order) (places_read (limit - 80) f p) heads is_new is
+        (trees_fit limit f p.roots trees.0 small whole p block (told_in (limit - 80) facts.parts) refl noted.pass (next_reached f p block noted.pass left at) (told_said (limit - 80) (f block) facts.parts are.says))
+
+    pub tops_fail : (good plain : Bool) (k m : Tops) → f 0 ≡ None → TopsAreTold f p k
+        → TakesTop block (top_by (slice_index facts.parts.pointers.items) facts.parts.index) (steps_by (slice_index facts.parts.pointers.items) facts.parts.index) k m good → good ≡ false → AreAllowed limit f p.roots plain → ⊥
+    tops_fail good plain k m none tops taken is trees =
+        taken.bad (λ b. top_of (f b)) (take p.next p.order) (steps_read f p) tops (sym (top_said (f block) facts.parts are.says)) is
+        (tree_tops limit f p.roots trees.0 none p block (steps_by (slice_index facts.parts.pointers.items) facts.parts.index) refl noted.pass (next_reached f p block noted.pass left at) (steps_said (f block) facts.parts are.says))
+
+  pub tops_next : (good : Bool) (k m : Tops) → TopsAreTold f p k
+      → TakesTop block (top_by (slice_index facts.parts.pointers.items) facts.parts.index) (steps_by (slice_index facts.parts.pointers.items) facts.parts.index) k m good → good ≡ true → TopsAreTold f q m
+  tops_next good k m tops taken is =
+      tops_on f p q block on left at next (steps_by (slice_index facts.parts.pointers.items) facts.parts.index) m (steps_said (f block) facts.parts are.says)
+      (taken.kept (λ b. top_of (f b)) (take p.next p.order) (steps_read f p) tops (sym (top_said (f block) facts.parts are.says)) is)
 
   -- a look at it told whether it is sound
-  pub looked_at : (limit capacity : ℕ) (h : Blocks) (plain good : Bool) → h ≡ f → capacity ≡ limit - 80 → HasNoted f q u w → HeadsAreTold (limit - 80) f q u
-      → ((node : Option (List ℕ)) → Says node facts.parts → NamesNodes h node → NextHoldsLink h node → IsTrue good ↔ IsLooked capacity h plain node) → HasLookedAt limit f plain block p q u w good
-  looked_at limit capacity h plain good same same_capacity now heads exact = record {
+  pub looked_at : (limit capacity : ℕ) (h : Blocks) (plain good : Bool) (k : Tops) → h ≡ f → capacity ≡ limit - 80 → HasNoted f q u w → HasTold (limit - 80) f q u k
+      → ((node : Option (List ℕ)) → Says node facts.parts → NextHoldsLink h node → IsTrue good ↔ IsLooked capacity h plain node) → HasLookedAt limit f plain block p q u k w good
+  looked_at limit capacity h plain good k same same_capacity now told exact = record {
     noted = now;
     next = next;
-    heads = λ is. heads;
-    looked = λ is names after. (here names after).0 is;
+    told = λ is. told;
+    looked = λ is after. (here after).0 is;
     bad = λ is trees.
-        true≢false (sym ((here (tree_names limit f p.roots trees.0 block reached) (tree_next limit f p.roots trees.0 block reached)).1 (tree_looked limit f p.roots trees.0 plain block reached (λ alone. trees.1 alone block reached))) ∙ is);
+        true≢false (sym ((here (tree_next limit f p.roots trees.0 block reached)).1 (tree_looked limit f p.roots trees.0 plain block reached (λ alone. trees.1 alone block reached))) ∙ is);
   }
     where
       reached : Reached f p.roots block
       reached = next_reached f p block noted.pass left at
 
-      here : NamesNodes f (f block) → NextHoldsLink f (f block) → IsTrue good ↔ IsLooked (limit - 80) f plain (f block)
-      here names after =
+      here : NextHoldsLink f (f block) → IsTrue good ↔ IsLooked (limit - 80) f plain (f block)
+      here after =
           subst (λ (n : ℕ). IsTrue good ↔ IsLooked n f plain (f block)) same_capacity
           (subst (λ (k : Blocks). IsTrue good ↔ IsLooked capacity k plain (f block)) same
-          (exact (f block) are.says (subst (λ (k : Blocks). NamesNodes k (f block)) (sym same) names) (subst (λ (k : Blocks). NextHoldsLink k (f block)) (sym same) after)))
+          (exact (f block) are.says (subst (λ (k : Blocks). NextHoldsLink k (f block)) (sym same) after)))
 
 -- the same over the nodes after calls that only read
 module _ {S : Type 0} (N : Ghosts S) where
-  pub verifying_after : (s t : S) (p : Pass) (u : Table) (v : Levels) → Looks N s t → IsVerifying (N.blocks s) (N.limit s) (N.node s) p u v → IsVerifying (N.blocks t) (N.limit t) (N.node t) p u v
-  verifying_after s t p u v looks is =
-      subst (λ (n : ℕ). IsVerifying n (N.limit t) (N.node t) p u v) (sym looks.same_blocks)
-      (subst (λ (n : ℕ). IsVerifying (N.blocks s) n (N.node t) p u v) (sym looks.same_limit) (subst (λ (f : Blocks). IsVerifying (N.blocks s) (N.limit s) f p u v) (sym looks.same_nodes) is))
+  pub verifying_after : (s t : S) (p : Pass) (u : Table) (k : Tops) (v : Levels) → Looks N s t → IsVerifying (N.blocks s) (N.limit s) (N.node s) p u k v → IsVerifying (N.blocks t) (N.limit t) (N.node t) p u k v
+  verifying_after s t p u k v looks is =
+      subst (λ (n : ℕ). IsVerifying n (N.limit t) (N.node t) p u k v) (sym looks.same_blocks)
+      (subst (λ (n : ℕ). IsVerifying (N.blocks s) n (N.node t) p u k v) (sym looks.same_limit) (subst (λ (f : Blocks). IsVerifying (N.blocks s) (N.limit s) f p u k v) (sym looks.same_nodes) is))
 
-  pub looked_before : (s t : S) (plain : Bool) (block : ℕ) (p q : Pass) (u : Table) (v : Levels) (good : Bool) → Looks N s t → HasLookedAt (N.limit t) (N.node t) plain block p q u v good → HasLookedAt (N.limit s) (N.node s) plain block p q u v good
-  looked_before s t plain block p q u v good looks is =
-      subst (λ (n : ℕ). HasLookedAt n (N.node s) plain block p q u v good) looks.same_limit (subst (λ (f : Blocks). HasLookedAt (N.limit t) f plain block p q u v good) looks.same_nodes is)
+  pub looked_before : (s t : S) (plain : Bool) (block : ℕ) (p q : Pass) (u : Table) (k : Tops) (v : Levels) (good : Bool) → Looks N s t → HasLookedAt (N.limit t) (N.node t) plain block p q u k v good → HasLookedAt (N.limit s) (N.node s) plain block p q u k v good
+  looked_before s t plain block p q u k v good looks is =
+      subst (λ (n : ℕ). HasLookedAt n (N.node s) plain block p q u k v good) looks.same_limit (subst (λ (f : Blocks). HasLookedAt (N.limit t) f plain block p q u k v good) looks.same_nodes is)

@@ -33,7 +33,7 @@ some_items : (o : Option (List Item)) (items : List Item) → o ≡ Some items �
 some_items o items is = ap (λ (p : Option (List Item)). unwrap_or p []) is
 
 -- one slot more
-slot_more : (f : Blocks) (i block x : ℕ) → IsLinked f i (pointer_of (f block) 0) → HasSlot (suc i) (suc x)
+pub slot_more : (f : Blocks) (i block x : ℕ) → IsLinked f i (pointer_of (f block) 0) → HasSlot (suc i) (suc x)
     → pointer_of (f block) x ≡ back f block (2 ^ x) → HoldsSlot (f (pointer_of (f block) x)) x (pointer_of (f block) (suc x))
     → pointer_of (f block) (suc x) ≡ back f block (2 ^ suc x)
 slot_more f i block x linked has so_far holds = on (2 ^ x) refl (suc i - 2 ^ x) refl
@@ -264,6 +264,14 @@ reached_shape : (capacity : ℕ) (f : Blocks) (roots : List ℕ) → ((root : �
 reached_shape capacity f roots trees {b} (IsFirst within) = inl (begins_tree capacity f b MAX_NAMES (trees b within))
 reached_shape capacity f roots trees {b} (IsNamed {block = block} reached names) = named_shape capacity f block b (reached_shape capacity f roots trees reached) names
 
+-- a reached node of a body is part of a linked chain
+pub reached_linked : (capacity : ℕ) (f : Blocks) (roots : List ℕ) → ((root : ℕ) → Contains roots root → IsRoot capacity f root) → (b i : ℕ) → Reached f roots b → index_of (f b) ≡ Some i → IsLinkedChain capacity f i b
+reached_linked capacity f roots trees b i reached is = on (reached_shape capacity f roots trees reached)
+  where
+    on : IsShaped capacity f b → IsLinkedChain capacity f i b
+    on (inl t) = let a = own_node capacity f b t in absurd (no_number i (sym is ∙ directory_no_index (f b) a.l a.is))
+    on (inr (k, c)) = subst (λ (j : ℕ). IsLinkedChain capacity f j b) (number_is k i (sym (chain_node capacity k b f c.chain) ∙ is)) c
+
 -- ---- what has such a shape is sound
 
 body_head : (capacity : ℕ) (f : Blocks) (head size : ℕ) → IsBody capacity f head size → IsHead capacity f head size
@@ -281,7 +289,7 @@ place_sound capacity f (File head size) depth tree = body_head capacity f head s
 place_held : (node : Option (List ℕ)) (x next i : ℕ) → index_of node ≡ Some i → pointer_of node x ≡ next → HoldsSlot node x next
 place_held node x next i is at = record { index = i; is_body = is; names = at }
 
-chain_stepped : (capacity : ℕ) (f : Blocks) (i block : ℕ) → IsLinkedChain capacity f (suc i) block → AreStepped f (pointer_of (f block)) (suc i)
+pub chain_stepped : (capacity : ℕ) (f : Blocks) (i block : ℕ) → IsLinkedChain capacity f (suc i) block → AreStepped f (pointer_of (f block)) (suc i)
 chain_stepped capacity f i block c x has = on (suc i - 2 ^ x) refl
   where
     on : (j : ℕ) → suc i - 2 ^ x ≡ j → HoldsSlot (f (pointer_of (f block) x)) x (pointer_of (f block) (suc x))
@@ -299,7 +307,7 @@ chain_stepped capacity f i block c x has = on (suc i - 2 ^ x) refl
         (chain_node capacity (suc i - 2 ^ x) (back f block (2 ^ x)) f chain)
         (step ∙ back_twice f x block ∙ sym (c.linked.0 (suc x) has)))
 
-chain_body : (capacity : ℕ) (f : Blocks) (i block : ℕ) → IsLinkedChain capacity f i block → IsSoundBody capacity f (pointer_of (f block)) i
+pub chain_body : (capacity : ℕ) (f : Blocks) (i block : ℕ) → IsLinkedChain capacity f i block → IsSoundBody capacity f (pointer_of (f block)) i
 chain_body capacity f zero block c = tt
 chain_body capacity f (suc i) block c =
     (chain_node capacity i (pointer_of (f block) 0) f c.chain.2, c.chain.1, chain_stepped capacity f i block c)

@@ -19,14 +19,12 @@ use Rattle.block_trees.specs.Bodies.{Blocks}
 use Rattle.block_trees.specs.Chains.{link_of, next_of, link_items}
 use Rattle.block_trees.specs.Reached.{Reached}
 use Rattle.allocator.proofs.RingOrder.{contains-insert_same, contains-kept}
-use Rattle.reclaim.specs.Passes.{Pass, IsPass, Advances, AreNoted, IsMarkFault}
-use Rattle.reclaim.specs.Looks.{NamesNodes, NextHoldsLink, IsLooked}
+use Rattle.reclaim.specs.Passes.{Pass, IsPass, Advances, AreNoted}
+use Rattle.reclaim.specs.Looks.{NextHoldsLink, IsLooked}
 use Rattle.reclaim.specs.Sound.{HoldsLink}
 use Rattle.reclaim.specs.Tables.{IsSized, IsTold, HasSeen, NamesDirectory, has_link}
 use Rattle.reclaim.specs.Verified.{AreLooked, name_any_directory}
 use Rattle.reclaim.specs.declared.table.Table.{Table}
-use Rattle.fs_types.specs.declared.fault.Fault.{Fault}
-use Rattle.fs_types.specs.declared.fault.Fault.TheVariants.{NoMemory, Damaged}
 use Rattle.reclaim.proofs.Costs.{sum_more}
 use Rattle.reclaim.proofs.Marking.{begins_at, begins_length}
 
@@ -58,12 +56,12 @@ module _ (p q : Pass) (block : ℕ) (on : Advances p q) (left : p.next < length 
         inr (at ∙ sym (begins_at p.order q.order p.next on.begins left) ∙ ap (slice_index q.order) (sym same) ∙ is)
   ]
 
-  pub looked_on : (capacity : ℕ) (f : Blocks) (plain : Bool) → AreLooked capacity f plain p → (NamesNodes f (f block) → NextHoldsLink f (f block) → IsLooked capacity f plain (f block)) → AreLooked capacity f plain q
+  pub looked_on : (capacity : ℕ) (f : Blocks) (plain : Bool) → AreLooked capacity f plain p → (NextHoldsLink f (f block) → IsLooked capacity f plain (f block)) → AreLooked capacity f plain q
   looked_on capacity f plain looked own b seen = on_case (seen_back b seen)
     where
-      on_case : HasSeen p b ⊎ (block ≡ b) → NamesNodes f (f b) → NextHoldsLink f (f b) → IsLooked capacity f plain (f b)
+      on_case : HasSeen p b ⊎ (block ≡ b) → NextHoldsLink f (f b) → IsLooked capacity f plain (f b)
       on_case (inl before) = looked b before
-      on_case (inr same) = subst (λ (c : ℕ). NamesNodes f (f c) → NextHoldsLink f (f c) → IsLooked capacity f plain (f c)) same own
+      on_case (inr same) = subst (λ (c : ℕ). NextHoldsLink f (f c) → IsLooked capacity f plain (f c)) same own
 
   pub reads_on : (g : ℕ → ℕ) → sum_by g (take q.next q.order) ≡ sum_by g (take p.next p.order) + g block
   reads_on g =

@@ -4,7 +4,7 @@ use Rattle.std.specs.Prelude.{Contains, not, IsTrue, All, slice_index}
 use Rattle.std.proofs.lemmas.Bool.{cases_lt}
 use Rattle.std.proofs.lemmas.List.{take_all}
 use Rattle.std.proofs.lemmas.Grind.{get_or_default_zero}
-use Rattle.std.proofs.lemmas.List.Elements.{All-more, All-get_or, All-contains, All-contains_itself, All-weaker}
+use Rattle.std.proofs.lemmas.List.Elements.{All-more, All-contains, All-contains_itself, All-weaker}
 use Rattle.fs_types.specs.declared.limits.TheConstants.{ANCHORS}
 use Rattle.node_format.specs.declared.place.Place.TheVariants.{Dir}
 use Rattle.allocator.specs.Ring.{IsDataBlock}

@@ -3,9 +3,10 @@ use Rattle.std.specs.Prelude.{◌≡◌, ◌≢◌, ℕ, zero, suc, ◌+◌, ◌
 use Rattle.std.specs.List.{flat_map}
 use Rattle.std.specs.Option.{option_map_or}
 use Rattle.std.specs.FinSet as set
+use Rattle.fs_types.specs.declared.limits.TheConstants.{MAX_FILE_BYTES}
 use Rattle.node_format.specs.declared.place.Place.{Place}
 use Rattle.node_format.specs.declared.place.Place.TheVariants.{Dir, File}
-use Rattle.block_trees.specs.Bodies.{Blocks, index_of, data_of, head_index}
+use Rattle.block_trees.specs.Bodies.{Blocks, index_of, pointer_of, data_of, head_index}
 use Rattle.reclaim.specs.Looks.{places_of}
 use Rattle.reclaim.specs.Passes.{Pass}
 use Rattle.reclaim.specs.declared.looks.Parts.{Parts}
@@ -26,6 +27,23 @@ longest_by capacity index used = option_map_or (λ i. in_word (i * capacity + us
 -- the greatest length of a file whose head is this node
 abbrev pub longest : ℕ → Option (List ℕ) → ℕ
 longest capacity node = longest_by capacity (index_of node) (length (data_of node))
+
+-- the bytes of full nodes before the node of an index, where a file can have so many; else 0
+abbrev pub length_before : ℕ → Option ℕ → ℕ
+length_before capacity index = option_map_or (λ i. if nat_lt (i * capacity) MAX_FILE_BYTES then i * capacity else 0) index 0
+
+-- what is told of the block of the node before: a file of these bytes has its head there
+abbrev pub before_told : ℕ → ℕ → List Place
+before_told before zero = []
+before_told before (suc n) = File before (suc n) ∷ []
+
+-- what parts tell of heads: the entries, and the node before
+abbrev pub told_in : ℕ → Parts → List Place
+told_in capacity parts = parts.places.items ++ before_told (slice_index parts.pointers.items 0) (length_before capacity parts.index)
+
+-- what a node tells of them
+abbrev pub told_by : ℕ → Option (List ℕ) → List Place
+told_by capacity node = places_of node ++ before_told (pointer_of node 0) (length_before capacity (index_of node))
 
 -- an entry's file is no longer than its head allows, and ends in it; an empty one has head 0
 abbrev pub FitsHead : ℕ → (ℕ → ℕ) → Place → Type 0
@@ -70,8 +88,8 @@ pub record TakesHeads (capacity : ℕ) (entries : List Place) (old new : Table) 
 -- and what the node in a block allows, which is not known
 pub record TakesNode (capacity block : ℕ) (parts : Parts) (old new : Table) (good : Bool) : Type 0 where
   pub kept : (most : ℕ → ℕ) (seen : List ℕ) (told : List Place) → KeepsHeads capacity most seen told old → IsNew capacity most parts block old → good ≡ true
-      → KeepsHeads capacity most (seen ++ block ∷ []) (told ++ parts.places.items) new
-  pub bad : (most : ℕ → ℕ) (seen : List ℕ) (told : List Place) → KeepsHeads capacity most seen told old → IsNew capacity most parts block old → good ≡ false → FitHeads capacity most (told ++ parts.places.items) → ⊥
+      → KeepsHeads capacity most (seen ++ block ∷ []) (told ++ told_in capacity parts) new
+  pub bad : (most : ℕ → ℕ) (seen : List ℕ) (told : List Place) → KeepsHeads capacity most seen told old → IsNew capacity most parts block old → good ≡ false → FitHeads capacity most (told ++ told_in capacity parts) → ⊥
 
 -- a table whose words changed, but those of nodes of directories
 pub record KeepsLinks (old new : Table) : Type 0 where
@@ -79,10 +97,10 @@ pub record KeepsLinks (old new : Table) : Type 0 where
   pub count : length new.words.items ≡ length old.words.items
   pub stay : (b : ℕ) → set.contains old.links.members b ≡ true → slice_index new.words.items b ≡ slice_index old.words.items b
 
--- the entries of the nodes that a pass has read
-abbrev pub places_read : Blocks → Pass → List Place
-places_read f p = flat_map (λ b. places_of (f b)) (take p.next p.order)
+-- what the nodes that a pass has read tell
+abbrev pub places_read : ℕ → Blocks → Pass → List Place
+places_read capacity f p = flat_map (λ b. told_by capacity (f b)) (take p.next p.order)
 
 -- a table keeps what these told, on blocks of so many data bytes
 abbrev pub HeadsAreTold : ℕ → Blocks → Pass → Table → Type 0
-HeadsAreTold capacity f p t = KeepsHeads capacity (λ b. longest capacity (f b)) (take p.next p.order) (places_read f p) t
+HeadsAreTold capacity f p t = KeepsHeads capacity (λ b. longest capacity (f b)) (take p.next p.order) (places_read capacity f p) t

@@ -6,6 +6,7 @@ pub mod Verified
 pub mod Kinds
 pub mod Tables
 pub mod Heads
+pub mod Tops
 pub mod MoreRoots
 pub mod Levels
 pub mod Facts

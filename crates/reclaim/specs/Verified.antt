@@ -6,7 +6,7 @@ use Rattle.node_format.specs.Items.{Item, is_dir_place}
 use Rattle.block_trees.specs.Bodies.{Blocks}
 use Rattle.block_trees.specs.Chains.{link_of}
 use Rattle.block_trees.specs.Trees.{IsRoot}
-use Rattle.reclaim.specs.Looks.{look_reads, NamesNodes, NextHoldsLink, IsLooked}
+use Rattle.reclaim.specs.Looks.{look_reads, NextHoldsLink, IsLooked}
 use Rattle.reclaim.specs.Passes.{Pass, AreReached}
 use Rattle.block_trees.specs.Reached.{Reached}
 use Rattle.reclaim.specs.Sound.{HoldsLink, IsSoundNode, IsPlain}
@@ -27,7 +27,7 @@ name_any_directory items = list_any (λ item. is_dir_place item.place) items
 abbrev pub depth_reads : Option (List ℕ) → ℕ
 depth_reads node = option_map_or (λ l. (if name_any_directory l.items then 16 else 0) + 1) (link_of node) 0
 
--- a node is read once, and one first page for each of its pointers but the last and for the node after it
+-- a node is read once, and the first page of the node after it
 abbrev pub once_reads : Option (List ℕ) → ℕ
 once_reads node = 1 + look_reads node
 
@@ -35,7 +35,7 @@ once_reads node = 1 + look_reads node
 abbrev pub all_reads : Option (List ℕ) → ℕ
 all_reads node = once_reads node + depth_reads node
 
--- the most pages for a node: each of its own once, and these first pages
+-- the most pages for a node: each of its own once, and that first page
 abbrev pub once_pages : ℕ → ℕ → Option (List ℕ) → ℕ
 once_pages page limit node = most_pages page limit node + look_reads node
 
@@ -50,9 +50,9 @@ pub record HasCost (cost : Option (List ℕ) → ℕ) (f : Blocks) (roots : List
   pub are : AreReached f roots blocks
   pub most : after ≤ before + sum_by (λ b. cost (f b)) blocks
 
--- a look found each block that was read sound, where the blocks that it names hold nodes and the one after it one of a directory
+-- a look found each block that was read sound, where the one after it holds a node of a directory
 abbrev pub AreLooked : ℕ → Blocks → Bool → Pass → Type 0
-AreLooked capacity f plain p = (b : ℕ) → HasSeen p b → NamesNodes f (f b) → NextHoldsLink f (f b) → IsLooked capacity f plain (f b)
+AreLooked capacity f plain p = (b : ℕ) → HasSeen p b → NextHoldsLink f (f b) → IsLooked capacity f plain (f b)
 
 -- the roots have trees, without a chain where only plain directories are allowed
 abbrev pub AreAllowed : ℕ → Blocks → List ℕ → Bool → Type 0

@@ -11,6 +11,7 @@ mod named;
 mod pass;
 mod slots;
 mod table;
+mod tops;
 mod verification;
 
 pub use laws::{frame_law, pass_laws, sound_laws};

@@ -2,6 +2,7 @@
 ghost use Rattle.std.specs.Prelude.{◌≡◌, ◌≢◌, ◌↔◌, ℕ, ◌+◌, ◌*◌, ◌<◌, ◌≤◌, ◌&&◌, ◌||◌, ◌==◌, ◌++◌, [], ◌∷◌, true, false, is_some, length, List, All, IsTrue, IfOk, IfErr, Contains, slice_index, slice_set, if◌then◌else◌};
 ghost use Rattle.std.specs.FinSet as set;
 ghost use Rattle.std.specs.Option.{option_map, option_map_or};
+ghost use Rattle.node_format.specs.declared.headers.TheConstants.{SLOTS};
 ghost use Rattle.node_format.specs.declared.place.Place.{Place};
 ghost use Rattle.node_format.specs.declared.place.Place.TheVariants.{File};
 ghost use Rattle.block_trees.specs.Chains.{most_after};
@@ -13,7 +14,7 @@ use crate::edge::next_in;
 use crate::looks::Parts;
 use crate::pass::add_blocks;
 use allocator::BlockSet;
-use fs_types::{CHAIN_NODES, Fault};
+use fs_types::{CHAIN_NODES, Fault, MAX_FILE_BYTES};
 use node_format::Place;
 use std::alloc::Global;
 
@@ -42,9 +43,25 @@ fn longest_in(capacity: u32, index: Option<u32>, used: u32) -> u32
     }
 }
 
+/// The bytes of full nodes before the node of an index, where a file can have so many; else 0.
+fn length_before(capacity: u32, index: Option<u32>) -> u32
+    ensures { result ≡ heads.length_before capacity index }
+{
+    let Some(index) = index else {
+        return 0;
+    };
+    let length = index as u64 * capacity as u64;
+    if length < MAX_FILE_BYTES as u64 {
+        length as u32
+    } else {
+        0
+    }
+}
+
 /// What nodes said that were read. Of a node of a directory the word is the block of the node after it.
-/// Of another block it is the greatest length that an entry told of a file with its head there, and from
-/// when that block was read the greatest length that its node allows. Four bytes and four bits a block.
+/// Of another block it is the greatest length that an entry told of a file with its head there, or the node after it
+/// of what comes before that one; from when that block was read it is the greatest length that its node allows. Four
+/// bytes and four bits a block.
 #[derive(Drop)]
 pub struct Table {
     pub words: Vec<u32>,
@@ -82,11 +99,12 @@ impl Table {
 
     /// Takes in what the node in a block says, which these are parts of, and the blocks that it names as
     /// directories. False where a file, of this node or of one before, is longer than its head allows, or
-    /// has no head.
+    /// has no head; so of the bytes before a node of a body.
     pub fn take_in(&mut self, capacity: u32, block: u32, parts: &Parts, directories: &[u32]) -> bool
         requires sized { spec.IsSized self.old.links.blocks self.old }
         requires within { block < self.old.links.blocks }
         requires capacity { 0 < capacity }
+        requires count { length parts.now.pointers.items ≡ SLOTS }
 
         // What is noted.
         ensures noted { spec.TakesIn self.old block parts.now directories.now self.new }
@@ -100,7 +118,7 @@ impl Table {
             longest_in(capacity, parts.index, parts.used),
         );
         self.note(block, next_in(&parts.edge), directories);
-        let have_heads = self.note_places(capacity, &parts.places);
+        let have_heads = self.note_heads(capacity, parts);
         is_head && have_heads
     }
 
@@ -141,6 +159,45 @@ impl Table {
                 self.quiet.insert(block);
             }
         }
+    }
+
+    /// Notes what a node tells of heads: its entries of those of their files, and a node of a body of the node
+    /// before it; false where one cannot be so.
+    fn note_heads(&mut self, capacity: u32, parts: &Parts) -> bool
+        requires sized { spec.IsSized self.old.links.blocks self.old }
+        requires capacity { 0 < capacity }
+        requires count { length parts.now.pointers.items ≡ SLOTS }
+
+        // Words of heads alone change.
+        ensures same { heads.KeepsLinks self.old self.new }
+
+        // What is answered.
+        ensures heads { heads.TakesHeads capacity (heads.told_in capacity parts.now) self.old self.new result }
+    {
+        let have_places = self.note_places(capacity, &parts.places);
+        if !have_places {
+            return false;
+        }
+        let length = length_before(capacity, parts.index);
+        self.note_before(capacity, parts.pointers[0], length)
+    }
+
+    /// Notes the bytes of full nodes up to the one in a block; false where it cannot be so, and true where there are
+    /// none.
+    fn note_before(&mut self, capacity: u32, before: u32, length: u32) -> bool
+        requires sized { spec.IsSized self.old.links.blocks self.old }
+        requires capacity { 0 < capacity }
+
+        // The word of the block alone changes.
+        ensures same { heads.KeepsLinks self.old self.new }
+
+        // What is answered.
+        ensures heads { heads.TakesHeads capacity (heads.before_told before length) self.old self.new result }
+    {
+        if length == 0 {
+            return true;
+        }
+        self.note_head(capacity, before, length)
     }
 
     /// Notes what entries tell of the heads of their files; false where one cannot be so.

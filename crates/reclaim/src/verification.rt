@@ -19,6 +19,7 @@ use crate::levels::Levels;
 use crate::looks::look;
 use crate::pass::Pass;
 use crate::table::Table;
+use crate::tops::Tops;
 use allocator::BlockSet;
 use directory::any_is_deeper;
 use fs_types::{ANCHORS, Fault, MAX_NAMES};
@@ -78,15 +79,16 @@ fn look_at_next<N: Examines>(
     block: u32,
     pass: &mut Pass,
     table: &mut Table,
+    tops: &mut Tops,
     levels: &mut Levels,
 ) -> Result<bool, Fault>
     requires sound { N.is_sound nodes.old }
     requires left { (pass.old.next < length pass.old.order) × (block ≡ slice_index pass.old.order pass.old.next) }
-    requires verifying { IsVerifying (N.blocks nodes.old) (N.limit nodes.old) (N.node nodes.old) pass.old table.old levels.old }
+    requires verifying { IsVerifying (N.blocks nodes.old) (N.limit nodes.old) (N.node nodes.old) pass.old table.old tops.old levels.old }
 
     // The pass goes on, and what is found.
     ensures on { Advances pass.old pass.new }
-    ensures looked { IfOk result (HasLookedAt (N.limit nodes.old) (N.node nodes.old) plain block pass.old pass.new table.new levels.new) }
+    ensures looked { IfOk result (HasLookedAt (N.limit nodes.old) (N.node nodes.old) plain block pass.old pass.new table.new tops.new levels.new) }
 
     // Why not, and what is read.
     ensures damaged { IsErrOf result Fault.Damaged → LacksNode (N.node nodes.old) pass.old.roots }
@@ -106,6 +108,10 @@ fn look_at_next<N: Examines>(
     if !have_heads {
         return Ok(false);
     }
+    let have_tops = tops.take_in(block, facts.parts.index, &facts.parts.pointers);
+    if !have_tops {
+        return Ok(false);
+    }
     look(nodes, capacity, plain, &facts.parts)
 }
 
@@ -116,15 +122,16 @@ fn look_at_all<N: Examines>(
     plain: bool,
     pass: &mut Pass,
     table: &mut Table,
+    tops: &mut Tops,
     levels: &mut Levels,
 ) -> Result<bool, Fault>
     requires sound { N.is_sound nodes.old }
-    requires verifying { IsVerifying (N.blocks nodes.old) (N.limit nodes.old) (N.node nodes.old) pass.old table.old levels.old }
+    requires verifying { IsVerifying (N.blocks nodes.old) (N.limit nodes.old) (N.node nodes.old) pass.old table.old tops.old levels.old }
     requires begun { pass.old.next ≡ 0 }
 
     // All was read and is sound, or some is not.
     ensures on { Advances pass.old pass.new }
-    ensures looked { IfOk result (HasLookedAtAll N.Nodes plain nodes.old nodes.new pass.old pass.new table.new levels.new) }
+    ensures looked { IfOk result (HasLookedAtAll N.Nodes plain nodes.old nodes.new pass.old pass.new table.new tops.new levels.new) }
 
     // Why not, and what is read.
     ensures damaged { IsErrOf result Fault.Damaged → LacksNode (N.node nodes.old) pass.old.roots }
@@ -132,7 +139,7 @@ fn look_at_all<N: Examines>(
     ensures asks { HasCost (once_pages (N.page nodes.old) (N.limit nodes.old)) (N.node nodes.old) pass.old.roots (N.asked nodes.old) (N.asked nodes.new) }
 {
     while let Some(block) = pass.next_block() {
-        let good = look_at_next(alloc, nodes, plain, block, pass, table, levels)?;
+        let good = look_at_next(alloc, nodes, plain, block, pass, table, tops, levels)?;
         if !good {
             return Ok(false);
         }
@@ -148,10 +155,11 @@ fn are_whole<N: Examines>(
     plain: bool,
     pass: &mut Pass,
     table: &mut Table,
+    tops: &mut Tops,
     levels: &mut Levels,
 ) -> Result<bool, Fault>
     requires sound { N.is_sound nodes.old }
-    requires verifying { IsVerifying (N.blocks nodes.old) (N.limit nodes.old) (N.node nodes.old) pass.old table.old levels.old }
+    requires verifying { IsVerifying (N.blocks nodes.old) (N.limit nodes.old) (N.node nodes.old) pass.old table.old tops.old levels.old }
     requires begun { (pass.old.roots ≡ roots.now) × (pass.old.next ≡ 0) }
 
     // What is answered, and the pass.
@@ -163,7 +171,7 @@ fn are_whole<N: Examines>(
     ensures calls { LooksAtCost N.Nodes IsReadFault (HasCost once_reads (N.node nodes.old) roots.now) nodes.old result nodes.new }
     ensures asks { HasCost (once_pages (N.page nodes.old) (N.limit nodes.old)) (N.node nodes.old) roots.now (N.asked nodes.old) (N.asked nodes.new) }
 {
-    let are_looked = look_at_all(alloc, nodes, plain, pass, table, levels)?;
+    let are_looked = look_at_all(alloc, nodes, plain, pass, table, tops, levels)?;
     if !are_looked {
         return Ok(false);
     }
@@ -177,8 +185,8 @@ fn are_whole<N: Examines>(
 /// with `plain` no node of a chain is among all that they reach.
 ///
 /// `Damaged` where that is not so, and only there: a root that is no data block has no tree. Nothing
-/// is written. Each page of a node is read once, and the first page of the node after it and of those that
-/// its pointers name; for its entries none is read. No node of a body is kept in memory. Where a directory stands at more than one
+/// is written. Each page of a node is read once, and the first page of the node after one of a directory; for its
+/// entries and its pointers none is read. No node of a body is kept in memory. Where a directory stands at more than one
 /// depth, or too deep, the depths read nodes that name directories once more at each level, and the first
 /// ones of the last level.
 pub fn verify<N: Examines>(
@@ -206,6 +214,7 @@ pub fn verify<N: Examines>(
     }
     let mut pass = Pass::start(alloc, blocks, roots)?;
     let mut table = Table::new(alloc, blocks)?;
+    let mut tops = Tops::new(alloc, blocks)?;
     let mut levels = Levels::new(alloc, blocks)?;
     let are_whole = are_whole(
         alloc,
@@ -214,6 +223,7 @@ pub fn verify<N: Examines>(
         plain,
         &mut pass,
         &mut table,
+        &mut tops,
         &mut levels,
     )?;
     if !are_whole {
@@ -222,6 +232,7 @@ pub fn verify<N: Examines>(
     // The depths want three sets more, so what they do not need is let go first.
     let is_known = levels.hold;
     drop(levels);
+    drop(tops);
     let (quiet, nexts) = table.into_quiet();
     let are_shallow = are_shallow(alloc, nodes, roots, is_known, &quiet, &nexts)?;
     if !are_shallow {

@@ -22,7 +22,7 @@ pub use digits::{print_name, print_number};
 pub use kinds::kind_of;
 pub use line::{LINE_LIMIT, Line, read_line};
 pub use line_answer::LineAnswer;
-pub use line_reader::{LineReader, Taken, write_out};
+pub use line_reader::{LineReader, Taken, read_byte, write_out};
 pub use replies::print_answer;
 pub use sizes::{DEFAULT_SIZES, DEFAULT_VERSIONS};
 pub use space_line::{CheckpointLine, SpaceLine, VersionLine};

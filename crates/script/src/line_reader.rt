@@ -22,8 +22,8 @@ pub enum Taken {
     End,
 }
 
-/// Reads a byte, and tries again where a signal interrupts.
-fn read_byte<R: Read>(reader: &mut R) -> io::Result<Option<u8>>
+/// Reads a byte, and tries again where a signal interrupts; `None` where the input has ended.
+pub fn read_byte<R: Read>(reader: &mut R) -> io::Result<Option<u8>>
     ensures taken { MatchResult result
         (TakesByte (R.remaining reader.old) (R.remaining reader.new))
         (λ _. Keeps (R.remaining reader.old) (R.remaining reader.new)) }

@@ -5,9 +5,9 @@ ghost use Rattle.told_flash.specs.Orders.{order_of};
 ghost use Rattle.told_flash.specs.Streams.{AppendsPart};
 
 use flash_model::DevFault;
-use script::write_out;
+use script::{read_byte, write_out};
 use std::io;
-use std::io::{ErrorKind, Read, Write};
+use std::io::{Read, Write};
 
 /// What a driver answers where an order is done.
 const DONE: u8 = 1;
@@ -95,22 +95,13 @@ fn give<W: Write>(orders: &mut W, kind: u8, number: u32, bytes: &[u8]) -> io::Re
     orders.flush()
 }
 
-/// The next byte that a reader gives. `None` where it ended or failed.
+/// The next byte that a reader gives. `None` where it ended or failed; a signal alone is neither.
 fn next_byte<R: Read>(reader: &mut R) -> Option<u8>
     ensures some { IfSome result (λ byte. Consumes (R.remaining reader.old) (R.remaining reader.new) (byte ∷ [])) }
     ensures none { IfNone result (Keeps (R.remaining reader.old) (R.remaining reader.new)) }
 {
-    let mut byte = [0];
-    for _ in 0..u64::MAX {
-        match reader.read(&mut byte) {
-            Ok(0) => return None,
-            Ok(_) => return Some(byte[0]),
-            Err(error) => {
-                if error.kind() != ErrorKind::Interrupted {
-                    return None;
-                }
-            }
-        }
+    match read_byte(reader) {
+        Ok(byte) => byte,
+        Err(_) => None,
     }
-    None
 }

@@ -1,6 +1,5 @@
 use Rattle.std.proofs.Common.{arith}
-use Rattle.std.proofs.lemmas.Result.{err_from_is_err_and}
-use Rattle.reclaim.proofs.NodeCalls.{looks_itself, at_cost, cost_answered}
+use Rattle.reclaim.proofs.NodeCalls.{looks_itself, cost_answered}
 use Rattle.reclaim.proofs.Verifying.{shallow_exact}
 use Rattle.reclaim.proofs.verification.are_shallow.Goals as goal
 

@@ -23,7 +23,7 @@ loop-block-init g c = record {
 }
 
 pub look_at_next-requires-clause-verifying : goal.look_at_next-requires-clause-verifying
-look_at_next-requires-clause-verifying g c = verifying_after g.N.Nodes c.args.nodes.now c.loop-block.nodes c.loop-block.pass c.loop-block.table c.loop-block.levels c.loop-block.invariant.looks c.loop-block.invariant.verifying
+look_at_next-requires-clause-verifying g c = verifying_after g.N.Nodes c.args.nodes.now c.loop-block.nodes c.loop-block.pass c.loop-block.table c.loop-block.tops c.loop-block.levels c.loop-block.invariant.looks c.loop-block.invariant.verifying
 
 pub loop-block-preserved : goal.loop-block-preserved
 loop-block-preserved g c =
@@ -37,8 +37,8 @@ loop-block-preserved g c =
     let left = c.in-Some.ensures.left in
     let block = c.in-Some.block in
     let on = c.look_at_next.ensures.on in
-    let looked : HasLookedAt (g.N.Nodes.limit s) f c.args.plain block p q c.look_at_next.new.table c.look_at_next.new.levels c.in_ok-good.good =
-    looked_before g.N.Nodes s mid c.args.plain block p q c.look_at_next.new.table c.look_at_next.new.levels c.in_ok-good.good so_far.looks c.in_ok-good.ensures.looked in
+    let looked : HasLookedAt (g.N.Nodes.limit s) f c.args.plain block p q c.look_at_next.new.table c.look_at_next.new.tops c.look_at_next.new.levels c.in_ok-good.good =
+    looked_before g.N.Nodes s mid c.args.plain block p q c.look_at_next.new.table c.look_at_next.new.tops c.look_at_next.new.levels c.in_ok-good.good so_far.looks c.in_ok-good.ensures.looked in
     let own : g.N.Nodes.reads new ≤ g.N.Nodes.reads mid + once_reads (f block) =
     subst (λ (h : Blocks). g.N.Nodes.reads new ≤ g.N.Nodes.reads mid + once_reads (h block)) so_far.looks.same_nodes c.look_at_next.ensures.calls.reads in
     let pages : g.N.Nodes.asked new ≤ g.N.Nodes.asked mid + once_pages (g.N.Nodes.page s) (g.N.Nodes.limit s) (f block) =
@@ -46,7 +46,7 @@ loop-block-preserved g c =
     (pages_same (g.N.Nodes.page s) (g.N.Nodes.limit s) (g.N.Nodes.page mid) (g.N.Nodes.limit mid) (g.N.Nodes.asked mid) (g.N.Nodes.asked new) (g.N.Nodes.node mid block)
     (g.met.N.Nodes.same_page s mid so_far.looks.came) so_far.looks.same_limit c.look_at_next.ensures.asks) in
     record {
-      verifying = record { size = on.blocks ∙ so_far.verifying.size; noted = looked.noted; heads = looked.heads c.if-not-good.false };
+      verifying = record { size = on.blocks ∙ so_far.verifying.size; noted = looked.noted; told = looked.told c.if-not-good.false };
       looked = looked_on p q block on left.0 left.1 looked.next (g.N.Nodes.limit s - 80) f c.args.plain so_far.looked (looked.looked c.if-not-good.false);
       on = advances_on c.args.pass.now p q so_far.on on;
       reads = omega (arith, own, so_far.reads, reads_on p q block on left.0 left.1 looked.next (λ b. once_reads (f b)));
@@ -80,12 +80,12 @@ returns-then-not-good-clause-looked g c =
     let s = c.args.nodes.now in
     let mid = c.loop-block.nodes in
     let so_far = c.loop-block.invariant in
-    let looked : HasLookedAt (g.N.Nodes.limit s) (g.N.Nodes.node s) c.args.plain c.in-Some.block c.loop-block.pass c.look_at_next.new.pass c.look_at_next.new.table c.look_at_next.new.levels c.in_ok-good.good =
-    looked_before g.N.Nodes s mid c.args.plain c.in-Some.block c.loop-block.pass c.look_at_next.new.pass c.look_at_next.new.table c.look_at_next.new.levels c.in_ok-good.good so_far.looks c.in_ok-good.ensures.looked in
+    let looked : HasLookedAt (g.N.Nodes.limit s) (g.N.Nodes.node s) c.args.plain c.in-Some.block c.loop-block.pass c.look_at_next.new.pass c.look_at_next.new.table c.look_at_next.new.tops c.look_at_next.new.levels c.in_ok-good.good =
+    looked_before g.N.Nodes s mid c.args.plain c.in-Some.block c.loop-block.pass c.look_at_next.new.pass c.look_at_next.new.table c.look_at_next.new.tops c.look_at_next.new.levels c.in_ok-good.good so_far.looks c.in_ok-good.ensures.looked in
     record {
       noted = looked.noted;
       read = λ is. absurd (true≢false (sym is));
-      heads = λ is. absurd (true≢false (sym is));
+      told = λ is. absurd (true≢false (sym is));
       looked = λ is. absurd (true≢false (sym is));
       bad = λ is trees. looked.bad c.if-not-good.true (subst (λ (l : List ℕ). AreAllowed (g.N.Nodes.limit s) (g.N.Nodes.node s) l c.args.plain) (sym so_far.on.roots) trees);
     }
@@ -121,7 +121,7 @@ returns-clause-looked g c =
         reads = omega (arith, so_far.reads, ap (sum_by (λ b. once_reads (g.N.Nodes.node s b))) all);
         asked = omega (arith, so_far.asks, ap (sum_by (λ b. once_pages (g.N.Nodes.page s) (g.N.Nodes.limit s) (g.N.Nodes.node s b))) all);
       };
-      heads = λ _. so_far.verifying.heads;
+      told = λ _. so_far.verifying.told;
       looked = λ _. so_far.looked;
       bad = λ is. absurd (true≢false is);
     }

@@ -9,7 +9,7 @@ use Rattle.reclaim.proofs.verification.look_at_all.Given as goal
 -- what was read so far is marked, told and sound
 abbrev pub invariant-loop-block : goal.invariant-loop-block
 invariant-loop-block g l = record {
-  verifying : IsVerifying (g.N.Nodes.blocks l.fn.nodes) (g.N.Nodes.limit l.fn.nodes) (g.N.Nodes.node l.fn.nodes) l.pass l.table l.levels;
+  verifying : IsVerifying (g.N.Nodes.blocks l.fn.nodes) (g.N.Nodes.limit l.fn.nodes) (g.N.Nodes.node l.fn.nodes) l.pass l.table l.tops l.levels;
   looked : AreLooked (g.N.Nodes.limit l.fn.nodes - 80) (g.N.Nodes.node l.fn.nodes) l.plain l.pass;
   on : Advances l.fn.pass l.pass;
   reads : g.N.Nodes.reads l.nodes ≤ g.N.Nodes.reads l.fn.nodes + sum_by (λ b. once_reads (g.N.Nodes.node l.fn.nodes b)) (take l.pass.next l.pass.order);

@@ -1,4 +1,5 @@
 use Rattle.std.proofs.Common.{vec_len, ◌≡◌, ◌≤◌, ◌-◌, ◌^◌, ℕ, List, Err, ap, subst, sym, ◌∙◌, arith}
+use Rattle.std.specs.Prelude.{slice_index}
 use Rattle.std.proofs.lemmas.Bool.{true≢false, eqb-true}
 use Rattle.std.proofs.lemmas.Result.{err_from_is_err_and, IfOk-weaker}
 use Rattle.fs_types.specs.declared.fault.Fault.{Fault}
@@ -6,11 +7,12 @@ use Rattle.fs_types.specs.declared.fault.Fault.TheVariants.{Damaged}
 use Rattle.nodes.specs.WordLaws.{looks_after, looks_wider, looks_answered, looks_refused}
 use Rattle.reclaim.specs.Heads.{TakesNode}
 use Rattle.reclaim.specs.Passes.{IsMarkFault}
-use Rattle.reclaim.specs.Verifying.{HasNoted, HasLookedAt}
+use Rattle.reclaim.specs.Tops.{TakesTop, top_by, steps_by}
+use Rattle.reclaim.specs.Verifying.{HasNoted, HasTold, HasLookedAt}
 use Rattle.reclaim.proofs.Looking.{look_read, said_reads}
 use Rattle.reclaim.proofs.Marking.{no_node}
 use Rattle.reclaim.proofs.NodeCalls.{looks_marked}
-use Rattle.reclaim.proofs.Noting.{noted_next, heads_next, heads_fail, looked_at}
+use Rattle.reclaim.proofs.Noting.{noted_next, heads_next, heads_fail, tops_next, tops_fail, sized_on, looked_at}
 use Rattle.reclaim.proofs.Telling.{next_reached}
 use Rattle.reclaim.proofs.verification.look_at_next.Goals as goal
 
@@ -74,10 +76,43 @@ returns-then-not-have_heads-clause-looked g c =
           c.deref.ensures.value (c.in_ok-mark_next.ensures.pass f) (λ b past. g.met.N.Nodes.none_beyond s b (subst (λ (n : ℕ). n ≤ b) before.size past)) c.deref-3.ensures.value c.take_in-have_heads.ensures.noted
           c.deref-2.ensures.value c.next_in.ensures (λ is. omega (arith, eqb-true (vec_len facts.parts.places) 0 (sym c.is_empty.ensures ∙ is), facts.parts.places.ok.0)) c.take_in.ensures.goes c.take_in.ensures.stands;
       next = next;
-      heads = λ is. absurd (true≢false (sym is));
+      told = λ is. absurd (true≢false (sym is));
       looked = λ is. absurd (true≢false (sym is));
       bad = λ is. heads_fail f p q t u v w block facts before.noted c.requires.left.0 c.requires.left.1 there are c.mark_next.ensures.on next limit (λ b bytes is. g.met.N.Nodes.whole s b bytes c.requires.sound is)
-          c.take_in-have_heads.result c.args.plain small before.heads taken c.if-not-have_heads.true;
+          c.take_in-have_heads.result c.args.plain small before.told.heads taken c.if-not-have_heads.true;
+    }
+
+pub returns-then-not-have_tops-clause-calls : goal.returns-then-not-have_tops-clause-calls
+returns-then-not-have_tops-clause-calls g c = looks_wider (looks_answered c.in_ok-facts.ensures.calls) (omega arith)
+
+pub returns-then-not-have_tops-clause-looked : goal.returns-then-not-have_tops-clause-looked
+returns-then-not-have_tops-clause-looked g c =
+    let s = c.args.nodes.now in
+    let f = g.N.Nodes.node s in
+    let limit = g.N.Nodes.limit s in
+    let p = c.args.pass.now in
+    let q = c.mark_next.new.self in
+    let t = c.args.table.now in
+    let u = c.take_in-have_heads.new.self in
+    let v = c.args.levels.now in
+    let w = c.take_in.new.self in
+    let block = c.args.block in
+    let facts = c.in_ok-facts.facts in
+    let there = c.in_ok-facts.ensures.there in
+    let are = c.in_ok-facts.ensures.facts in
+    let before = c.requires.verifying in
+    let next = c.in_ok-mark_next.ensures.next.0 in
+    record {
+      noted = noted_next f p q t u v w block facts before.noted c.requires.left.0 c.requires.left.1 there are c.mark_next.ensures.on next c.deref.result.now c.deref-3.result.now c.deref-2.result.now c.next_in.result c.is_empty.result
+          c.deref.ensures.value (c.in_ok-mark_next.ensures.pass f) (λ b past. g.met.N.Nodes.none_beyond s b (subst (λ (n : ℕ). n ≤ b) before.size past)) c.deref-3.ensures.value c.take_in-have_heads.ensures.noted
+          c.deref-2.ensures.value c.next_in.ensures (λ is. omega (arith, eqb-true (vec_len facts.parts.places) 0 (sym c.is_empty.ensures ∙ is), facts.parts.places.ok.0)) c.take_in.ensures.goes c.take_in.ensures.stands;
+      next = next;
+      told = λ is. absurd (true≢false (sym is));
+      looked = λ is. absurd (true≢false (sym is));
+      bad = λ is. tops_fail f p q t u v w block facts before.noted c.requires.left.0 c.requires.left.1 there are c.mark_next.ensures.on next limit (λ b bytes is. g.met.N.Nodes.whole s b bytes c.requires.sound is)
+          c.take_in-have_tops.result c.args.plain c.args.tops.now c.take_in-have_tops.new.self (g.met.N.Nodes.none_below s 0 (omega arith)) before.told.tops
+          (subst (λ (l : List ℕ). TakesTop block (top_by (slice_index l) facts.parts.index) (steps_by (slice_index l) facts.parts.index) c.args.tops.now c.take_in-have_tops.new.self c.take_in-have_tops.result) c.deref-4.ensures.value c.take_in-have_tops.ensures.tops)
+          c.if-not-have_tops.true;
     }
 
 pub returns-clause-calls : goal.returns-clause-calls
@@ -109,8 +144,12 @@ returns-clause-looked g c =
     c.deref.ensures.value (c.in_ok-mark_next.ensures.pass f) (λ b past. g.met.N.Nodes.none_beyond s b (subst (λ (n : ℕ). n ≤ b) before.size past)) c.deref-3.ensures.value c.take_in-have_heads.ensures.noted
     c.deref-2.ensures.value c.next_in.ensures (λ is. omega (arith, eqb-true (vec_len facts.parts.places) 0 (sym c.is_empty.ensures ∙ is), facts.parts.places.ok.0)) c.take_in.ensures.goes c.take_in.ensures.stands in
     let heads = heads_next f p q t u v w block facts before.noted c.requires.left.0 c.requires.left.1 there are c.mark_next.ensures.on next limit (λ b bytes is. g.met.N.Nodes.whole s b bytes c.requires.sound is)
-    c.take_in-have_heads.result before.heads taken c.if-not-have_heads.false in
-    IfOk-weaker c.look.result _ (HasLookedAt limit f c.args.plain block p q u w)
-    (λ good exact. looked_at f p q t u v w block facts before.noted c.requires.left.0 c.requires.left.1 there are c.mark_next.ensures.on next limit (c.block_bytes-capacity.result - 80) (g.N.Nodes.node c.read_facts.new.nodes) c.args.plain good
-    c.read_facts.ensures.calls.looks.same_nodes (ap (λ (n : ℕ). n - 80) c.block_bytes-capacity.ensures.value) noted heads exact)
+    c.take_in-have_heads.result before.told.heads taken c.if-not-have_heads.false in
+    let k = c.take_in-have_tops.new.self in
+    let tops = tops_next f p q t u v w block facts before.noted c.requires.left.0 c.requires.left.1 there are c.mark_next.ensures.on next c.take_in-have_tops.result c.args.tops.now k before.told.tops
+    (subst (λ (l : List ℕ). TakesTop block (top_by (slice_index l) facts.parts.index) (steps_by (slice_index l) facts.parts.index) c.args.tops.now k c.take_in-have_tops.result) c.deref-4.ensures.value c.take_in-have_tops.ensures.tops) c.if-not-have_tops.false in
+    let told : HasTold (limit - 80) f q u k = record { size = sized_on p q c.args.tops.now k c.mark_next.ensures.on before.told.size c.take_in-have_tops.ensures.sized; heads = heads; tops = tops } in
+    IfOk-weaker c.look.result _ (λ good. HasLookedAt limit f c.args.plain block p q u k w good)
+    (λ good exact. looked_at f p q t u v w block facts before.noted c.requires.left.0 c.requires.left.1 there are c.mark_next.ensures.on next limit (c.block_bytes-capacity.result - 80) (g.N.Nodes.node c.read_facts.new.nodes) c.args.plain good k
+    c.read_facts.ensures.calls.looks.same_nodes (ap (λ (n : ℕ). n - 80) c.block_bytes-capacity.ensures.value) noted told exact)
     c.look.ensures.exact

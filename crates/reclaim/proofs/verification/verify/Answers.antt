@@ -27,6 +27,7 @@ use Rattle.reclaim.proofs.NodeCalls.{looks_itself, cost_after, cost_answered, co
 use Rattle.reclaim.proofs.Paths.{leveled_none, leveled_shallow, sound_names}
 use Rattle.reclaim.proofs.Soundness.{sound_directories, sound_has_trees, trees_are_sound}
 use Rattle.reclaim.proofs.Telling.{told_none, told_quiet}
+use Rattle.reclaim.proofs.ToldTops.{tops_none}
 use Rattle.reclaim.proofs.Verifying.{all_of, none_reached, roots_are_data}
 use Rattle.reclaim.proofs.verification.verify.Goals as goal
 
@@ -40,10 +41,16 @@ are_whole-requires-clause-verifying g c = record {
         c.in_ok-table.ensures.none.0 c.in_ok-table.ensures.none.1 c.in_ok-table.ensures.none.2;
     leveled = leveled_none (g.N.Nodes.node c.args.nodes.now) c.in_ok-pass.pass c.in_ok-levels.levels c.in_ok-pass.ensures.begun.2;
   };
-  heads =
-      heads_none (g.N.Nodes.limit c.args.nodes.now - 80) (g.N.Nodes.node c.args.nodes.now) c.in_ok-pass.pass c.in_ok-table.table c.in_ok-pass.ensures.begun.2
-      (λ b high. g.met.N.Nodes.none_beyond c.args.nodes.now b (subst (λ (n : ℕ). n ≤ b) (c.in_ok-table.ensures.sized.links ∙ c.requires.blocks) high))
-      c.in_ok-table.ensures.none.0 c.in_ok-table.ensures.none.3 c.in_ok-table.ensures.words;
+  told = record {
+    size = record { words = c.in_ok-tops.ensures.sized.words ∙ sym c.in_ok-pass.ensures.begun.0; read = c.in_ok-tops.ensures.sized.read ∙ sym c.in_ok-pass.ensures.begun.0 };
+    heads =
+        heads_none (g.N.Nodes.limit c.args.nodes.now - 80) (g.N.Nodes.node c.args.nodes.now) c.in_ok-pass.pass c.in_ok-table.table c.in_ok-pass.ensures.begun.2
+        (λ b high. g.met.N.Nodes.none_beyond c.args.nodes.now b (subst (λ (n : ℕ). n ≤ b) (c.in_ok-table.ensures.sized.links ∙ c.requires.blocks) high))
+        c.in_ok-table.ensures.none.0 c.in_ok-table.ensures.none.3 c.in_ok-table.ensures.words;
+    tops =
+        tops_none (g.N.Nodes.node c.args.nodes.now) c.in_ok-pass.pass c.in_ok-tops.tops c.in_ok-pass.ensures.begun.2
+        (λ b high. g.met.N.Nodes.none_beyond c.args.nodes.now b (subst (λ (n : ℕ). n ≤ b) (c.in_ok-tops.ensures.sized.words ∙ c.requires.blocks) high)) c.in_ok-tops.ensures.none c.in_ok-tops.ensures.words;
+  };
 }
 
 pub returns-then-not-are_data_blocks-clause-damaged : goal.returns-then-not-are_data_blocks-clause-damaged
@@ -151,6 +158,11 @@ returns-in_err-table-clause-asks g c =
     let s = c.args.nodes.now in
     none_read (all_pages (g.N.Nodes.page s) (g.N.Nodes.limit s)) (g.N.Nodes.node s) c.args.roots.now (g.N.Nodes.asked s)
 
+pub returns-in_err-tops-clause-asks : goal.returns-in_err-tops-clause-asks
+returns-in_err-tops-clause-asks g c =
+    let s = c.args.nodes.now in
+    none_read (all_pages (g.N.Nodes.page s) (g.N.Nodes.limit s)) (g.N.Nodes.node s) c.args.roots.now (g.N.Nodes.asked s)
+
 pub returns-in_err-levels-clause-asks : goal.returns-in_err-levels-clause-asks
 returns-in_err-levels-clause-asks g c =
     let s = c.args.nodes.now in
@@ -180,6 +192,11 @@ pub returns-in_err-table-clause-calls : goal.returns-in_err-table-clause-calls
 returns-in_err-table-clause-calls g c =
     let p = err_from_is_err_and c.from_residual-in_err-table.result c.from_residual-in_err-table.ensures.1 in
     rw (p.1, p.2) (cost_memory g.met.N.Nodes.memory_may_want c.in_err-table.ensures.memory (looks_itself g.N.Nodes g.met.N.Nodes.follows_itself c.args.nodes.now c.requires.sound) (none_read all_reads (g.N.Nodes.node c.args.nodes.now) c.args.roots.now (g.N.Nodes.reads c.args.nodes.now)))
+
+pub returns-in_err-tops-clause-calls : goal.returns-in_err-tops-clause-calls
+returns-in_err-tops-clause-calls g c =
+    let p = err_from_is_err_and c.from_residual-in_err-tops.result c.from_residual-in_err-tops.ensures.1 in
+    rw (p.1, p.2) (cost_memory g.met.N.Nodes.memory_may_want c.in_err-tops.ensures.memory (looks_itself g.N.Nodes g.met.N.Nodes.follows_itself c.args.nodes.now c.requires.sound) (none_read all_reads (g.N.Nodes.node c.args.nodes.now) c.args.roots.now (g.N.Nodes.reads c.args.nodes.now)))
 
 pub returns-in_err-levels-clause-calls : goal.returns-in_err-levels-clause-calls
 returns-in_err-levels-clause-calls g c =

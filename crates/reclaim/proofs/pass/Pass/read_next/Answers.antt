@@ -5,7 +5,6 @@ use Rattle.std.specs.Ordering.{nat_cmp}
 use Rattle.std.proofs.lemmas.Result.{err_from_is_err_and}
 use Rattle.std.proofs.lemmas.List.Elements.{Contains-get_or}
 use Rattle.fs_types.specs.declared.fault.Fault.TheVariants.{Damaged}
-use Rattle.nodes.specs.WordLaws.{looks_refused}
 use Rattle.reclaim.specs.Kinds.{IsKnownMarking, read_pages, mark_pages}
 use Rattle.reclaim.specs.Passes.{Pass, Begins, IsMarked, IsMarkFault, AreNoted}
 use Rattle.reclaim.proofs.KnownPasses.{front_body, knows_next, known_on, pages_as_marked, asked_more}

@@ -59,9 +59,9 @@ fn length_before(capacity: u32, index: Option<u32>) -> u32
 }
 
 /// What nodes said that were read. Of a node of a directory the word is the block of the node after it.
-/// Of another block it is the greatest length that an entry told of a file with its head there, or the node after it
-/// of what comes before that one; from when that block was read it is the greatest length that its node allows. Four
-/// bytes and four bits a block.
+/// Of another block it is the greatest length that was told of a file with its head there, by an entry or by
+/// the next node of a body; from when that block was read it is the greatest length that its node allows.
+/// Four bytes and four bits a block.
 #[derive(Drop)]
 pub struct Table {
     pub words: Vec<u32>,

@@ -28,10 +28,11 @@ fn top_in(pointers: &[u32], index: Option<u32>) -> u32
 }
 
 /// Which block each node of a body names at the last slot of its index. Of a block that was read the word is
-/// what its node has there, 0 where it has no slot; of another it is what a node told of it, 0 where none did. A node
-/// of index i tells of the node that its slot x names, which is 2^x before it, where it has a slot x + 1: the last slot
-/// of that node is x, and names what the slot x + 1 names. So no node is read to see where another one's slots lead.
+/// what its node has there, 0 where it has no slot; of another it is what a node told of it, 0 where none did.
 /// Four bytes and a bit a block.
+///
+/// Where a node has a slot x + 1, the last slot of the node that its slot x names is x, and names the same
+/// block. A node tells this of each of its slots, so none is read to see where the slots of another one lead.
 #[derive(Drop)]
 pub struct Tops {
     pub words: Vec<u32>,

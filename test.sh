@@ -1,6 +1,6 @@
 #!/bin/bash
 # Runs all that judges this repository: ./test.sh [quick]
-#   ./test.sh        the gate (rt ci), then edits (tools/try_edits.py), then the checks of tools/ that need no rights,
+#   ./test.sh        the gate (rt ci, by tools/rt_ci.py), edits (tools/try_edits.py), then the checks of tools/ that need no rights,
 #                    with the program that the gate built
 #   ./test.sh quick  all tests and programs with no proof (tools/try_quickly.py), and the checks that need no program
 # The last line is `N passed, M failed` over all of them, and the status is 0 only where M is 0. Before it stands what each
@@ -47,11 +47,11 @@ took() {
 }
 
 case ${1:-} in
-    '') counted rt ci
+    '') counted tools/rt_ci.py
         took "rt ci"
         # (an edit of a crate that is not proved tells nothing)
         if [ "$failed" = 0 ]; then
-            counted tools/try_edits.py --confirmed --jobs "$(nproc)" --minutes 20
+            counted tools/try_edits.py --confirmed --jobs "$(nproc)" --minutes 12
             took tools/try_edits.py
         else
             echo "== the edits are not tried, since the gate failed"
@@ -67,6 +67,7 @@ checked tools/check_messages.py
 checked tools/check_edits.py
 checked tools/write_proved.py --check
 checked tools/check_tar.py
+checked tools/tests/test_rt_ci.py
 checked tools/tests/test_check_docs.py
 checked tools/tests/test_check_edits.py
 checked tools/tests/test_check_tar.py

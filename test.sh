@@ -51,7 +51,10 @@ case ${1:-} in
         took "rt ci"
         # (an edit of a crate that is not proved tells nothing)
         if [ "$failed" = 0 ]; then
-            counted tools/try_edits.py --confirmed --jobs "$(nproc)" --minutes 12
+            # what is left of 130 minutes, 20 at most
+            minutes=$((130 - SECONDS / 60))
+            minutes=$((minutes < 1 ? 1 : minutes < 20 ? minutes : 20))
+            counted tools/try_edits.py --confirmed --jobs "$(nproc)" --minutes $minutes
             took tools/try_edits.py
         else
             echo "== the edits are not tried, since the gate failed"

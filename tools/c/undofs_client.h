@@ -89,7 +89,8 @@ void undofs_set_wait(struct undofs *handle, unsigned seconds);
 void undofs_end(struct undofs *handle);
 /* Whether the child has not ended, as far as can be told with no line. */
 int undofs_is_there(const struct undofs *handle);
-/* What the child wrote on standard error, once it is gone; before, no bytes. */
+/* What the child wrote on standard error, once it is gone; before, no bytes. With no child: why the file system ended, or which
+ * page could not be read last. */
 const char *undofs_message(const struct undofs *handle);
 /* How many orders the driver was asked. */
 uint64_t undofs_orders(const struct undofs *handle);

@@ -18,6 +18,7 @@
 
 enum {
     READ_ONLY = 16,
+    READ_FAILED = 23,
     IDLE = 1,         /* with no time to settle, a group ends so many seconds after its last change, where no close comes */
     AGAIN = 5,        /* one that is refused its end is tried again after so many */
     LEAST_LINES = 2 << 20, /* at least so many bytes of lines are kept to be sent again, */
@@ -70,8 +71,19 @@ static void fall_back(int why) {
     if (why == UNDOFS_POWERCUT && undofs_restart(saves.child) == 0) (void)saves_look();
 }
 
+/* A page that cannot be read refuses what asked for it, and nothing else. It is told once, until it is another one. A child reads all
+ * pages at its start. */
+static void tell_unread(void) {
+    static char told[80];
+    const char *message = undofs_message(saves.child);
+    if (strcmp(message, told) == 0) return;
+    snprintf(told, sizeof told, "%s", message);
+    syslog(LOG_WARNING, "%s", message);
+}
+
 /* A child that is gone, and power that went, are told once: nothing changes any more until the folder is mounted anew. */
 int saves_told(int why) {
+    if (why == READ_FAILED) tell_unread();
     if ((why == UNDOFS_GONE || why == UNDOFS_POWERCUT) && !saves.is_failed) {
         saves.is_failed = 1;
         syslog(LOG_ERR, "the part failed, or the file system ended (%d): unmount the folder and mount it again %s", why, undofs_message(saves.child));
@@ -230,7 +242,7 @@ int saves_change(const struct undofs_lines *given, const struct change *change) 
     if (begun != 0) return begun;
     reads_forget(); /* of the tree before */
     int why = give_change(given, change);
-    if (why == UNDOFS_GONE || why == UNDOFS_POWERCUT) return saves_told(why);
+    if (saves_told(why) == UNDOFS_GONE || why == UNDOFS_POWERCUT) return why;
     saves_note_change();
     if (!saves.in_group) {
         int looked = saves_look_for_version();

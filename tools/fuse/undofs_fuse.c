@@ -142,6 +142,7 @@ static int start_file_system(void) {
     if (why != 0 && part.is_new) (void)unlink(options.part);
     if (why == UNDOFS_NORECORD) return complain(options.part, "it holds no file system; -o format makes one") + 2;
     if (why == UNDOFS_NO_IMAGE) return complain(options.part, "its sizes are not lawful");
+    if (why == UNDOFS_NO_MEMORY) return complain(options.part, strerror(ENOMEM)) + 2;
     if (why != 0) {
         const char *message = saves.child == NULL ? "" : undofs_message(saves.child);
         char text[100];
@@ -201,11 +202,23 @@ static struct fuse *make_folder(struct fuse_args *args) {
     return fuse_opt_add_arg(args, name) != 0 ? NULL : fuse_new(args, &folder_operations, sizeof folder_operations, NULL);
 }
 
-/* Serves the folder until it is unmounted. */
+/* From now on no signal ends the daemon but a kill: what was saved is brought to the part first. */
+static void hold_signals(void) {
+    sigset_t held;
+    sigemptyset(&held);
+    sigaddset(&held, SIGINT);
+    sigaddset(&held, SIGHUP);
+    sigaddset(&held, SIGTERM);
+    sigaddset(&held, SIGPIPE);
+    (void)sigprocmask(SIG_BLOCK, &held, NULL);
+}
+
+/* Serves the folder until it is unmounted, or a signal ends that. */
 static void serve_until_unmounted(struct fuse *fuse) {
     struct fuse_session *session = fuse_get_session(fuse);
     (void)fuse_set_signal_handlers(session);
     int why = serve_folder(fuse);
+    hold_signals();
     if (why != 0) syslog(LOG_ERR, "%s", strerror(why));
     fuse_remove_signal_handlers(session);
     fuse_unmount(fuse);

@@ -1,14 +1,16 @@
 #!/bin/bash
-# Proves undofs for a C program and builds it: tools/c/in_process/build.sh FOLDER
+# Proves undofs for a C program and builds it: tools/c/in_process/build.sh FOLDER [CHECKOUT]
 # FOLDER lies outside of the checkout. It gets libundofs_in_process.a, libundofs_nor_in_process.a, libundofs_driver_checks.a,
 # libheap.a, what the prover said, and the work of the proofs, and is kept for the next time. The crates below are those of the
 # gate: `rt ci` proves them there, or takes what it proved on this machine before. The crates of this folder are proved over them;
 # what is assumed of C is c_flash, c_nor and c_chip alone. The last lines name the C functions that each library reaches, and tell
-# the verdicts.
+# the verdicts. With CHECKOUT, where `rt lib` proved crates below, their libraries are taken from there as they are, and only what is
+# not there, or is of other sources or another toolchain, is proved here. Of each it is told which.
 set -eo pipefail
 here=$(cd "$(dirname "$0")" && pwd)
 top=$(cd "$here/../../.." && pwd)
-[ $# = 1 ] || { sed -n 2,7p "$0"; exit 2; }
+[ $# = 1 ] || [ $# = 2 ] || { sed -n 2,9p "$0"; exit 2; }
+proved=${2:+$(cd "$2" && pwd)}
 mkdir -p "$1"
 room=$(cd "$1" && pwd)
 case $room/ in "$top"/*) echo "build.sh: give a folder outside of the checkout, whose gate reads each .rt file" >&2; exit 2 ;; esac
@@ -39,6 +41,26 @@ copy_crate() {
     grep -E "^$1( [^:]*)?:" "$top/crates.txt" >> "$room/crates.txt"
 }
 
+# The libraries below as CHECKOUT has them. A stamp is a sum of all that a library was made from; `rt lib` proves those that it does not fit.
+take_libraries() {
+    local name
+    for name in "$@"; do
+        rm -rf "${room:?}/crates/$name/out/rlib"
+        mkdir -p "$room/crates/$name/out"
+        [ ! -f "$proved/crates/$name/out/rlib/stamp" ] || cp -a "$proved/crates/$name/out/rlib" "$room/crates/$name/out/"
+    done
+    for name in $(sed 's/.*://' "$here/crates.txt.in"); do
+        case " $* " in *" $name "*) (cd "$room/crates/$name" && "$rt" lib) || return ;; esac
+    done
+    for name in "$@"; do
+        if cmp -s "$proved/crates/$name/out/rlib/stamp" "$room/crates/$name/out/rlib/stamp"; then
+            echo "$name: proved in $proved"
+        else
+            echo "$name: proved here"
+        fi
+    done
+}
+
 # A crate of this folder, whose files end in .in, since the gate takes no C functions.
 put_crate() {
     rm -rf "${room:?}/crates/$1/src" "$room/crates/$1/specs" "$room/crates/$1/proofs"
@@ -67,8 +89,14 @@ for name in $own; do rm -rf "${room:?}/crates/$name/src" "$room/crates/$name/spe
 : > "$room/crates.txt"
 cp "$top/HANDLES" "$room/"
 # shellcheck disable=SC2046
-for name in $(names_below "$top/crates.txt" $(sed 's/.*://' "$here/crates.txt.in")); do copy_crate "$name"; done
-(cd "$room" && "$rt" ci) | tee "$room/below.said" | grep -E '^(rt: [a-z_]+ (proved|is kept)|rt: ok|[0-9]+ passed)'
+below=$(names_below "$top/crates.txt" $(sed 's/.*://' "$here/crates.txt.in"))
+for name in $below; do copy_crate "$name"; done
+if [ -n "$proved" ]; then
+    # shellcheck disable=SC2086
+    take_libraries $below | tee "$room/below.said"
+else
+    (cd "$room" && "$rt" ci) | tee "$room/below.said" | grep -E '^(rt: [a-z_]+ (proved|is kept)|rt: ok|[0-9]+ passed)'
+fi
 
 cat "$here/crates.txt.in" >> "$room/crates.txt"
 for name in $own; do put_crate "$name"; done

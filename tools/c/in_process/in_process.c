@@ -19,7 +19,9 @@ struct c_flash c_flash_open(size_t handle) {
 
 uint32_t c_flash_read(struct c_flash *part, uint32_t page, uint8_t *bytes, size_t count) {
     (void)count;
-    return shown_pages_read(&of_handle(part->handle)->pages, page, bytes);
+    uint32_t state = shown_pages_read(&of_handle(part->handle)->pages, page, bytes);
+    if (state == C_FLASH_READ_FAILED) service_note_unread(service_handle(part->handle), page);
+    return state;
 }
 
 uint32_t c_flash_program(struct c_flash *part, uint32_t page, const uint8_t *bytes, size_t count) {

@@ -20,7 +20,9 @@ struct c_nor c_nor_open(size_t handle) {
 }
 
 uint32_t c_nor_read(struct c_nor *part, size_t page, uint8_t *bytes, size_t count) {
-    return shown_sectors_read(&of_handle(part->handle)->sectors, (uint32_t)page, bytes, count);
+    uint32_t told = shown_sectors_read(&of_handle(part->handle)->sectors, (uint32_t)page, bytes, count);
+    if (told == C_FLASH_FAILED) service_note_unread(service_handle(part->handle), page);
+    return told;
 }
 
 uint32_t c_nor_program(struct c_nor *part, size_t page, const uint8_t *bytes, size_t count) {

@@ -7,7 +7,7 @@
 #include <stdlib.h>
 #include <string.h>
 
-enum { SHORT_REPLIES = 4096 };
+enum { SHORT_REPLIES = 4096, READ_FAILED = 23 };
 
 /* ---- live handles, each with a driver of its own ---- */
 
@@ -82,9 +82,16 @@ void c_replies_write(struct c_stream *replies, const uint8_t *bytes, size_t coun
 
 /* ---- the service ---- */
 
+void service_note_unread(struct undofs *u, size_t page) { snprintf(u->message, SERVICE_MESSAGE, "page %zu of the part cannot be read", page); }
+
 static void run_service(void *with) {
     struct undofs *u = with;
     u->status = u->serve((size_t)u, u->history);
+}
+
+/* A page that could not be read is told already. */
+static void tell_why(struct undofs *u, const char *what, int why) {
+    if (why != READ_FAILED) snprintf(u->message, SERVICE_MESSAGE, "%s: %d", what, why);
 }
 
 /* Runs the service until it waits for a line or is over; then it asks the driver for nothing any more. */
@@ -95,7 +102,7 @@ static void run(struct undofs *u) {
     if (!turns_are_over(u->turns)) return;
     u->gone = 1;
     leave(u);
-    snprintf(u->message, SERVICE_MESSAGE, "the file system ended: %u", u->status);
+    tell_why(u, "the file system ended", (int)u->status);
 }
 
 static int begin(struct undofs *u, int has_memory) {
@@ -116,7 +123,7 @@ int service_start(struct undofs *u, int has_memory) {
     int why = begin(u, has_memory);
     if (why == 0) return 0;
     u->gone = 1;
-    snprintf(u->message, SERVICE_MESSAGE, "no file system: %d", why);
+    tell_why(u, "no file system", why);
     return why;
 }
 

@@ -34,6 +34,8 @@ struct undofs {
 struct undofs *service_handle(size_t handle);
 /* Whether the handle is opened for the first time. */
 int service_opens(struct undofs *handle);
+/* Keeps which page could not be read, for undofs_message. */
+void service_note_unread(struct undofs *handle, size_t page);
 /* Runs the service up to its first line. What undofs_start answers; the handle is there in each case. */
 int service_start(struct undofs *handle, int has_memory);
 

@@ -255,6 +255,8 @@ wrong_checks() { build_checks wrong "" "$made/$1" $nand tests/checks.c; }
 
 try_wrong() {
     wrong second_open_is_a_part in_process.c 's/is_first ? s->blocks : 0/is_first ? s->blocks : s->blocks/' handles
+    wrong an_unread_page_has_no_number in_process.c 's/^    if (state == C_FLASH_READ_FAILED) .*//' handles
+    wrong an_unread_page_is_not_why_a_start_is_refused service.c 's/if (why != READ_FAILED) snprintf/snprintf/' handles
     wrong one_driver_in_two_handles service.c 's/return !is_had;/return 1;/' handles
     wrong a_copy_of_a_driver_is_another service.c 's/return u->driver == other->driver ||.*/return u->driver == other->driver;/' handles
     wrong a_call_of_the_driver_writes_the_line service.c 's/    if (u->is_running) return &u->none;//' handles

@@ -1,6 +1,7 @@
 /* Turns by a stack of its own, and no thread. */
 #define _GNU_SOURCE
 #include "turns.h"
+#include <signal.h>
 #include <stdint.h>
 #include <stdlib.h>
 #include <sys/mman.h>
@@ -54,7 +55,11 @@ struct turns *turns_new(void (*run)(void *with), void *with) {
     return NULL;
 }
 
-void turns_go(struct turns *turns) { swapcontext(&turns->caller, &turns->own); }
+/* Signals that the caller holds are held meanwhile; swapcontext by itself brings back those of the last turn. */
+void turns_go(struct turns *turns) {
+    (void)pthread_sigmask(SIG_SETMASK, NULL, &turns->own.uc_sigmask);
+    swapcontext(&turns->caller, &turns->own);
+}
 
 void turns_give_way(struct turns *turns) { swapcontext(&turns->own, &turns->caller); }
 

@@ -4,6 +4,7 @@
 #include <errno.h>
 #include <pthread.h>
 #include <semaphore.h>
+#include <signal.h>
 #include <stdlib.h>
 
 struct turns {
@@ -28,13 +29,23 @@ static void *begin(void *with) {
     return NULL;
 }
 
+/* Signals are for the threads of the caller. */
+static int is_thread_begun(struct turns *turns) {
+    sigset_t all, before;
+    sigfillset(&all);
+    (void)pthread_sigmask(SIG_SETMASK, &all, &before);
+    int is_begun = pthread_create(&turns->thread, NULL, begin, turns) == 0;
+    (void)pthread_sigmask(SIG_SETMASK, &before, NULL);
+    return is_begun;
+}
+
 struct turns *turns_new(void (*run)(void *with), void *with) {
     struct turns *turns = calloc(1, sizeof *turns);
     if (turns == NULL) return NULL;
     turns->run = run;
     turns->with = with;
     int is_made = sem_init(&turns->caller, 0, 0) == 0 && sem_init(&turns->own, 0, 0) == 0;
-    if (is_made && pthread_create(&turns->thread, NULL, begin, turns) == 0) return turns;
+    if (is_made && is_thread_begun(turns)) return turns;
     free(turns);
     return NULL;
 }

@@ -6,7 +6,7 @@ import random
 import threading
 
 from kept_times import try_unit
-from mounts import SHARED, Folder, mounted, tree_of, want
+from mounts import Folder, mounted, put_between, tree_of, want
 from starts import errno_of, save
 
 SIZES = ("4096", "16777216")
@@ -187,7 +187,7 @@ def many_at_once():
 
 
 def lines_of(f, call):
-    """How many lines the child is given while something is done: by a program that stands between."""
+    """How many lines the file system is given while something is done."""
     before = os.stat(f.space + "/lines").st_size
     call()
     return os.stat(f.space + "/lines").st_size - before
@@ -195,17 +195,10 @@ def lines_of(f, call):
 
 @contextlib.contextmanager
 def counted(options="", **sizes):
-    """A folder whose child has each line counted by a byte in `lines`."""
-    program = SHARED["program"]
+    """A folder each line of which is counted by a byte in `lines`."""
     with Folder(options, **sizes) as f:
-        with open(f.space + "/counting", "w") as file:
-            file.write(COUNTING.format(program=program, lines=f.space + "/lines"))
-        os.chmod(f.space + "/counting", 0o755)
-        try:
-            SHARED["program"] = f.space + "/counting"
-            f.mount()
-        finally:
-            SHARED["program"] = program
+        put_between(f, COUNTING)
+        f.mount()
         yield f
         f.unmount()
 
@@ -213,7 +206,7 @@ def counted(options="", **sizes):
 COUNTING = """#!/usr/bin/env python3
 import subprocess, sys
 child = subprocess.Popen(["{program}", *sys.argv[1:]], stdin=subprocess.PIPE, close_fds=False)
-with open("{lines}", "ab", buffering=0) as lines:
+with open("{space}/lines", "ab", buffering=0) as lines:
     for line in sys.stdin.buffer:
         lines.write(b".")
         child.stdin.write(line)

@@ -3,15 +3,17 @@ import contextlib
 import ctypes
 import errno
 import os
+import re
 import subprocess
 import time
 
 from kept_times import try_unit
 from losses import SMALL, save_and_sync
-from mounts import SHARED, Folder, mounted, tree_of, want
+from mounts import LIBRARY, SHARED, Folder, mounted, tree_of, want
 
 RENAME_NOREPLACE, RENAME_EXCHANGE = 1, 2
 LIBC = ctypes.CDLL(None, use_errno=True)
+UNREAD = re.compile(r"page \d+ of the part cannot be read")
 
 
 def saved(path, text):
@@ -60,6 +62,11 @@ def files_are_not_exchanged():
         want(tree_of(f.path), {"b": b"two", "c": b"one"}, "after the move")
 
 
+def read(path):
+    with open(path, "rb") as file:
+        return file.read()
+
+
 def blocks_of(f):
     """What the core tells of its blocks: `data`, `bad`, `free`."""
     with open(f(".undofs")) as control:
@@ -103,11 +110,37 @@ def a_host_that_fails_one_kind_of_call():
         f.mount()
         save_and_sync(f("a"), b"synced")
         f.unmount()
-        want(f.mount({"SHIM_FILE": f.part, "SHIM_FAIL": "20", "SHIM_KIND": "read"}, wait=False), False, "is a part mounted that cannot be read")
-        f.process.wait(60)
-        want("cannot be read" in f.told(), True, f"what is told then: {f.told()}")
+        for starts, first in enumerate(("2", "20", "21"), 1):  # the state of the first page, and a state or bytes of later ones
+            shim = {"SHIM_FILE": f.part, "SHIM_FAIL": first, "SHIM_KIND": "read"}
+            want(f.mount(shim, wait=False), False, "is a part mounted that cannot be read")
+            f.process.wait(60)
+            want(len(UNREAD.findall(f.told())), starts, f"starts of which a page is told: {f.told()}")
         f.mount()
         want(tree_of(f.path), {"a": b"synced"}, "after it")
+        f.unmount()
+
+
+def a_host_that_reads_nothing_for_a_while():
+    """With no child a page is read when it is wanted. Where it cannot be read that is EIO, the log tells its number, and what comes after is
+    right. A child has read all pages at its start, and sees nothing of it."""
+    with Folder(**SMALL, options="commit=0") as f:
+        f.mount()
+        texts = {name: os.urandom(60000) for name in ("a", "b")}
+        for name, text in texts.items():
+            save_and_sync(f(name), text)
+        f.unmount()
+        fails = f.space + "/fails"
+        f.mount({"SHIM_FILE": f.part, "SHIM_FAIL": "1", "SHIM_KIND": "read", "SHIM_WHILE": fails})
+        saved(fails, b"")
+        told = [refusal_of(read, f(name)) for name in texts]
+        want(told, ["EIO", "EIO"] if LIBRARY else [None, None], "reads while no page can be read")
+        want(UNREAD.search(f.told()) is not None, bool(LIBRARY), f"is a page told: {f.told()}")
+        os.unlink(fails)
+        want(tree_of(f.path), texts, "once pages can be read")
+        save_and_sync(f("c"), b"later")
+        f.unmount()
+        f.mount()
+        want(tree_of(f.path), {**texts, "c": b"later"}, "after a new mount")
         f.unmount()
 
 
@@ -179,6 +212,7 @@ CASES = [
     files_are_not_exchanged,
     df_and_du_tell_blocks,
     a_host_that_fails_one_kind_of_call,
+    a_host_that_reads_nothing_for_a_while,
     a_second_daemon_behind_mtd,
     the_driver_behind_mtd,
     a_worn_flash,

@@ -3,6 +3,7 @@
  *   SHIM_CUT=N       in the N-th write the process ends, with half of it written
  *   SHIM_FAIL=N      from the N-th write on each fails with EIO; with SHIM_KIND=bytes only those of a page's bytes count and fail, with
  *                    `state` those of its state, and with `read` reads do
+ *   SHIM_WHILE=FILE  writes and reads count, and fail, only while FILE is there
  *   SHIM_FOLDER=1    the fsync of each folder fails with EIO
  *   SHIM_LATE=N      the process goes on for N milliseconds after its end */
 #define _GNU_SOURCE
@@ -58,7 +59,8 @@ OPEN(open64)
 
 /* Whether a call is of the kind that counts; `size` is 1 for a state. */
 static int counts(int is_read, size_t size) {
-    const char *kind = getenv("SHIM_KIND");
+    const char *kind = getenv("SHIM_KIND"), *file = getenv("SHIM_WHILE");
+    if (file != NULL && access(file, F_OK) != 0) return 0;
     if (kind == NULL) return !is_read;
     if (strcmp(kind, "read") == 0) return is_read;
     return !is_read && (strcmp(kind, "state") == 0) == (size == 1);

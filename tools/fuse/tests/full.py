@@ -4,7 +4,7 @@ import errno
 import os
 import sqlite3
 
-from mounts import SHARED, Folder, mounted, run, tree_of, want
+from mounts import Folder, mounted, put_between, run, tree_of, want
 
 SMALL_PART = {"page": 4096, "pages": 1, "blocks": 96, "history": 32}
 
@@ -133,13 +133,13 @@ def a_move_takes_no_room_of_kept_bytes():
         want(refusal_of(os.rename, f("d19/a"), f("d19/b")), None, "a move then")
 
 
-# ---- a child that finds no room for some lines ----
+# ---- a file system that finds no room for some lines ----
 
 REFUSING = """#!/usr/bin/env python3
 import os, subprocess, sys
 child = subprocess.Popen(["{program}", *sys.argv[1:]], stdin=subprocess.PIPE, stdout=subprocess.PIPE, close_fds=False)
 for line in sys.stdin.buffer:
-    is_refused = os.path.exists("{verbs}") and line.split()[0].decode() in open("{verbs}").read().split()
+    is_refused = os.path.exists("{space}/verbs") and line.split()[0].decode() in open("{space}/verbs").read().split()
     if not is_refused:
         child.stdin.write(line)
         child.stdin.flush()
@@ -152,17 +152,10 @@ sys.exit(child.wait())
 
 @contextlib.contextmanager
 def refusing(options):
-    """A folder whose child finds no room for the lines whose verbs stand in the file `verbs`."""
-    program = SHARED["program"]
+    """A folder that finds no room for the lines whose verbs stand in the file `verbs`."""
     with Folder(options, blocks=256, history=8) as f:
-        with open(f.space + "/refusing", "w") as file:
-            file.write(REFUSING.format(program=program, verbs=f.space + "/verbs"))
-        os.chmod(f.space + "/refusing", 0o755)
-        SHARED["program"] = f.space + "/refusing"
-        try:
-            yield f
-        finally:
-            SHARED["program"] = program
+        put_between(f, REFUSING)
+        yield f
 
 
 def refuse(f, verbs):

@@ -5,7 +5,7 @@ import signal
 import time
 
 from losses import SMALL, save_and_sync
-from mounts import HERE, SHARED, Folder, Wrong, build, child_of, mounted, tree_of, want
+from mounts import HERE, LIBRARY, Folder, Wrong, build, child_of, mounted, put_between, tree_of, want
 from starts import errno_of, save
 
 
@@ -26,14 +26,9 @@ def a_dropped_version_is_not_there():
 def no_memory_is_told():
     """Where no memory is had for the text of .undofs it is ENOMEM, and the daemon goes on."""
     with Folder() as f:
-        daemon = SHARED["daemon"]
-        os.environ["NO_MEMORY"] = f.space + "/none"
-        try:
-            SHARED["daemon"] = build(f.space + "/made", "-Wl,--wrap=asprintf", f"{HERE}/no_memory.c")
-            f.mount()
-        finally:
-            SHARED["daemon"] = daemon
-            del os.environ["NO_MEMORY"]
+        f.daemon = build(f.space + "/made", "-Wl,--wrap=asprintf", f"{HERE}/no_memory.c")
+        f.environment = {"NO_MEMORY": f.space + "/none"}
+        f.mount()
         held = os.open(f(".undofs"), os.O_WRONLY)
         save(f.space + "/none", "")
         for call in (lambda: os.stat(f(".undofs")), lambda: os.fstat(held), lambda: open(f(".undofs"))):
@@ -71,8 +66,12 @@ def zeroes_take_blocks():
         want(errno_of(lambda: os.truncate(f("a"), 16000000)), errno.ENOSPC, "a file longer than the flash")
 
 
-def end_child(child):
-    """Kills the child, and waits until it has ended."""
+def end_file_system(f):
+    """Kills the child, and waits until it has ended; a file system in the daemon itself ends where the daemon looks whether it is there."""
+    if LIBRARY:
+        save(f.space + "/ended", "")
+        return
+    child = child_of(f.process)
     os.kill(child, signal.SIGKILL)
     for _ in range(200):
         with open(f"/proc/{child}/stat") as stat:
@@ -83,8 +82,11 @@ def end_child(child):
 
 
 def reads_go_on_after_a_failure():
-    """After the part failed all that reads shows what was synced last, and each change is EIO; without its child all is EIO."""
+    """After the part failed all that reads shows what was synced last, and each change is EIO; once the file system itself has ended, all
+    is EIO."""
     with Folder(**SMALL, options="commit=0") as f:
+        if LIBRARY:
+            put_between(f, "")  # which ends it
         f.mount()
         save_and_sync(f("a"), b"synced")
         f.unmount()
@@ -96,8 +98,8 @@ def reads_go_on_after_a_failure():
         want((f.refusal("undo"), f.refusal("begin")), (errno.EIO, errno.EIO), "lines of .undofs")
         want("the part failed" in open(f(".undofs")).read(), True, "what .undofs tells")
         want(tree_of(f.path), {"a": b"synced"}, "what is read after refusals")
-        end_child(child_of(f.process))
-        want(errno_of(lambda: open(f("a"), "rb").read()), errno.EIO, "a read without the child")
+        end_file_system(f)
+        want(errno_of(lambda: open(f("a"), "rb").read()), errno.EIO, "a read without the file system")
         f.kill()
         f.mount()
         want(tree_of(f.path).get("a"), b"synced", "after a new mount")

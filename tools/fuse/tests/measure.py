@@ -5,7 +5,8 @@ where that is installed.
   measure.py DAEMON PROGRAM      as tools/fuse/build.sh and `rt run` in crates/uffs leave them
 
 The part is a flat file of 16,384 blocks of one page of 4,096 bytes. Each figure is the median of three. With each stands the processor
-time that the daemon and its child took for one, on an average of the three.
+time that the daemon and its child took for one, on an average of the three. With UNDOFS_LIBRARY, over which DAEMON is built, it has no
+child.
 """
 import contextlib
 import os
@@ -115,17 +116,28 @@ def bound(folder, space):
         subprocess.run(["fusermount3", "-u", space + "/bound"], check=False)
 
 
-def measure_all(f, both):
+def resident_kib(number):
+    """The memory that a process holds now."""
+    with open(f"/proc/{number}/status") as status:
+        return next(int(line.split()[1]) for line in status if line.startswith("VmRSS"))
+
+
+def processes_of(f):
+    """The daemon, and its child where it has one."""
+    return [number for number in (f.process.pid, child_of(f.process)) if number]
+
+
+def measure_all(f, numbers):
     plain, under = f.space + "/plain", f.space + "/under"
     for place in (plain, under):
         os.mkdir(place)
     with bound(under, f.space) as other:
         for name, measure in ROWS:
-            before = [processor_seconds(number) for number in both]
+            before = [processor_seconds(number) for number in numbers]
             here = three_of(measure, f.path)
-            daemon, child = ((processor_seconds(number) - start) / 3 for number, start in zip(both, before))
+            took = " and ".join(f"{(processor_seconds(number) - start) / 3:.2f} s" for number, start in zip(numbers, before))
             there, by_bindfs = three_of(measure, plain), "-" if other is None else f"{three_of(measure, other):.1f}"
-            print(f"{name}: {here:.1f} here, {by_bindfs} by bindfs, {there:.1f} there; {daemon:.2f} s of the daemon and {child:.2f} s of its child", flush=True)
+            print(f"{name}: {here:.1f} here, {by_bindfs} by bindfs, {there:.1f} there; {took} of the daemon and its child", flush=True)
 
 
 def main():
@@ -134,11 +146,12 @@ def main():
         start = time.time()
         f.mount()
         print(f"make a part and mount it, s: {time.time() - start:.2f}")
-        measure_all(f, (f.process.pid, child_of(f.process)))
+        measure_all(f, processes_of(f))
         f.unmount()
         start = time.time()
         f.mount()
         print(f"mount it again, s: {time.time() - start:.2f}")
+        print("held then by the daemon and its child, KiB:", *map(resident_kib, processes_of(f)))
         f.unmount()
     print(f"load of the host at the end: {os.getloadavg()[0]:.1f} on {os.cpu_count()} processors")
 

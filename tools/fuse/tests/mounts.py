@@ -74,9 +74,7 @@ def build_with(source, name, folder):
 
 
 def child_of(process):
-    """The number of the daemon's child; none where the file system is in the daemon."""
-    if LIBRARY:
-        return None
+    """The number of the daemon's child; none where it has no child."""
     with open(f"/proc/{process.pid}/task/{process.pid}/children") as children:
         numbers = children.read().split()
     return int(numbers[0]) if numbers else None
@@ -84,7 +82,8 @@ def child_of(process):
 
 class Folder:
     """A folder with its own scratch space. `options` are those of -o; `shim` is a dictionary of the environment. A save is a version at
-    its close, where no other time to settle is given; with None it is the daemon's own."""
+    its close, where no other time to settle is given; with None it is the daemon's own. `daemon` and `program` may be others than the shared
+    ones, and `environment` is that of each mount."""
 
     def __init__(self, options="", blocks=2048, page=4096, pages=1, history=32, settle=0):
         self.space = tempfile.mkdtemp(prefix="undofs-")
@@ -94,12 +93,13 @@ class Folder:
         if settle is not None:
             self.sizes += f",settle={settle}"
         self.options, self.process = options, None
+        self.daemon, self.program, self.environment = SHARED["daemon"], SHARED["program"], {}
 
     def mount(self, shim=None, more="", wait=True):
         """Starts the daemon. With `wait` it has to be there; without, whether it is there is answered."""
-        words = [SHARED["daemon"], self.part, self.path, "-f", "-o"]
-        words.append(",".join(filter(None, [self.sizes, f"serve={SHARED['program']}", self.options, more])))
-        env = dict(os.environ)
+        words = [self.daemon, self.part, self.path, "-f", "-o"]
+        words.append(",".join(filter(None, [self.sizes, f"serve={self.program}", self.options, more])))
+        env = {**os.environ, **self.environment}
         if shim:
             kind = "mtd_shim.so" if "MTD_FILE" in shim else "file_shim.so"
             env.update(shim, LD_PRELOAD=f"{SHARED['shims']}/{kind}")
@@ -189,6 +189,22 @@ class Folder:
             if self.versions() == before:
                 return before
         return self.versions()
+
+
+WRAPPED = ("undofs_exchange", "undofs_reply", "undofs_is_there")
+
+
+def put_between(f, program):
+    """Has a program stand between the daemon of a folder and its child: its text, with the names {program} and {space}. With no child
+    tests/lines_between.c, in a daemon of its own, does to the lines what these programs do."""
+    if LIBRARY:
+        f.daemon = build(f.space + "/made", *(f"-Wl,--wrap={name}" for name in WRAPPED), f"{HERE}/lines_between.c")
+        f.environment = {"BETWEEN": f.space}
+        return
+    with open(f.space + "/between", "w") as file:
+        file.write(program.format(program=f.program, space=f.space))
+    os.chmod(f.space + "/between", 0o755)
+    f.program = f.space + "/between"
 
 
 @contextlib.contextmanager

@@ -49,13 +49,9 @@ PARTS = (
 )
 CASES = {case.__name__: case for part in PARTS for case in part.CASES}
 LINKED = ("memory_that_grows_in_place", "no_memory_is_told")  # with a daemon of their own
-# Cases of the child, which a daemon with the file system in itself does not have: its lines are counted or refused by a program between,
-# or it is stopped or killed.
-OF_A_CHILD = (
-    "a_child_that_hangs_is_ended", "a_group_that_cannot_be_sent_again", "a_group_that_finds_no_room_at_its_end", "a_host_has_no_dev_fd",
-    "a_new_file_is_one_change", "a_save_is_few_lines", "files_are_read_in_turn", "pages_are_kept_until_the_tree_moves", "reads_go_on_after_a_failure",
-    "times_wait_for_the_sync", "what_was_refused_is_not_sent_again",
-)
+# The one case of a daemon over a child alone: a daemon with the file system in itself waits for none. A wrong daemon whose file has a line
+# `of: child` or `of: library` is of one of the two alone too. Cases of both say where they look at one.
+OF_A_CHILD = ("a_child_that_hangs_is_ended",)
 LIMIT, AFTER = 400, 30  # seconds of a case; and then until its own process is ended too
 
 
@@ -85,6 +81,13 @@ def read_edit(name):
             else:
                 fields[key] = value
     return fields, pairs
+
+
+def is_of_the_daemon(name):
+    """Whether a case is of the daemon that is tried, or a wrong daemon is one of that kind."""
+    fields = {"case": name} if name in CASES else read_edit(name)[0]
+    of = "child" if fields["case"] in OF_A_CHILD else fields.get("of")
+    return of in (None, "library" if LIBRARY else "child")
 
 
 def build_wrong(name, space):
@@ -190,9 +193,8 @@ def main():
     SHARED["daemon"], SHARED["program"], SHARED["shims"] = (os.path.abspath(word) for word in sys.argv[1:4])
     wrong = sorted(name[: -len(".edit")] for name in os.listdir(HERE + "/wrong"))
     names, start = sys.argv[4:] or list(CASES) + wrong, time.time()
-    if LIBRARY:
-        names = [name for name in names if (name if name in CASES else read_edit(name)[0]["case"]) not in OF_A_CHILD]
-    if any(name not in CASES or name in LINKED for name in names):
+    names = [name for name in names if is_of_the_daemon(name)]
+    if LIBRARY or any(name not in CASES or name in LINKED for name in names):
         objects_of(TOOLS, SHARED["shims"] + "/objects")
     failed = run_all(names, int(os.environ.get("JOBS", "4")))
     print(f"{len(names) - failed} passed, {failed} failed in {time.time() - start:.0f} s")

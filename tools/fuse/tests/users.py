@@ -4,7 +4,7 @@ import contextlib
 import errno
 import os
 
-from mounts import HERE, SHARED, Wrong, build, mounted, want
+from mounts import HERE, Wrong, build, mounted, want
 
 NOBODY = 65534
 
@@ -71,17 +71,13 @@ def memory_that_grows_in_place():
     it was given."""
     with mounted("forget,buffer=0") as f:
         f.unmount()
-        was = SHARED["daemon"]
-        SHARED["daemon"] = build(f.space + "/made", "-Wl,--wrap=realloc", "-Wl,--wrap=free", f"{HERE}/realloc_in_place.c")
-        try:
-            f.mount()
-            with open(f("a"), "wb", buffering=0) as file:
-                for i in range(1000):
-                    file.write(bytes([i % 251]) * 100)
-            want(open(f("a"), "rb").read(), b"".join(bytes([i % 251]) * 100 for i in range(1000)), "bytes")
-            f.unmount()
-        finally:
-            SHARED["daemon"] = was
+        f.daemon = build(f.space + "/made", "-Wl,--wrap=realloc", "-Wl,--wrap=free", f"{HERE}/realloc_in_place.c")
+        f.mount()
+        with open(f("a"), "wb", buffering=0) as file:
+            for i in range(1000):
+                file.write(bytes([i % 251]) * 100)
+        want(open(f("a"), "rb").read(), b"".join(bytes([i % 251]) * 100 for i in range(1000)), "bytes")
+        f.unmount()
 
 
 CASES = [

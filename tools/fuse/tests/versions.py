@@ -7,7 +7,7 @@ import signal
 import subprocess
 import time
 
-from mounts import LIBRARY, SHARED, Wrong, child_of, mounted, run, tree_of, want
+from mounts import LIBRARY, SHARED, Folder, Wrong, child_of, mounted, run, tree_of, want
 
 NODATA = 61
 
@@ -258,20 +258,50 @@ def a_mount_is_found_again():
         want((done.returncode, "neither a part" in done.stderr), (1, True), f"a file that is no part {done.stderr}")
 
 
+SIGNALS = (signal.SIGINT, signal.SIGHUP, signal.SIGTERM)
+
+
 def a_signal_ends_it_well():
-    """A signal to the daemon and its child, as at a shutdown of the host: what was saved is brought to the part first."""
-    with mounted("commit=0") as f:
-        with open(f("a"), "w") as file:
-            file.write("one")
-        if not LIBRARY:
+    """A signal to the daemon and its child, as at a shutdown of the host: what was saved is brought to the part first, and no child is left.
+    With the file system in itself the daemon has none, before the signal too."""
+    for last in SIGNALS:
+        with Folder("settle=100,commit=0") as f:
+            f.mount()
+            before = f.versions()
+            with open(f("a"), "w") as file:
+                file.write("one")
             child = child_of(f.process)
-            for number in (signal.SIGINT, signal.SIGHUP, signal.SIGTERM):
+            want(child is None, bool(LIBRARY), "is there no child")
+            for number in SIGNALS if child else ():
                 os.kill(child, number)
-        f.process.send_signal(signal.SIGTERM)
-        want(f.process.wait(60), 0, "the daemon's status")
-        want(os.path.ismount(f.path), False, "is it mounted")
+            f.process.send_signal(last)
+            want(f.process.wait(60), 0, f"the daemon's status after {last.name}")
+            want(os.path.ismount(f.path), False, "is it mounted")
+            want(child is not None and os.path.exists(f"/proc/{child}"), False, "is the child there")
+            f.mount()
+            want((tree_of(f.path), f.versions() - before), ({"a": b"one"}, 1), "after a new mount")
+            f.unmount()
+
+
+def a_second_signal_breaks_nothing_off():
+    """Once one has unmounted the folder, more of them leave the daemon to what it brings to the part, and so does a log that nobody reads."""
+    texts = {f"f{i}": bytes([i]) * 1000000 for i in range(12)}
+    with Folder("settle=100,commit=0", blocks=8192) as f:
         f.mount()
-        want(tree_of(f.path), {"a": b"one"}, "after a new mount")
+        for name, text in texts.items():
+            with open(f(name), "wb") as file:
+                file.write(text)
+        f.process.send_signal(signal.SIGTERM)
+        until, sent = time.time() + 60, 0
+        while f.process.poll() is None and time.time() < until:
+            if not os.path.ismount(f.path):
+                f.process.send_signal((*SIGNALS, signal.SIGPIPE)[sent % 4])
+                sent += 1
+            time.sleep(0.01)
+        want((f.process.wait(1), sent > 3), (0, True), f"the daemon's status after {sent} more")
+        f.mount()
+        want({name: found == texts[name] for name, found in tree_of(f.path).items()}, dict.fromkeys(texts, True), "after a new mount")
+        f.unmount()
 
 
 CASES = [
@@ -285,4 +315,5 @@ CASES = [
     make_is_right_after_undo,
     a_mount_is_found_again,
     a_signal_ends_it_well,
+    a_second_signal_breaks_nothing_off,
 ]

@@ -1,8 +1,10 @@
 /* What a handle refuses and what it keeps apart. Each line tells a case; the last one counts. */
+#define _GNU_SOURCE
 #include "../c_flash.h"
 #include "calls.h"
 #include "ram_part.h"
 #include <pthread.h>
+#include <signal.h>
 #include <stdio.h>
 #include <stdlib.h>
 #include <string.h>
@@ -58,6 +60,35 @@ static void starts(void) {
     undofs_end(handle);
     undofs_end(other);
     ram_part_free(&part);
+}
+
+static int is_page_told(const struct undofs *handle) {
+    unsigned page;
+    const char *message = undofs_message(handle);
+    return sscanf(message, "page %u", &page) == 1 && page < sizes.pages * sizes.blocks && strstr(message, " of the part cannot be read") != NULL;
+}
+
+static void unread_pages(void) {
+    enum { READ_FAILED = 23, COUNT = 60000 };
+    static uint8_t bytes[COUNT], found[COUNT];
+    struct opened one;
+    size_t got;
+    open_new(&one);
+    for (size_t i = 0; i < COUNT; i++) bytes[i] = (uint8_t)(i / 7);
+    int is_made = undofs_write_file(one.handle, "/f", bytes, COUNT) == 0 && undofs_sync(one.handle) == 0;
+    undofs_end(one.handle);
+    one.part.is_unread = 1;
+    tell("a start that reads no page is refused", is_made && undofs_start(&one.handle, NULL, &one.driver, 0) == READ_FAILED);
+    tell("its handle tells the page, and is gone", is_page_told(one.handle) && !undofs_is_there(one.handle));
+    undofs_end(one.handle);
+    one.part.is_unread = 0;
+    if (undofs_start(&one.handle, NULL, &one.driver, 0) != 0) abort();
+    one.part.is_unread = 1;
+    tell("a page that is not read refuses the call", undofs_read_file(one.handle, "/f", NULL, 0, found, COUNT, &got) == READ_FAILED);
+    tell("the handle tells it, and is there", is_page_told(one.handle) && undofs_is_there(one.handle));
+    one.part.is_unread = 0;
+    tell("the same call is right once it is read", has_file(one.handle, "/f", bytes, COUNT));
+    close_one(&one);
 }
 
 static void second_handles(void) {
@@ -125,6 +156,33 @@ static void calls_of_drivers(void) {
     caller.is_quiet = 1;
     tell("a call from inside of the driver is refused", why == 0 && caller.asked > 400 && caller.refused == caller.asked);
     tell("and the call outside is as if there were none", has_file(one.handle, "/f", bytes, sizeof bytes));
+    close_one(&one);
+}
+
+/* ---- signals ---- */
+
+static void look_at_signals(void *with) {
+    struct caller *caller = with;
+    sigset_t held;
+    if (caller->is_quiet) return;
+    caller->asked++;
+    caller->refused += pthread_sigmask(SIG_SETMASK, NULL, &held) == 0 && sigismember(&held, SIGUSR1) == 1;
+}
+
+static void held_signals(void) {
+    struct opened one;
+    sigset_t held, before;
+    open_new(&one);
+    struct caller caller = {&one, 0, 0, 0};
+    one.part.with = &caller;
+    one.part.before = look_at_signals;
+    sigemptyset(&held);
+    sigaddset(&held, SIGUSR1);
+    if (pthread_sigmask(SIG_BLOCK, &held, &before) != 0) abort();
+    int is_made = undofs_mkdir(one.handle, "/a") == 0 && undofs_sync(one.handle) == 0;
+    tell("a signal that the caller holds is held in the driver", is_made && caller.asked > 1 && caller.refused == caller.asked);
+    if (pthread_sigmask(SIG_SETMASK, &before, &held) != 0) abort();
+    tell("and by the caller after it", sigismember(&held, SIGUSR1) == 1);
     close_one(&one);
 }
 
@@ -215,9 +273,11 @@ static void cuts(void) {
 
 int main(void) {
     starts();
+    unread_pages();
     second_handles();
     second_opens();
     calls_of_drivers();
+    held_signals();
     two_parts();
     one_after_another();
     cuts();

@@ -22,6 +22,7 @@ static uint8_t *bytes_of(const struct ram_part *part, uint32_t page) { return pa
 static enum undofs_state read_page(void *with, uint32_t page, uint8_t *bytes) {
     struct ram_part *part = with;
     look_in(part);
+    if (part->is_unread) return UNDOFS_NOT_READ;
     if (part->states[page] == UNDOFS_DATA) memcpy(bytes, bytes_of(part, page), part->sizes.page);
     return (enum undofs_state)part->states[page];
 }

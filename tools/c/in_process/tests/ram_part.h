@@ -10,6 +10,7 @@ struct ram_part {
     unsigned operations;
     unsigned cut_at; /* power goes in the operation of this number, from 1 on; 0: in none */
     int is_misused;  /* a page was programmed that was not erased */
+    int is_unread;   /* no page can be read */
     void (*before)(void *with);
     void *with;
 };

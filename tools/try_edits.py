@@ -24,7 +24,7 @@ writes what was tried into TRIED: a line for each edit with its sum, `by search`
 clause.
 
 The sum is of the edit, of its crate's src/, specs/, proofs/ and line of crates.txt, of all crates below
-their lines, specs/ and src/ without comments and without the bodies of functions, of the logic that
+their lines, specs/ and src/ without the bodies of functions, all without lines of comments, of the logic that
 `rt version` names, and of what judges them (edit_trials.py, edit_files.py). So a changed body tries the
 edits of its own crate alone, and another release of the toolchain with the same logic tries none.
 
@@ -77,6 +77,12 @@ def logic_of(version):
     return " ".join(words[words.index("logic") :]) if "logic" in words else version
 
 
+def without_comments(path, text):
+    """A source file without the lines that are comments."""
+    mark = "//" if path.endswith(".rt") else "--"
+    return "\n".join(it for it in text.split("\n") if not it.lstrip().startswith(mark))
+
+
 class Sums:
     """The sums of what decides each edit."""
 
@@ -91,14 +97,14 @@ class Sums:
         if crate not in self.stated:
             folder = f"{self.top}/crates/{crate}"
             sources = [(path, edit_files.statements_of(text)) for path, text in edit_files.sources_below(folder, "src", ".rt")]
-            specs = list(edit_files.sources_below(folder, "specs", ".antt"))
+            specs = [(path, without_comments(path, text)) for path, text in edit_files.sources_below(folder, "specs", ".antt")]
             self.stated[crate] = edit_files.sum_of(self.lines[crate], sources, specs)
         return self.stated[crate]
 
     def of(self, crate, edits):
         """The sums of a crate's edits, by their names."""
         folder = f"{self.top}/crates/{crate}"
-        own = [(*it,) for part in PARTS for ending in (".rt", ".antt") for it in edit_files.sources_below(folder, part, ending)]
+        own = [(path, without_comments(path, text)) for part in PARTS for ending in (".rt", ".antt") for path, text in edit_files.sources_below(folder, part, ending)]
         below = [(it, self.below(it)) for it in edit_files.libraries_of(crate, self.lines)]
         base = edit_files.sum_of(self.tools, self.lines[crate], own, below)
         return {it.name: edit_files.sum_of(base, it.name, it.text) for it in edits}

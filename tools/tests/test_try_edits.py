@@ -232,13 +232,16 @@ class Reading(unittest.TestCase):
         self.assertEqual(found, [["        0", "    one\n"], ["result ≡ 0"], ["MOST: u8 = 9"], ["not there"]])
 
     def test_sums(self):
-        """A changed edit, proof, clause below or constant below is tried, and a changed body or comment below is not."""
+        """A changed edit, proof, clause below or constant below is tried, and a changed body below or comment is not."""
         names = lambda *words: called(self.room, "--list", *words)[1][0].split(" are tried")[0]
+        write(f"{self.room}/crates/low/specs/Lib.antt", "-- nothing\n")
         self.assertEqual(names("high"), "1 of 1 edits")
         write_tried(self.room, "high")
         for name, old, new, count in (
             ("low/src/lib.rt", "if a < b { a }", "if a < b { b }", 0),
             ("low/src/lib.rt", "/// The lesser of two", "/// The least of two", 0),
+            ("high/src/lib.rt", "/// A number that is not above", "/// One that is not above", 0),
+            ("low/specs/Lib.antt", "-- nothing", "-- nothing yet", 0),
             ("low/src/lib.rt", "result ≤ a }", "result < a }", 1),
             ("low/src/store.rt", "MOST: u8 = 9", "MOST: u8 = 8", 1),
             ("high/src/lib.rt", "least(a, b)", "least(b, a)", 1),
@@ -250,7 +253,7 @@ class Reading(unittest.TestCase):
             write(path, was.replace(old, new))
             self.assertEqual(names("high"), f"{count} of 1 edits", name + old)
             write(path, was)
-        for name in ("low/specs/Lib.antt", "high/proofs/Lib.antt"):
+        for name in ("low/specs/Other.antt", "high/proofs/Lib.antt"):
             write(f"{self.room}/crates/{name}", "mod Other\n")
             self.assertEqual(names("high"), "1 of 1 edits", name)
             os.remove(f"{self.room}/crates/{name}")

@@ -43,7 +43,8 @@ class Place:
         of another module."""
         module, (*above, last) = self.module(), folder.split("/")
         is_of_type = self.owner != "" and above != [] and above[-1].startswith(self.owner)
-        return last.split("+")[0] == self.name and (not module or folder.startswith(f"{module}/") or is_of_type)
+        # (those of a function that calls itself stand in a folder `+NAME`)
+        return last.lstrip("+").split("+")[0] == self.name and (not module or folder.startswith(f"{module}/") or is_of_type)
 
 
 class Verdict:

@@ -218,6 +218,8 @@ class Reading(unittest.TestCase):
         place = edit_trials.Place("src/walks.rt", 0, "next", "List")
         self.assertTrue(place.has_answers_in("lists/ListWalk/next"))
         self.assertFalse(edit_trials.Place("src/walks.rt", 1, "next").has_answers_in("lists/ListWalk/next"))
+        for folder in ("walks/next", "walks/+next", "walks/+next+more"):
+            self.assertTrue(edit_trials.Place("src/walks.rt", 1, "next").has_answers_in(folder), folder)
         self.assertTrue(place.meets(edit_trials.Place("src/others.rt", 0, "next", "List")))
 
     def test_goals_of_a_type(self):

@@ -233,15 +233,17 @@ try_wrong_nand() {
 # An edit of a file, by sed, that the program of a case has to fail: what is wrong, the file, the edit, how the program is built, and
 # its words.
 wrong() {
-    local what=$1 file=$2 edit=$3 how=$4
+    local what=$1 file=$2 edit=$3 how=$4 status
     shift 4
     sed "$edit" "$file" > "$made/$file"
     if cmp -s "$file" "$made/$file"; then
         tell "$what: the edit applies" 1
         return
     fi
-    "wrong_$how" "$file" && ! run 300 wrong "$@" > /dev/null 2>&1
-    tell "$what is seen" $?
+    "wrong_$how" "$file" || { tell "$what: it builds" 1; return; }
+    run 300 wrong "$@" > /dev/null 2>&1
+    status=$?
+    tell "$what is seen, by a case that ends" $((status == 0 || status == 124))
 }
 
 # How each program is built with an edited file.

@@ -131,6 +131,7 @@ static void call_in(void *with) {
     struct undofs_stat found;
     struct undofs *second = NULL;
     if (caller->is_quiet) return;
+    caller->is_quiet = 1; /* a second handle, were it there, would ask the driver too */
     caller->asked += 4;
     caller->refused += undofs_stat(caller->opened->handle, "/", NULL, &found) == UNDOFS_BUSY;
     caller->refused += undofs_pwrite(caller->opened->handle, 0, 0, other, sizeof other) == UNDOFS_BUSY;
@@ -138,6 +139,7 @@ static void call_in(void *with) {
     undofs_end(second);
     undofs_end(caller->opened->handle);
     caller->refused += undofs_is_there(caller->opened->handle) != 0;
+    caller->is_quiet = 0;
 }
 
 static void calls_of_drivers(void) {

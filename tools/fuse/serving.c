@@ -83,6 +83,30 @@ void serving_drop_pages(const struct paths *paths) {
 
 /* ---- the first thread ---- */
 
+/* The signals that end the daemon are held but while it waits, and for a moment before each look whether one came: one that came between
+ * the look and the wait would be waited past. */
+static sigset_t ends, others;
+
+static void hold_ends(void) {
+    sigemptyset(&ends);
+    sigaddset(&ends, SIGINT);
+    sigaddset(&ends, SIGHUP);
+    sigaddset(&ends, SIGTERM);
+    (void)pthread_sigmask(SIG_BLOCK, &ends, &others);
+}
+
+static int is_ended(struct fuse_session *session) {
+    (void)pthread_sigmask(SIG_SETMASK, &others, NULL);
+    (void)pthread_sigmask(SIG_BLOCK, &ends, NULL);
+    return fuse_session_exited(session);
+}
+
+/* Whether a request is there after so many milliseconds at most; with -1 they have no end. */
+static int is_waited_for(struct pollfd *request, int milliseconds) {
+    const struct timespec time = {milliseconds / 1000, milliseconds % 1000 * 1000000L};
+    return ppoll(request, 1, milliseconds < 0 ? NULL : &time, &others) > 0;
+}
+
 /* Requests are done one by one. Between them what is due is done; that nothing changes for a while shows only where no request waits. */
 int serve_folder(struct fuse *fuse) {
     struct fuse_session *session = fuse_get_session(fuse);
@@ -93,9 +117,10 @@ int serve_folder(struct fuse *fuse) {
     served = fuse;
     int why = start_second(session);
     if (why != 0) return why;
-    while (is_there && !fuse_session_exited(session)) {
+    hold_ends();
+    while (is_there && !is_ended(session)) {
         int is_waiting = poll(&request, 1, 0) > 0, due = saves_due(is_waiting);
-        if (is_waiting || poll(&request, 1, due) > 0) is_there = is_served(session, &buffer);
+        if (is_waiting || is_waited_for(&request, due)) is_there = is_served(session, &buffer);
     }
     end_second();
     free(buffer.mem);

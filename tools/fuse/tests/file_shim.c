@@ -5,11 +5,13 @@
  *                    `state` those of its state, and with `read` reads do
  *   SHIM_WHILE=FILE  writes and reads count, and fail, only while FILE is there
  *   SHIM_FOLDER=1    the fsync of each folder fails with EIO
- *   SHIM_LATE=N      the process goes on for N milliseconds after its end */
+ *   SHIM_LATE=N      the process goes on for N milliseconds after its end
+ *   SHIM_WAIT=N      each wait for a descriptor that has no end begins N milliseconds late */
 #define _GNU_SOURCE
 #include <dlfcn.h>
 #include <errno.h>
 #include <fcntl.h>
+#include <poll.h>
 #include <stdarg.h>
 #include <stdint.h>
 #include <stdlib.h>
@@ -118,8 +120,21 @@ int fsync(int file) {
     return ((int (*)(int))real("fsync"))(file);
 }
 
-__attribute__((destructor)) static void end_late(void) {
-    long late = part >= 0 && getenv("SHIM_LATE") != NULL ? atol(getenv("SHIM_LATE")) : 0;
+/* As long as a variable says; a signal ends it. */
+static void be_late(const char *variable) {
+    long late = part >= 0 && getenv(variable) != NULL ? atol(getenv(variable)) : 0;
     const struct timespec while_waiting = {late / 1000, late % 1000 * 1000000};
-    nanosleep(&while_waiting, NULL);
+    if (late > 0) nanosleep(&while_waiting, NULL);
 }
+
+int poll(struct pollfd *ends, nfds_t count, int milliseconds) {
+    if (milliseconds < 0) be_late("SHIM_WAIT");
+    return ((int (*)(struct pollfd *, nfds_t, int))real("poll"))(ends, count, milliseconds);
+}
+
+int ppoll(struct pollfd *ends, nfds_t count, const struct timespec *time, const sigset_t *mask) {
+    if (time == NULL) be_late("SHIM_WAIT");
+    return ((int (*)(struct pollfd *, nfds_t, const struct timespec *, const sigset_t *))real("ppoll"))(ends, count, time, mask);
+}
+
+__attribute__((destructor)) static void end_late(void) { be_late("SHIM_LATE"); }

@@ -283,6 +283,18 @@ def a_signal_ends_it_well():
             f.unmount()
 
 
+def a_signal_before_a_wait():
+    """A signal that comes after a request and before the wait for the next one, which begins late and has no end: it is not waited past."""
+    with Folder("commit=0") as f:
+        f.mount({"SHIM_FILE": f.part, "SHIM_WAIT": "1500"})
+        time.sleep(3)
+        os.listdir(f.path)
+        time.sleep(0.5)
+        f.process.send_signal(signal.SIGTERM)
+        want(f.process.wait(15), 0, "the daemon's status")
+        want(os.path.ismount(f.path), False, "is it mounted")
+
+
 def a_second_signal_breaks_nothing_off():
     """Once one has unmounted the folder, more of them leave the daemon to what it brings to the part, and so does a log that nobody reads."""
     texts = {f"f{i}": bytes([i]) * 1000000 for i in range(12)}
@@ -315,5 +327,6 @@ CASES = [
     make_is_right_after_undo,
     a_mount_is_found_again,
     a_signal_ends_it_well,
+    a_signal_before_a_wait,
     a_second_signal_breaks_nothing_off,
 ]

@@ -12,6 +12,8 @@ mod commits;
 #[cfg(test)]
 mod directories;
 #[cfg(test)]
+mod extended_headers;
+#[cfg(test)]
 mod headers_read;
 #[cfg(test)]
 mod headers_written;

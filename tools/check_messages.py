@@ -18,7 +18,7 @@ TOP = os.path.dirname(os.path.dirname(os.path.abspath(__file__)))
 # The files with the causes that are told after a colon.
 CAUSES = [
     "crates/host_files/src/image_files.rt", "crates/image_jobs/src/source_fault.rt", "crates/tar_jobs/src/step.rt",
-    "crates/tar_format/src/header_fault.rt", "crates/flash_image/src/image_fault.rt", "crates/part_file/src/part_file.rt",
+    "crates/tar_format/src/header_fault.rt", "crates/tar_format/src/record_fault.rt", "crates/flash_image/src/image_fault.rt", "crates/part_file/src/part_file.rt",
 ]
 # What no call of the program tells, and why.
 NOT_REACHED = {
@@ -35,6 +35,7 @@ NOT_REACHED = {
     "{0}": "a cause of another kind",
     "the archive has a link or something else, of typeflag {0}": "told with the name, as what cannot be put",
     "a name in the archive is refused: {0}": "told with the name, as what cannot be put",
+    "a pax header has a keyword that is not read": "told with the name, as what cannot be put",
     "a file has over 16777216 bytes": "told with the name, as what cannot be put",
 }
 # What stands for a part of a message: in the sources by its name, on pages in capitals.

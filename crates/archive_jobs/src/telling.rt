@@ -57,16 +57,28 @@ pub(crate) fn tell_unread<E: Write>(alloc: Global, unread: &UnreadArchive, err: 
         return;
     };
     let name = name.as_str();
-    match unread.fault {
+    match &unread.fault {
         ArchiveFault::Memory => {}
         ArchiveFault::Unsupported(b'1' | b'2') => tell_fault(SourceFault::Link, name, err),
         ArchiveFault::Unsupported(_) => tell_fault(SourceFault::Special, name, err),
         ArchiveFault::Unread(HeaderFault::TooLong) => tell_fault(SourceFault::TooBig, name, err),
         ArchiveFault::Name(Fault::NameTooLong) => tell_fault(SourceFault::TooLong, name, err),
         ArchiveFault::Name(_) => tell_fault(SourceFault::BadName, name, err),
+        ArchiveFault::Keyword(keyword) => tell_keyword(alloc, name, keyword.as_slice(), err),
         fault => {
             let _ = writeln!(err, "uffs: cannot read -: {fault}");
         }
+    }
+}
+
+/// Tells that what has a name is not put for a keyword of an extended header before it.
+fn tell_keyword<E: Write>(alloc: Global, name: &str, keyword: &[u8], err: &mut E) {
+    if let Ok(keyword) = name_text(alloc, keyword) {
+        let keyword = keyword.as_str();
+        let _ = writeln!(
+            err,
+            "uffs: cannot put {name}: a pax header before it has the keyword {keyword}"
+        );
     }
 }
 

@@ -25,7 +25,7 @@ fn changed(rt: &impl Abort, alloc: Global, changes: &[(usize, u8)]) -> Result<[u
 
 #[test]
 fn headers_are_read(rt: HostRuntime) -> Result<(), Fail> {
-    let rows: [(&[(usize, u8)], Result<Header, HeaderFault>); 13] = [
+    let rows: [(&[(usize, u8)], Result<Header, HeaderFault>); 15] = [
         (&[], Ok(Header::File(5))),
         // Magic and checksum; the checksum is no number; the size is none, with the sum as it was.
         (&[(257, b'v')], Err(HeaderFault::Magic)),
@@ -37,20 +37,22 @@ fn headers_are_read(rt: HostRuntime) -> Result<(), Fail> {
             &[(126, b'1'), (134, b'1'), (0, b'd')],
             Err(HeaderFault::TooLong),
         ),
-        // Typeflags: NUL and 7 for a file, 5, 2 and 1, x, and L.
+        // Typeflags: NUL and 7 for a file, 5, 2 and 1, S, x and g, and L.
         (&[(156, 0), (0, 145)], Ok(Header::File(5))),
         (&[(156, b'7'), (0, b'Z')], Ok(Header::File(5))),
         (&[(156, b'5'), (0, b'\\')], Ok(Header::Folder)),
         (&[(156, b'2'), (0, b'_')], Ok(Header::Other(b'2', 0))),
         (&[(156, b'1'), (0, b'`')], Ok(Header::Other(b'1', 0))),
-        (&[(156, b'x'), (0, 25)], Ok(Header::Other(b'x', 5))),
+        (&[(156, b'S'), (0, b'>')], Ok(Header::Other(b'S', 5))),
+        (&[(156, b'x'), (0, 25)], Ok(Header::Extended(5))),
+        (&[(156, b'g'), (0, b'*')], Ok(Header::Global(5))),
         (&[(156, b'L'), (0, b'E')], Ok(Header::LongName(5))),
     ];
     for (changes, wanted) in rows {
         let block = changed(&rt, rt.alloc(), changes)?;
-        assert_eq!(rt; read_header(&block), wanted, "at {changes:?}");
+        assert_eq!(rt; read_header(&block, None), wanted, "at {changes:?}");
     }
-    assert_eq!(rt; read_header(&[0; 512]), Ok(Header::Zeros));
+    assert_eq!(rt; read_header(&[0; 512], None), Ok(Header::Zeros));
     // GNU's magic is `ustar` and two spaces, which are 32 less than NUL and two digits. Where POSIX has the
     // prefix GNU has times.
     let block = changed(
@@ -58,9 +60,32 @@ fn headers_are_read(rt: HostRuntime) -> Result<(), Fail> {
         rt.alloc(),
         &[(262, b' '), (263, b' '), (264, 0), (345, b'1'), (0, b'P')],
     )?;
-    assert_eq!(rt; read_header(&block), Ok(Header::File(5)));
+    assert_eq!(rt; read_header(&block, None), Ok(Header::File(5)));
     let name = name_told(rt.alloc(), &block)?;
     assert_eq!(rt; name.as_slice(), b"P".as_slice());
+    Ok(())
+}
+
+// A size that an extended header told goes before that of a header, but for what tells of a member itself.
+#[test]
+fn told_sizes_are_read(rt: HostRuntime) -> Result<(), Fail> {
+    let rows: [(&[(usize, u8)], u64, Result<Header, HeaderFault>); 7] = [
+        (&[], 7, Ok(Header::File(7))),
+        (&[], 16_777_216, Ok(Header::File(16_777_216))),
+        (&[], 16_777_217, Err(HeaderFault::TooLong)),
+        (&[(133, b'8'), (134, b'-')], 7, Ok(Header::File(7))),
+        (&[(156, b'5'), (0, b'\\')], 7, Ok(Header::Folder)),
+        (&[(156, b'x'), (0, 25)], 7, Ok(Header::Extended(5))),
+        (&[(156, b'L'), (0, b'E')], 7, Ok(Header::LongName(5))),
+    ];
+    for (changes, size, wanted) in rows {
+        let block = changed(&rt, rt.alloc(), changes)?;
+        assert_eq!(rt;
+            read_header(&block, Some(size)),
+            wanted,
+            "at {changes:?} and {size}"
+        );
+    }
     Ok(())
 }
 

@@ -97,7 +97,7 @@ fn headers_are_written(rt: HostRuntime) -> Result<(), Fail> {
         let worked = joined(rt.alloc(), parts)?;
         assert_eq!(rt; block.as_slice(), worked.as_slice());
         let block = block_of(&rt, &block);
-        assert_eq!(rt; read_header(&block), Ok(wanted));
+        assert_eq!(rt; read_header(&block, None), Ok(wanted));
         let name = name_told(rt.alloc(), &block)?;
         if let Some(named) = named {
             assert_eq!(rt; name.as_slice(), named);

@@ -3,3 +3,4 @@ pub mod Causing
 pub mod Doing
 pub mod Fresh
 pub mod Keeping
+pub mod Sharing

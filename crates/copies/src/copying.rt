@@ -1,5 +1,5 @@
 //! A history that is copied.
-ghost use Rattle.std.specs.Prelude.{◌≡◌, ◌++◌, ◌∷◌, [], ◌≤◌, ℕ, None, Some, All, List, IfOk, IfSome, OnOk, IfErr, length, map, take, drop};
+ghost use Rattle.std.specs.Prelude.{◌≡◌, ◌++◌, ◌∷◌, [], ◌≤◌, ℕ, None, Some, true, false, All, Contains, List, IfOk, IfSome, IfNone, OnOk, IfErr, length, map, take, drop};
 ghost use Rattle.std.specs.BTreeMap.{insert_entry};
 ghost use Rattle.fs_types.specs.Names.{name_cmp};
 ghost use Rattle.fs_types.specs.declared.call.View.{View};
@@ -10,6 +10,7 @@ ghost use Rattle.history_copies.specs.Copies.{IsCopy, first_kept, kept_versions,
 ghost use Rattle.inquiries.specs.Readings.{shown, IsUnchanged, Meets};
 ghost use Rattle.inquiries.specs.Versions.{kept_names, kept_serials};
 ghost use Rattle.mounting.specs.Formats.{IsFormatted};
+ghost use Rattle.system.specs.TreeSizes.{ShowRoots};
 ghost use Rattle.undofs.specs.Systems.{flash_name};
 ghost use Rattle.copies.specs.Calls.{IsReady, IsSynced};
 ghost use Rattle.copies.specs.Causes.{CopyCause, NotCopied, NotCopiedTo};
@@ -238,6 +239,7 @@ fn copy_version<F: Flash, G: Flash>(
     ensures ok { (limit : ℕ) (trees : List Tree) → Holds limit trees (shown from.old).history.checkpoints (shown to.old).history → OnOk result (Holds limit (trees ++ view_tree (shown from.old) (View.Serial serial) ∷ []) (shown from.old).history.checkpoints (shown to.new).history) }
     ensures ready { OnOk result (IsReady (shown to.new)) }
     ensures kept { OnOk result ((shown to.new).history.checkpoints ≡ (shown from.old).history.checkpoints) }
+    ensures shared { (name : List ℕ) → Contains names.now name → ShowRoots from.old.system.state (View.Checkpoint name) (View.Serial serial) true → OnOk result (G.device to.new.flash.now ≡ G.device to.old.flash.now) }
     ensures same_flash { flash_name to.new ≡ flash_name to.old }
     ensures err { IfErr result (NotCopied (shown from.old) (F.device from.old.flash.now) (F.device from.new.flash.now) (G.device to.new.flash.now)) }
 {
@@ -260,6 +262,7 @@ fn shared_checkpoint<'a, F: Flash>(
     requires names { names.now ≡ kept_names (shown from.now) }
     requires there { view_refusal (shown from.now).history (View.Serial serial) ≡ None }
     ensures ok { IfOk result (λ found. IfSome found (λ name. IsShared (shown from.now) serial name.now)) }
+    ensures none { IfOk result (λ found. IfNone found (All (λ name. ShowRoots from.now.system.state (View.Checkpoint name) (View.Serial serial) false) names.now)) }
     ensures err { IfErr result (Meets (F.device from.now.flash.now) (F.device from.now.flash.now)) }
 {
     for name in names {

@@ -1,4 +1,4 @@
-use Rattle.std.proofs.Common.{◌∙◌, ap}
+use Rattle.std.proofs.Common.{◌∙◌, ℕ, List, false, ap}
 use Rattle.fs_types.specs.declared.call.View.{View}
 use Rattle.history_machine.specs.Machine.{Machine, view_tree}
 use Rattle.history_machine.proofs.Versions.{checkpoints-changed}
@@ -7,6 +7,8 @@ use Rattle.copies.proofs.Brought.{ready_changed}
 use Rattle.copies.proofs.Doing.{call_done, call_stops}
 use Rattle.copies.proofs.Causing.{on_uncopied}
 use Rattle.copies.proofs.Keeping.{rolled, rolled_small, version_held}
+use Rattle.copies.proofs.Sharing.{holds_of, not_both}
+use Rattle.system.specs.TreeSizes.{ShowRoots}
 use Rattle.copies.proofs.copying.copy_version.Goals as goal
 
 pub returns-in-Ok-clause-ok : goal.returns-in-Ok-clause-ok
@@ -42,3 +44,13 @@ returns-in-Ok-None-clause-kept g c =
     on_uncopied c.bring.result _ _
     (λ made. ap (λ (m : Machine). m.history.checkpoints) made ∙ checkpoints-changed (shown c.args.to.now).history (view_tree (shown c.args.from.now) (View.Serial c.args.serial)) ∙ c.requires.kept)
     c.bring.ensures.ok
+
+pub returns-in-Ok-clause-shared : goal.returns-in-Ok-clause-shared
+returns-in-Ok-clause-shared g c = λ name among same. c.rollback.ensures.still
+
+pub returns-in-Ok-None-clause-shared : goal.returns-in-Ok-None-clause-shared
+returns-in-Ok-None-clause-shared g c = λ name among same.
+    let s = c.args.from.now.system.state in
+    let none = rw c.in-Ok-None.field-0-is at c.in-Ok-None.ensures.none in
+    absurd (not_both s (View.Checkpoint name) (View.Serial c.args.serial) same
+    (holds_of (λ (n : List ℕ). ShowRoots s (View.Checkpoint n) (View.Serial c.args.serial) false) c.args.names.now name none among))

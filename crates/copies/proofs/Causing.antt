@@ -29,8 +29,8 @@ use Rattle.undofs.specs.Sessions.{world}
 use Rattle.undofs.proofs.SessionSteps.{mount_begins}
 use Rattle.undofs.specs.declared.fs.Fs.{Fs}
 use Rattle.updates.specs.Asked.{Untold}
-use Rattle.copies.specs.Calls.{IsReady}
-use Rattle.copies.specs.Causes.{CopiesNot, CopyCause, HasLarge, NotCopied, NotCopiedTo, of_untold}
+use Rattle.copies.specs.Calls.{IsReady, StopsMoving}
+use Rattle.copies.specs.Causes.{CopiesNot, CopyCause, HasLarge, NotCopied, NotCopiedTo, StopsBringing, of_untold}
 use Rattle.copies.specs.declared.uncopied.Uncopied.{Uncopied}
 
 module _ {F G : Type 0} {flash : Ghosts F} {another : Ghosts G} where
@@ -57,7 +57,7 @@ module _ {F : Type 0} {flash : Ghosts F} where
       later _ met = absurd met
   stops_later a b left second (Uncopied.Unread fault) same (inr met) = inr met
   stops_later a b left second Uncopied.TooManyLines same large = subst HasLarge same.machine large
-  stops_later a b left second (Uncopied.Refused fault) same stops = stops
+  stops_later a b left second (Uncopied.Refused fault) same stops = subst (λ (m : Machine). StopsBringing m second fault ⊎ StopsMoving second fault) same.machine stops
   stops_later a b left second (Uncopied.Unmounted fault) same why = absurd why
   stops_later a b left second (Uncopied.Unready fault) same why = absurd why
 

@@ -20,7 +20,7 @@ use Rattle.undofs.proofs.RunLaws.{refused_keeps}
 use Rattle.undofs.specs.Systems.{StepsBetween}
 use Rattle.undofs.specs.declared.fs.Fs.{Fs}
 use Rattle.inquiries.specs.Readings.{shown}
-use Rattle.copies.specs.Calls.{Does, Stops}
+use Rattle.copies.specs.Calls.{Does, IsMove, Stops, StopsMoving}
 
 -- ---- calls of a machine
 
@@ -68,8 +68,13 @@ module _ {G : Type 0} {flash : Ghosts G} where
   pub call_done : (before : Fs G flash) (call : Call) (reply : Reply) (left : Fs G flash) → StepsBetween before call (Ok reply) left → Does (shown before) (call ∷ []) (shown left)
   call_done before call reply left step = record { accepted = (step.step.answers.1.accepted, tt); leads = step.step.answers.1.leaves }
 
-  pub call_stops : (before : Fs G flash) (call : Call) (fault : Fault) (left : Fs G flash) → StepsBetween before call (Err fault) left → Stops (flash.device left.flash.now) fault
-  call_stops before call fault left step = inr (flash.device before.flash.now, before.system, call, left.system, step.step)
+  pub call_stops : (before : Fs G flash) (call : Call) (fault : Fault) (left : Fs G flash) → StepsBetween before call (Err fault) left → Stops (shown before) (call ∷ []) (flash.device left.flash.now) fault
+  call_stops before call fault left step =
+      inr (record { made = []; call = call; rest = []; device = flash.device before.flash.now; system = before.system; later = left.system; are = refl; done = does_none (shown before); step = step.step })
+
+  -- a call that is none of changes
+  pub move_stops : (before : Fs G flash) (call : Call) (fault : Fault) (left : Fs G flash) → IsMove call → StepsBetween before call (Err fault) left → StopsMoving (flash.device left.flash.now) fault
+  move_stops before call fault left is step = (shown before, call, is, call_stops before call fault left step)
 
   -- a refused call leaves the machine
   pub call_left : (before : Fs G flash) (call : Call) (fault : Fault) (left : Fs G flash) → StepsBetween before call (Err fault) left → shown left ≡ shown before
@@ -82,9 +87,14 @@ module _ {G : Type 0} {flash : Ghosts G} where
   last_done before call (Ok done) left step = call_done before call (empty done) left step
   last_done before call (Err fault) left step = tt
 
-  pub last_stops : (before : Fs G flash) (call : Call) (result : Result (Unit {0}) Fault) (left : Fs G flash) → StepsBetween before call (replied empty result) left → IfErr result (Stops (flash.device left.flash.now))
+  pub last_stops : (before : Fs G flash) (call : Call) (result : Result (Unit {0}) Fault) (left : Fs G flash) → StepsBetween before call (replied empty result) left → IfErr result (Stops (shown before) (call ∷ []) (flash.device left.flash.now))
   last_stops before call (Ok done) left step = tt
   last_stops before call (Err fault) left step = call_stops before call fault left step
+
+  pub last_move_stops : (before : Fs G flash) (call : Call) (result : Result (Unit {0}) Fault) (left : Fs G flash) → IsMove call → StepsBetween before call (replied empty result) left
+      → IfErr result (StopsMoving (flash.device left.flash.now))
+  last_move_stops before call (Ok done) left is step = tt
+  last_move_stops before call (Err fault) left is step = move_stops before call fault left is step
 
   -- a sync saves the history that is shown
   pub synced : (before : Fs G flash) (result : Result (Unit {0}) Fault) (left : Fs G flash) → shown before ≡ mounted (shown before).history → StepsBetween before Call.Sync (replied empty result) left

@@ -4,3 +4,4 @@ pub mod Doing
 pub mod Fresh
 pub mod Keeping
 pub mod Sharing
+pub mod Stopping

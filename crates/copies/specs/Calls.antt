@@ -1,5 +1,5 @@
 -- Calls on the file system to which a history is copied.
-use Rattle.std.specs.Prelude.{◌≡◌, ◌⊎◌, List, Err, Some, All}
+use Rattle.std.specs.Prelude.{◌≡◌, ◌⊎◌, List, [], ◌∷◌, ◌++◌, Err, Some, All}
 use Rattle.fs_types.specs.declared.call.Call.{Call}
 use Rattle.fs_types.specs.declared.fault.Fault.{Fault}
 use Rattle.flash_model.specs.Device.{Device}
@@ -12,6 +12,7 @@ use Rattle.system.specs.Steps.{SystemStep}
 use Rattle.system.specs.declared.systems.System.{System}
 use Rattle.tree_updates.specs.Laws.{EachAccepted}
 use Rattle.undofs.specs.declared.fs.Fs.{Fs}
+use Rattle.working_state.specs.Seen.{machine_on}
 
 -- calls are accepted one after the other, and lead there
 pub record Does (m : Machine) (calls : List Call) (n : Machine) : Type 0 where
@@ -24,9 +25,35 @@ pub record IsReady (m : Machine) : Type 0 where
   pub small : IsSmall (present_tree m)
   pub kept : All (λ e. IsSmall e.1) m.history.checkpoints
 
--- why calls stop, which left the flash so: one is refused, or there is no memory to make it
-abbrev pub Stops : Device → Fault → Type 0
-Stops left fault = (fault ≡ Fault.NoMemory) ⊎ ((d : Device) × (s : System) × (call : Call) × (t : System) × SystemStep d s call (Err fault) left t)
+-- on a file system that shows a machine the first of these calls are accepted, and the next one is refused, which left its flash so
+pub record IsRefused (m : Machine) (calls : List Call) (left : Device) (fault : Fault) : Type 0 where
+  pub made : List Call
+  pub call : Call
+  pub rest : List Call
+  pub device : Device
+  pub system : System
+  pub later : System
+  pub are : calls ≡ made ++ call ∷ rest
+  pub done : Does m made (machine_on device system.state)
+  pub step : SystemStep device system call (Err fault) left later
+
+-- why they stop, which left the flash so: one is refused, or there is no memory to make it
+abbrev pub Stops : Machine → List Call → Device → Fault → Type 0
+Stops m calls left fault = (fault ≡ Fault.NoMemory) ⊎ IsRefused m calls left fault
+
+-- a call of a copy that makes no version of changes: it tells the history, keeps a tree or forgets one, moves, or syncs
+abbrev pub IsMove : Call → Type 0
+IsMove Call.Log = Unit {0}
+IsMove (Call.Checkpoint name) = Unit {0}
+IsMove (Call.Rollback name) = Unit {0}
+IsMove (Call.Forget count) = Unit {0}
+IsMove (Call.Goto serial) = Unit {0}
+IsMove Call.Sync = Unit {0}
+IsMove _ = ⊥
+
+-- such a call stops
+abbrev pub StopsMoving : Device → Fault → Type 0
+StopsMoving left fault = (n : Machine) × (call : Call) × IsMove call × Stops n (call ∷ []) left fault
 
 -- the newest record of its flash has the history that a file system shows
 abbrev pub IsSynced : {G : Type 0} {flash : Ghosts G} → Fs G flash → Type 0

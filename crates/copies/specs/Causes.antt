@@ -1,10 +1,12 @@
 -- Why a file system is not copied.
 use Rattle.std.specs.Prelude.{◌≡◌, ◌⊎◌, None}
+use Rattle.fs_types.specs.Names.{Path}
 use Rattle.fs_types.specs.declared.call.View.{View}
+use Rattle.fs_types.specs.declared.fault.Fault.{Fault}
 use Rattle.flash_model.specs.Device.{Device}
 use Rattle.flash_model.specs.Reading.{OnlyReads}
 use Rattle.history_machine.specs.History.{view_refusal}
-use Rattle.history_machine.specs.Machine.{Machine, view_tree}
+use Rattle.history_machine.specs.Machine.{Machine, view_tree, working_tree}
 use Rattle.inquiries.specs.Folders.{IsSmall}
 use Rattle.inquiries.specs.Readings.{Meets}
 use Rattle.inquiries.specs.declared.tell_fault.TellFault.{TellFault}
@@ -12,7 +14,9 @@ use Rattle.system.specs.Mounts.{IsMountOf}
 use Rattle.system.specs.declared.systems.System.{System}
 use Rattle.undofs.specs.Refusals.{RefusesMount}
 use Rattle.working_state.specs.Seen.{machine_on}
-use Rattle.copies.specs.Calls.{Stops}
+use Rattle.history_copies.specs.Laws.{bringing}
+use Rattle.tree_updates.specs.Updates.{update_changes}
+use Rattle.copies.specs.Calls.{Stops, StopsMoving}
 use Rattle.copies.specs.declared.uncopied.Uncopied.{Uncopied}
 
 abbrev pub of_untold : TellFault → Uncopied
@@ -23,12 +27,19 @@ of_untold TellFault.TooManyLines = Uncopied.TooManyLines
 abbrev pub HasLarge : Machine → Type 0
 HasLarge m = (view : View) × (view_refusal m.history view ≡ None) × (IsSmall (view_tree m view) → ⊥)
 
+-- the calls that make a version of the tree of a view of one machine stop on a file system that shows another one
+pub record StopsBringing (m : Machine) (left : Device) (fault : Fault) : Type 0 where
+  pub shows : Machine
+  pub view : View
+  pub path : Path
+  pub stops : Stops shows (bringing (update_changes (working_tree shows) (view_tree m view)) path) left fault
+
 -- why the copying from what a machine shows stops, which left the first flash so and the second: the reading met it on one of the
--- two; a tree has too much; or a call on the second stops
+-- two; a tree has too much; or on the second the calls stop that make a version of a tree, or one beside these
 abbrev pub NotCopied : Machine → Device → Device → Device → Uncopied → Type 0
 NotCopied m first left second (Uncopied.Unread fault) = Meets first left fault ⊎ ((was : Device) × Meets was second fault)
 NotCopied m first left second Uncopied.TooManyLines = HasLarge m
-NotCopied m first left second (Uncopied.Refused fault) = Stops second fault
+NotCopied m first left second (Uncopied.Refused fault) = StopsBringing m second fault ⊎ StopsMoving second fault
 NotCopied m first left second _ = ⊥
 
 -- the same, of a second flash that may not be mounted

@@ -50,7 +50,7 @@ pub(crate) fn bring<F: Flash, G: Flash>(
 fn make_version<G: Flash>(alloc: Global, to: &mut Fs<'_, G>, changes: &[Call]) -> Result<(), Fault>
     ensures ok { OnOk result ((path : Path) × Does (shown to.old) (bringing changes.now path) (shown to.new)) }
     ensures same_flash { flash_name to.new ≡ flash_name to.old }
-    ensures err { IfErr result (Stops (G.device to.new.flash.now)) }
+    ensures err { IfErr result (λ fault. (path : Path) × Stops (shown to.old) (bringing changes.now path) (G.device to.new.flash.now) fault) }
 {
     to.begin()?;
     carry_out_or_touch(alloc, to, changes)?;
@@ -66,7 +66,7 @@ fn carry_out_or_touch<G: Flash>(
 ) -> Result<(), Fault>
     ensures ok { OnOk result ((path : Path) × Does (shown to.old) (changes_or changes.now path) (shown to.new)) }
     ensures same_flash { flash_name to.new ≡ flash_name to.old }
-    ensures err { IfErr result (Stops (G.device to.new.flash.now)) }
+    ensures err { IfErr result (λ fault. (path : Path) × Stops (shown to.old) (changes_or changes.now path) (G.device to.new.flash.now) fault) }
 {
     match changes {
         [] => touch(alloc, to),
@@ -78,7 +78,7 @@ fn carry_out_or_touch<G: Flash>(
 fn carry_out<G: Flash>(alloc: Global, to: &mut Fs<'_, G>, calls: &[Call]) -> Result<(), Fault>
     ensures ok { OnOk result (Does (shown to.old) calls.now (shown to.new)) }
     ensures same_flash { flash_name to.new ≡ flash_name to.old }
-    ensures err { IfErr result (Stops (G.device to.new.flash.now)) }
+    ensures err { IfErr result (Stops (shown to.old) calls.now (G.device to.new.flash.now)) }
 {
     for call in calls {
         let _reply = to.call(alloc, call)?;
@@ -90,7 +90,7 @@ fn carry_out<G: Flash>(alloc: Global, to: &mut Fs<'_, G>, calls: &[Call]) -> Res
 fn touch<G: Flash>(alloc: Global, to: &mut Fs<'_, G>) -> Result<(), Fault>
     ensures ok { OnOk result ((path : Path) × Does (shown to.old) (Call.Mkdir path ∷ Call.Rmdir path ∷ []) (shown to.new)) }
     ensures same_flash { flash_name to.new ≡ flash_name to.old }
-    ensures err { IfErr result (Stops (G.device to.new.flash.now)) }
+    ensures err { IfErr result (λ fault. (path : Path) × Stops (shown to.old) (Call.Mkdir path ∷ Call.Rmdir path ∷ []) (G.device to.new.flash.now) fault) }
 {
     for number in 0..MAX_ENTRIES as u64 {
         let path = numbered(alloc, number)?;

@@ -5,7 +5,7 @@ ghost use Rattle.plain_trees.specs.Trees.{Tree};
 ghost use Rattle.inquiries.specs.Readings.{shown};
 ghost use Rattle.history_machine.specs.Machine.{mounted};
 ghost use Rattle.undofs.specs.Systems.{flash_name};
-ghost use Rattle.copies.specs.Calls.{Does, IsSynced, Stops};
+ghost use Rattle.copies.specs.Calls.{Does, IsSynced, StopsMoving};
 ghost use Rattle.copies.specs.Copied.{Holds, HasTrees};
 
 use flash_model::Flash;
@@ -25,7 +25,7 @@ pub(crate) fn end_copy<G: Flash>(
     ensures ok { (limit : ℕ) (before trees : List Tree) (checkpoints : List (List ℕ × Tree)) → Holds limit (before ++ trees) checkpoints (shown to.old).history → length trees ≡ kept → kept ≤ limit → OnOk result (HasTrees limit trees cursor checkpoints (shown to.new).history) }
     ensures synced { OnOk result (IsSynced to.new) }
     ensures same_flash { flash_name to.new ≡ flash_name to.old }
-    ensures err { IfErr result (Stops (G.device to.new.flash.now)) }
+    ensures err { IfErr result (StopsMoving (G.device to.new.flash.now)) }
 {
     let log = to.log(alloc)?;
     let serials = log.versions.as_slice();
@@ -40,7 +40,7 @@ fn go_to_place<G: Flash>(to: &mut Fs<'_, G>, serials: &[u64], place: usize) -> R
     ensures ok { OnOk result ((serial : ℕ) → slice_get serials.now place ≡ Some serial → Does (shown to.old) (Call.Goto serial ∷ []) (shown to.new)) }
     ensures rests { shown to.old ≡ mounted (shown to.old).history → OnOk result (shown to.new ≡ mounted (shown to.new).history) }
     ensures same_flash { flash_name to.new ≡ flash_name to.old }
-    ensures err { IfErr result (Stops (G.device to.new.flash.now)) }
+    ensures err { IfErr result (StopsMoving (G.device to.new.flash.now)) }
 {
     match serials.get(place) {
         Some(serial) => to.goto(*serial),

@@ -1,5 +1,9 @@
-use Rattle.std.proofs.Common.{◌∙◌, sym, subst}
-use Rattle.history_machine.specs.Machine.{view_tree}
+use Rattle.std.proofs.Common.{◌∙◌, List, inl, ap, sym, subst}
+use Rattle.fs_types.specs.declared.call.Call.{Call}
+use Rattle.history_copies.specs.Laws.{bringing}
+use Rattle.tree_updates.specs.Updates.{update_changes}
+use Rattle.copies.specs.Calls.{Stops}
+use Rattle.history_machine.specs.Machine.{Machine, view_tree, working_tree}
 use Rattle.inquiries.specs.Readings.{shown}
 use Rattle.inquiries.proofs.Entries.{view-file_tree}
 use Rattle.copies.specs.Causes.{NotCopied}
@@ -11,6 +15,19 @@ pub returns-in-Err-clause-err : goal.returns-in-Err-clause-err
 returns-in-Err-clause-err g c =
     subst (NotCopied (shown c.args.from.now) (g.F.Flash.device c.args.from.now.flash.now) (g.F.Flash.device c.list_changes.new.second.flash.now) (g.G.Flash.device c.list_changes.new.first.flash.now)) (sym c.of_untold.ensures)
     (untold c.args.to.now c.args.from.now c.list_changes.new.first c.list_changes.new.second c.args.view.now c.in-Err.fault c.requires.view c.requires.ready c.in-Err.ensures.err)
+
+pub returns-in-Err-make_version-clause-err : goal.returns-in-Err-make_version-clause-err
+returns-in-Err-make_version-clause-err g c =
+    let m = shown c.args.from.now in
+    let view = c.args.view.now in
+    let stopped = c.in-Err-make_version.ensures.err in
+    let are = c.deref.ensures.value ∙ c.in-Ok.ensures.ok ∙ ap (λ (x : Machine). update_changes (working_tree x) (view_tree m view)) (sym c.list_changes.ensures.first.machine) in
+    inl (record {
+      shows = shown c.list_changes.new.first;
+      view = view;
+      path = stopped.0;
+      stops = subst (λ (changes : List Call). Stops (shown c.list_changes.new.first) (bringing changes stopped.0) (g.G.Flash.device c.make_version.new.to.flash.now) c.in-Err-make_version.fault) are stopped.1;
+    })
 
 made : goal.returns-in-Ok-make_version-clause-ok
 made g c =

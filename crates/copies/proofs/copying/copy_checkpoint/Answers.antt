@@ -1,10 +1,11 @@
-use Rattle.std.proofs.Common.{◌≡◌, List, ℕ, subst}
+use Rattle.std.proofs.Common.{◌≡◌, List, ℕ, inl, inr, refl, subst}
+use Rattle.fs_types.specs.declared.call.Call.{Call}
 use Rattle.fs_types.specs.declared.call.View.{View}
 use Rattle.history_machine.specs.History.{changed}
 use Rattle.history_machine.specs.Machine.{mounted, view_tree}
 use Rattle.inquiries.specs.Readings.{shown}
 use Rattle.copies.proofs.Brought.{small_of}
-use Rattle.copies.proofs.Doing.{call_done, call_stops}
+use Rattle.copies.proofs.Doing.{call_done, move_stops}
 use Rattle.copies.proofs.Keeping.{checkpoint_held, checkpoint_ready}
 use Rattle.copies.proofs.copying.copy_checkpoint.Goals as goal
 
@@ -22,4 +23,8 @@ returns-in-Ok-checkpoint-clause-ready g c =
     (small_of (shown c.args.to.now) (shown c.bring.new.to) new c.args.to.now.mounted.mounted.machine made c.in_ok-bring.ensures.ready)
 
 pub returns-in-Err-checkpoint-clause-err : goal.returns-in-Err-checkpoint-clause-err
-returns-in-Err-checkpoint-clause-err g c = call_stops _ _ _ _ c.in-Err-checkpoint.ensures.step
+returns-in-Err-checkpoint-clause-err g c = inr (move_stops _ _ _ _ tt c.in-Err-checkpoint.ensures.step)
+
+-- there is no memory for the name
+pub returns-in-Err-clause-err : goal.returns-in-Err-clause-err
+returns-in-Err-clause-err g c = inr (shown c.args.to.now, Call.Checkpoint c.args.name.now, tt, inl refl)

@@ -1,4 +1,4 @@
-use Rattle.std.proofs.Common.{◌≡◌, ◌∙◌, ℕ, None, List, [], ◌∷◌, ap, drop, take, subst, sym}
+use Rattle.std.proofs.Common.{◌≡◌, ◌∙◌, ℕ, None, List, [], ◌∷◌, inr, ap, drop, take, subst, sym}
 use Rattle.std.specs.Prelude.{All}
 use Rattle.std.proofs.lemmas.List.Elements.{All-drop, All-take}
 use Rattle.std.proofs.lemmas.Result.{err_from_is_err_and}
@@ -62,3 +62,6 @@ returns-in-Ok-clause-limit g c =
     c.requires.serials (kept_read from c.args.limit c.args.log.now.versions c.as_slice.result.now c.as_slice-2.result.now c.kept_from-serials.result.now c.args.log.now.cursor c.first_kept-first.result c.requires.serials c.requires.cursor c.as_slice.ensures c.as_slice-2.ensures c.first_kept-first.ensures c.kept_from-serials.ensures)
     c.in_ok-copy_checkpoints.ensures.ok c.in_ok-copy_versions.ensures.ok c.in-Ok.ensures.ok
     (place_read from c.args.limit c.args.log.now.versions c.as_slice.result.now c.args.log.now.cursor c.first_kept-first.result c.requires.serials c.requires.cursor c.as_slice.ensures c.first_kept-first.ensures)).limit
+
+pub returns-in-Err-clause-err : goal.returns-in-Err-clause-err
+returns-in-Err-clause-err g c = inr c.in-Err.ensures.err

@@ -1,10 +1,10 @@
-use Rattle.std.proofs.Common.{◌∙◌, ℕ, List, false, ap}
+use Rattle.std.proofs.Common.{◌∙◌, ℕ, List, false, inr, ap}
 use Rattle.fs_types.specs.declared.call.View.{View}
 use Rattle.history_machine.specs.Machine.{Machine, view_tree}
 use Rattle.history_machine.proofs.Versions.{checkpoints-changed}
 use Rattle.inquiries.specs.Readings.{shown}
 use Rattle.copies.proofs.Brought.{ready_changed}
-use Rattle.copies.proofs.Doing.{call_done, call_stops}
+use Rattle.copies.proofs.Doing.{call_done, move_stops}
 use Rattle.copies.proofs.Causing.{on_uncopied}
 use Rattle.copies.proofs.Keeping.{rolled, rolled_small, version_held}
 use Rattle.copies.proofs.Sharing.{holds_of, not_both}
@@ -31,7 +31,7 @@ returns-in-Ok-clause-kept g c =
     ∙ checkpoints-changed (shown c.args.to.now).history (view_tree (shown c.args.from.now) (View.Serial c.args.serial)) ∙ c.requires.kept
 
 pub returns-in-Err-rollback-clause-err : goal.returns-in-Err-rollback-clause-err
-returns-in-Err-rollback-clause-err g c = call_stops _ _ _ _ c.in-Err-rollback.ensures.step
+returns-in-Err-rollback-clause-err g c = inr (move_stops _ _ _ _ tt c.in-Err-rollback.ensures.step)
 
 pub returns-in-Ok-None-clause-ok : goal.returns-in-Ok-None-clause-ok
 returns-in-Ok-None-clause-ok g c = λ limit trees holds.

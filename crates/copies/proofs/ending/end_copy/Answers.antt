@@ -4,22 +4,22 @@ use Rattle.fs_types.specs.declared.call.Call.{Call}
 use Rattle.history_machine.specs.History.{forgotten}
 use Rattle.inquiries.specs.Readings.{shown}
 use Rattle.inquiries.proofs.Readings.{logged_versions}
-use Rattle.copies.proofs.Doing.{call_done, call_stops, last_done, last_stops, on_ok, still_rests, synced}
+use Rattle.copies.proofs.Doing.{call_done, last_done, last_move_stops, move_stops, on_ok, still_rests, synced}
 use Rattle.copies.proofs.Keeping.{ended}
 use Rattle.copies.proofs.ending.end_copy.Goals as goal
 
 pub returns-in_err-log-clause-err : goal.returns-in_err-log-clause-err
 returns-in_err-log-clause-err g c =
     let p = err_from_is_err_and c.from_residual.result c.from_residual.ensures.1 in
-    rw (p.1, p.2) (call_stops _ _ _ _ c.in_err-log.ensures)
+    rw (p.1, p.2) (move_stops _ _ _ _ tt c.in_err-log.ensures)
 
 pub returns-in_err-forget-clause-err : goal.returns-in_err-forget-clause-err
 returns-in_err-forget-clause-err g c =
     let p = err_from_is_err_and c.from_residual-in_err-forget.result c.from_residual-in_err-forget.ensures.1 in
-    rw (p.1, p.2) (call_stops _ _ _ _ c.in_err-forget.ensures.step)
+    rw (p.1, p.2) (move_stops _ _ _ _ tt c.in_err-forget.ensures.step)
 
 pub returns-clause-err : goal.returns-clause-err
-returns-clause-err g c = last_stops _ _ c.sync.result _ c.sync.ensures.step
+returns-clause-err g c = last_move_stops _ _ c.sync.result _ tt c.sync.ensures.step
 
 pub returns-clause-ok : goal.returns-clause-ok
 returns-clause-ok g c = λ limit before trees checkpoints holds count few.

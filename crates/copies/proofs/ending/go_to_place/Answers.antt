@@ -4,7 +4,7 @@ use Rattle.history_machine.specs.History.{gone_to}
 use Rattle.inquiries.specs.Readings.{shown}
 use Rattle.inquiries.proofs.PairLines.{got_none, got_some}
 use Rattle.copies.specs.Calls.{Does}
-use Rattle.copies.proofs.Doing.{last_done, last_stops, on_ok, still_rests}
+use Rattle.copies.proofs.Doing.{last_done, last_move_stops, on_ok, still_rests}
 use Rattle.copies.proofs.Keeping.{no_serial, same_serial}
 use Rattle.copies.proofs.ending.go_to_place.Goals as goal
 
@@ -15,7 +15,7 @@ returns-in-Some-clause-ok g c =
     (last_done _ _ c.goto.result _ c.goto.ensures.step)
 
 pub returns-in-Some-clause-err : goal.returns-in-Some-clause-err
-returns-in-Some-clause-err g c = last_stops _ _ c.goto.result _ c.goto.ensures.step
+returns-in-Some-clause-err g c = last_move_stops _ _ c.goto.result _ tt c.goto.ensures.step
 
 pub returns-in-None-clause-ok : goal.returns-in-None-clause-ok
 returns-in-None-clause-ok g c = λ serial stands. absurd (no_serial c.args.serials.now c.args.place serial (got_none c.args.serials.now c.args.place c.get.result c.get.ensures.lookup c.in-None.is) stands)

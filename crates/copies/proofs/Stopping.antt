@@ -1,5 +1,5 @@
 -- Calls that stop among others.
-use Rattle.std.proofs.Common.{◌≡◌, ◌∙◌, inl, inr, ℕ, ◌+◌, ◌<◌, List, [], ◌∷◌, ◌++◌, length, take, drop, get_or, sym, ap, subst, append_assoc, take-append-drop}
+use Rattle.std.proofs.Common.{◌≡◌, ◌∙◌, inl, inr, ℕ, ◌+◌, ◌<◌, ◌≤◌, List, [], ◌∷◌, ◌++◌, length, take, drop, get_or, sym, ap, subst, append_assoc, take-append-drop, arith}
 use Rattle.std.proofs.lemmas.List.{drop_more}
 use Rattle.fs_types.specs.Names.{Path}
 use Rattle.fs_types.specs.declared.call.Call.{Call}
@@ -33,6 +33,11 @@ stops_next m k calls i call left fault within at done stops =
     let all : take i calls ++ call ∷ drop (i + 1) calls ≡ calls =
     ap (λ (x : List Call). take i calls ++ x) (ap (λ (c : Call). c ∷ drop (i + 1) calls) at ∙ sym (drop_more calls i call within)) ∙ take-append-drop i calls in
     subst (λ (x : List Call). Stops m x left fault) all (stops_among m k (take i calls) (call ∷ []) (drop (i + 1) calls) left fault done stops)
+
+-- calls that are not none are all that is made
+pub stops_or : (m : Machine) (changes : List Call) (left : Device) (fault : Fault) → 1 ≤ length changes → Stops m changes left fault → (path : Path) × Stops m (changes_or changes path) left fault
+stops_or m [] left fault some stops = absurd (omega arith)
+stops_or m (call ∷ calls) left fault some stops = ([], stops)
 
 -- ---- the calls that make a version
 

@@ -16,8 +16,8 @@ returns-in-Err-clause-err g c =
     subst (NotCopied (shown c.args.from.now) (g.F.Flash.device c.args.from.now.flash.now) (g.F.Flash.device c.list_changes.new.second.flash.now) (g.G.Flash.device c.list_changes.new.first.flash.now)) (sym c.of_untold.ensures)
     (untold c.args.to.now c.args.from.now c.list_changes.new.first c.list_changes.new.second c.args.view.now c.in-Err.fault c.requires.view c.requires.ready c.in-Err.ensures.err)
 
-pub returns-in-Err-make_version-clause-err : goal.returns-in-Err-make_version-clause-err
-returns-in-Err-make_version-clause-err g c =
+pub returns-clause-err : goal.returns-clause-err
+returns-clause-err g c =
     let m = shown c.args.from.now in
     let view = c.args.view.now in
     let stopped = c.in-Err-make_version.ensures.err in

@@ -286,10 +286,10 @@ def a_signal_ends_it_well():
 def a_signal_before_a_wait():
     """A signal that comes after a request and before the wait for the next one, which begins late and has no end: it is not waited past."""
     with Folder("commit=0") as f:
-        f.mount({"SHIM_FILE": f.part, "SHIM_WAIT": "1500"})
-        time.sleep(3)
+        f.mount({"SHIM_FILE": f.part, "SHIM_WAIT": "3000"})
+        time.sleep(5)
         os.listdir(f.path)
-        time.sleep(0.5)
+        time.sleep(1.5)
         f.process.send_signal(signal.SIGTERM)
         want(f.process.wait(15), 0, "the daemon's status")
         want(os.path.ismount(f.path), False, "is it mounted")

@@ -12,6 +12,24 @@ int undofs_are_lawful(const struct undofs_sizes *s) {
     return is_page && block >= 4096 && block <= 262144 && s->blocks >= 16 && s->blocks <= 16384 && block * s->blocks <= 67108864;
 }
 
+/* ---- bytes of files ---- */
+
+enum { MOST_DIGITS = 32748, MOST_BYTES = 262144 };
+
+size_t undofs_most_data(void) { return undofs_takes_bytes ? MOST_BYTES : MOST_DIGITS; }
+
+size_t undofs_spelled(size_t count) { return undofs_takes_bytes ? count : 2 * count; }
+
+int undofs_fits(size_t words, size_t count) {
+    return undofs_takes_bytes ? words < UNDOFS_LINE && count <= MOST_BYTES : words + 2 * count < UNDOFS_LINE;
+}
+
+size_t undofs_count_at(const char *nul) {
+    size_t count;
+    memcpy(&count, nul + 1, sizeof count);
+    return count;
+}
+
 /* ---- words of lines ---- */
 
 static char *room_for(struct undofs_lines *lines, size_t more) {
@@ -68,12 +86,26 @@ void undofs_put_word(struct undofs_lines *lines, const char *word) {
 static const char digit_pairs[] = PAIRS("0") PAIRS("1") PAIRS("2") PAIRS("3") PAIRS("4") PAIRS("5") PAIRS("6") PAIRS("7")
     PAIRS("8") PAIRS("9") PAIRS("A") PAIRS("B") PAIRS("C") PAIRS("D") PAIRS("E") PAIRS("F");
 
-void undofs_put_data(struct undofs_lines *lines, const uint8_t *bytes, size_t count) {
-    char *at = room_for(lines, 2 * count + 1);
+static void put_bytes(struct undofs_lines *lines, const uint8_t *bytes, size_t count) {
+    char *at = room_for(lines, UNDOFS_BYTES_HEAD + count);
     if (at == NULL) return;
-    if (count == 0) *at = '-';
-    lines->length += count == 0 ? 1 : 2 * count;
+    *at = 0;
+    memcpy(at + 1, &count, sizeof count);
+    memcpy(at + UNDOFS_BYTES_HEAD, bytes, count);
+    lines->length += UNDOFS_BYTES_HEAD + count;
+}
+
+static void put_digits(struct undofs_lines *lines, const uint8_t *bytes, size_t count) {
+    char *at = room_for(lines, 2 * count);
+    if (at == NULL) return;
+    lines->length += 2 * count;
     for (size_t i = 0; i < count; i++, at += 2) memcpy(at, digit_pairs + 2 * (size_t)bytes[i], 2);
+}
+
+void undofs_put_data(struct undofs_lines *lines, const uint8_t *bytes, size_t count) {
+    if (count == 0) undofs_put_text(lines, "-");
+    else if (undofs_takes_bytes) put_bytes(lines, bytes, count);
+    else put_digits(lines, bytes, count);
 }
 
 void undofs_put_end(struct undofs_lines *lines) { undofs_put_text(lines, "\n"); }
@@ -98,9 +130,19 @@ static int refusal_of(const char *reply) {
     return why == 0 ? UNDOFS_SYNTAX : (int)why;
 }
 
+const char *undofs_end_of_reply(const char *reply) {
+    const char *nul = reply + strlen(reply);
+    return strcmp(reply, "data ") == 0 ? nul + UNDOFS_BYTES_HEAD + undofs_count_at(nul) : nul + 1;
+}
+
+int undofs_is_same_reply(const char *one, const char *other) {
+    size_t count = (size_t)(undofs_end_of_reply(one) - one);
+    return count == (size_t)(undofs_end_of_reply(other) - other) && memcmp(one, other, count) == 0;
+}
+
 int undofs_first_refusal(const struct undofs_replies *replies, size_t count) {
     const char *reply = replies->text;
-    for (size_t i = 0; i < count; i++, reply += strlen(reply) + 1) {
+    for (size_t i = 0; i < count; i++, reply = undofs_end_of_reply(reply)) {
         int why = refusal_of(reply);
         if (why != 0) return why;
     }
@@ -110,7 +152,7 @@ int undofs_first_refusal(const struct undofs_replies *replies, size_t count) {
 char *undofs_reply_of(struct undofs_replies *replies, size_t index) {
     static char none[1];
     size_t at = 0;
-    for (; index > 0 && at < replies->length; index--) at += strlen(replies->text + at) + 1;
+    for (; index > 0 && at < replies->length; index--) at = (size_t)(undofs_end_of_reply(replies->text + at) - replies->text);
     return at < replies->length ? replies->text + at : none;
 }
 
@@ -125,8 +167,15 @@ static unsigned digit_of(char digit) {
 static const uint8_t digit_values[256] = {['1'] = 1, ['2'] = 2, ['3'] = 3, ['4'] = 4, ['5'] = 5, ['6'] = 6, ['7'] = 7, ['8'] = 8, ['9'] = 9,
     ['A'] = 10, ['B'] = 11, ['C'] = 12, ['D'] = 13, ['E'] = 14, ['F'] = 15, ['a'] = 10, ['b'] = 11, ['c'] = 12, ['d'] = 13, ['e'] = 14, ['f'] = 15};
 
+static size_t take_bytes(const char *nul, uint8_t *bytes, size_t count) {
+    size_t had = undofs_count_at(nul), taken = had < count ? had : count;
+    memcpy(bytes, nul + UNDOFS_BYTES_HEAD, taken);
+    return taken;
+}
+
 size_t undofs_take_data(const char *reply, uint8_t *bytes, size_t count) {
     if (strncmp(reply, "data ", 5) != 0 || reply[5] == '-') return 0;
+    if (reply[5] == 0) return take_bytes(reply + 5, bytes, count);
     const uint8_t *at = (const uint8_t *)reply + 5;
     size_t had = strlen(reply + 5) / 2, taken = had < count ? had : count;
     for (size_t i = 0; i < taken; i++) bytes[i] = (uint8_t)(digit_values[at[2 * i]] << 4 | digit_values[at[2 * i + 1]]);
@@ -185,10 +234,12 @@ int undofs_pread(struct undofs *u, uint32_t file, uint64_t offset, uint8_t *byte
     return why;
 }
 
+static size_t lower(size_t one, size_t other) { return one < other ? one : other; }
+
 /* Adds the lines that write bytes to an open file. */
 static void put_writes(struct undofs_lines *lines, uint32_t file, uint64_t offset, const uint8_t *bytes, size_t count) {
     for (size_t done = 0; done < count || done == 0;) {
-        size_t now = count - done < UNDOFS_MOST_DATA ? count - done : UNDOFS_MOST_DATA;
+        size_t now = lower(count - done, undofs_most_data());
         undofs_put_text(lines, "pwrite ");
         undofs_put_number(lines, file);
         undofs_put_text(lines, " ");
@@ -223,7 +274,7 @@ static int write_pieces(struct undofs *u, const char *path, const uint8_t *bytes
     int why = undofs_open(u, path, UNDOFS_WRITE | UNDOFS_CREAT | UNDOFS_TRUNC, &file);
     if (why != 0) return why;
     for (size_t done = 0, now; done < count && why == 0; done += now) {
-        now = count - done < UNDOFS_MOST_DATA ? count - done : UNDOFS_MOST_DATA;
+        now = lower(count - done, undofs_most_data());
         why = undofs_pwrite(u, file, done, bytes + done, now);
     }
     int closed = undofs_close(u, file);
@@ -235,7 +286,7 @@ int undofs_write_file(struct undofs *u, const char *path, const uint8_t *bytes, 
     undofs_put_text(line, "write ");
     undofs_put_word(line, path);
     undofs_put_text(line, " ");
-    if (line->failed || line->length + 2 * count < UNDOFS_LINE) {
+    if (line->failed || undofs_fits(line->length, count)) {
         undofs_put_data(line, bytes, count);
         undofs_put_end(line);
         return undofs_exchange(u, line);

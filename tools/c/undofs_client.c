@@ -13,6 +13,8 @@
 #include <time.h>
 #include <unistd.h>
 
+const int undofs_takes_bytes = 0;
+
 enum { MOST_PAGE = 4096, MESSAGE = 512, LONG_PIPE = 1 << 20 };
 
 struct undofs {

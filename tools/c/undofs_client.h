@@ -72,8 +72,7 @@ enum undofs_fault {
 enum undofs_flags { UNDOFS_READ = 1, UNDOFS_WRITE = 2, UNDOFS_CREAT = 4, UNDOFS_EXCL = 8, UNDOFS_TRUNC = 16 };
 
 enum {
-    UNDOFS_LINE = 65536, /* the most bytes of a line */
-    UNDOFS_MOST_DATA = 32748, /* so many bytes of a file fit in a `pwrite`; a node of a block of 128 KiB has four times as many */
+    UNDOFS_LINE = 65536, /* the most bytes of a line, digits of bytes of a file among them; with no child those of its words */
 };
 
 struct undofs;
@@ -155,15 +154,25 @@ void undofs_put_text(struct undofs_lines *lines, const char *text);
 void undofs_put_number(struct undofs_lines *lines, uint64_t number);
 /* A path or a name with `%` and two digits where that is wanted; "-" for one of no bytes. */
 void undofs_put_word(struct undofs_lines *lines, const char *word);
+/* Bytes of a file, at the end of a line. */
 void undofs_put_data(struct undofs_lines *lines, const uint8_t *bytes, size_t count);
+/* How many bytes of a file a `pwrite` has at most: 32,748 over a child, where a node of a block of 128 KiB has four times as many;
+ * with no child 262,144, which is more than a node has. */
+size_t undofs_most_data(void);
+/* How many bytes of lines so many bytes of files take. */
+size_t undofs_spelled(size_t count);
+/* Whether so many bytes of a file fit in a line beside so many bytes of words. */
+int undofs_fits(size_t words, size_t count);
 void undofs_put_end(struct undofs_lines *lines);
 /* Gives the lines, with orders carried out meanwhile, and keeps their replies: the first refusal among them, or 0. */
 int undofs_exchange(struct undofs *handle, const struct undofs_lines *lines);
 /* The reply to line `index` of the last exchange, counted from 0, without its LF; empty where there is none. It
  * may be written to, and stands until the next call. */
 char *undofs_reply(struct undofs *handle, size_t index);
-/* The bytes of a reply `data`, up to `count` of them. */
+/* The bytes of a reply `data`, up to `count` of them. With no child such a reply shows them to nothing else. */
 size_t undofs_take_data(const char *reply, uint8_t *bytes, size_t count);
+/* Whether two replies are the same, bytes of files too. */
+int undofs_is_same_reply(const char *one, const char *other);
 /* Puts each `%` and two digits of a name back into its byte, in place. */
 void undofs_take_word(char *word);
 

@@ -9,12 +9,21 @@ struct undofs_lines *undofs_line(struct undofs *handle);
 
 int undofs_are_lawful(const struct undofs_sizes *sizes);
 
+/* Whether the handle takes and gives bytes of a file as they are, and not as two digits each. Then they stand in lines, and after
+ * `data ` in a reply, as a NUL, how many they are as a size_t, and the bytes. */
+extern const int undofs_takes_bytes;
+enum { UNDOFS_BYTES_HEAD = 1 + sizeof(size_t) };
+/* How many bytes are at a NUL. */
+size_t undofs_count_at(const char *nul);
+
 /* Replies, each ended by NUL. */
 struct undofs_replies {
     char *text;
     size_t length, room;
 };
 
+/* Where a reply ends. */
+const char *undofs_end_of_reply(const char *reply);
 /* Whether there is room for so many bytes more, which is made where it can be. */
 int undofs_has_room(struct undofs_replies *replies, size_t more);
 /* The first refusal among the first `count` replies, or 0. */

@@ -24,7 +24,7 @@ static int is_answered_alike(struct undofs *child, const char *verb, const char 
     }
     int why = undofs_exchange(child, &lines);
     if (why != 0 && why != UNDOFS_ENOENT && why != UNDOFS_ENOTDIR) return 0;
-    return strcmp(undofs_reply(child, 0), undofs_reply(child, 1)) == 0;
+    return undofs_is_same_reply(undofs_reply(child, 0), undofs_reply(child, 1));
 }
 
 /* The entries of a directory are to be compared too. */

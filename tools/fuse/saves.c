@@ -21,7 +21,7 @@ enum {
     READ_FAILED = 23,
     IDLE = 1,         /* with no time to settle, a group ends so many seconds after its last change, where no close comes */
     AGAIN = 5,        /* one that is refused its end is tried again after so many */
-    LEAST_LINES = 2 << 20, /* at least so many bytes of lines are kept to be sent again, */
+    LEAST_BYTES = 1 << 20, /* at least lines with so many bytes of files are kept to be sent again, */
     SMALL = 1 << 16,       /* and room of more than so many is given back once the group is over */
 };
 
@@ -154,8 +154,9 @@ static int give_again(const struct undofs_lines *given, const struct touch *touc
     return why;
 }
 
-/* Two digits stand for a byte that is written. */
-static size_t most_lines(void) { return 2 * saves.buffer > LEAST_LINES ? 2 * saves.buffer : LEAST_LINES; }
+static size_t most_bytes(void) { return saves.buffer > LEAST_BYTES ? saves.buffer : LEAST_BYTES; }
+
+static size_t most_lines(void) { return undofs_spelled(most_bytes()); }
 
 static void drop_kept(void) {
     kept.length = 0;
@@ -199,7 +200,7 @@ void saves_note_change(void) {
 /* A group whose lines are too long to be kept ends, and one begins where each change is in one. */
 static int begin_change(void) {
     if (saves.in_group && kept.length > most_lines() && !saves.is_held) {
-        syslog(LOG_NOTICE, "a group of over %zu bytes is ended in the middle", most_lines() / 2);
+        syslog(LOG_NOTICE, "a group of over %zu bytes is ended in the middle", most_bytes());
         int why = save_ends();
         if (why == 0) why = save_begins();
         touched_lose(); /* bytes may be kept that were touched before */

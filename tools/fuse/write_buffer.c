@@ -194,7 +194,7 @@ struct run *written_longest(const struct write_buffer *buffer, struct written_fi
 /* The bytes [at, end) of a run, as lines of an open file. */
 static void put_pieces(const struct write_buffer *buffer, const struct run *run, uint64_t end, struct undofs_lines *lines) {
     for (uint64_t at = run->at, to; at < end; at = to) {
-        to = lower(at + UNDOFS_MOST_DATA, end);
+        to = lower(at + undofs_most_data(), end);
         uint64_t node = to / buffer->node * buffer->node;
         if (node > at && to < end) to = node;
         undofs_put_text(lines, "pwrite 0 ");
@@ -233,7 +233,7 @@ static void put_whole(const struct written_file *file, const char *path, struct 
 /* A line `write` has the whole path, of which a byte may be spelled as three. */
 static int is_one_line(const struct written_file *file, const char *path) {
     uint64_t length = written_length(file);
-    return file->given_length == 0 && length <= UNDOFS_MOST_DATA && 2 * length + 3 * strlen(path) + sizeof "write  " <= UNDOFS_LINE;
+    return file->given_length == 0 && undofs_fits(3 * strlen(path) + strlen("write  "), length);
 }
 
 int written_put_at(const struct written_file *file, const char *path, struct undofs_lines *lines) {

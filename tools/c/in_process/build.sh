@@ -68,6 +68,18 @@ put_crate() {
         mkdir -p "$(dirname "$room/crates/$1/$file")"
         cp "$here/crates/$1/$file" "$room/crates/$1/${file%.in}"
     done
+    [ ! -f "$here/crates/$1/taken.txt" ] || take_files "$1" < "$here/crates/$1/taken.txt"
+}
+
+# Files of a crate below that a crate of this folder has too, with their proofs: each line tells a crate and a path in it.
+take_files() {
+    local crate path file
+    while read -r crate path; do
+        (cd "$top/crates/$crate" && find "$path" -type f) | while read -r file; do
+            mkdir -p "$(dirname "$room/crates/$1/$file")"
+            sed "s/Rattle\.$crate\.proofs\./Rattle.$1.proofs./g" "$top/crates/$crate/$file" > "$room/crates/$1/$file"
+        done
+    done
 }
 
 # Builds a crate of this folder, where it is proved: a library for the crates above it, or one for C.

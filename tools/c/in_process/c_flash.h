@@ -1,5 +1,5 @@
 /* What undofs asks of C inside of a C program, and the one function that C calls: those of crates/c_flash and of
- * crates/undofs_in_process. in_process.c defines the nine over a driver of undofs_client.h. Who defines them anew has to
+ * crates/undofs_in_process. in_process.c and service.c define the ten over a driver of undofs_client.h. Who defines them anew has to
  * keep what stands here, for undofs is proved to be right by it and looks at nothing again.
  *
  * A handle is a number that C chooses, as the address of what it knows of a part. Each handle is opened once, and no two
@@ -20,10 +20,18 @@ struct c_flash {
     uint32_t page, pages, blocks;
 };
 
-/* The lines or the replies of a part. */
-struct c_stream {
+/* The requests of a part. */
+struct c_requests {
     size_t handle;
 };
+
+/* The next one: whether it is there, and how many bytes its line and its data have. */
+struct c_request {
+    uint32_t is_there;
+    size_t line, data;
+};
+
+enum { C_REQUESTS_WORDS = 0, C_REQUESTS_BYTES = 1 };
 
 enum { C_FLASH_DONE = 0, C_FLASH_FAILED = 1, C_FLASH_CUT = 2 };
 enum { C_FLASH_ERASED = 0, C_FLASH_DATA = 1, C_FLASH_UNREADABLE = 2, C_FLASH_READ_FAILED = 3, C_FLASH_READ_CUT = 4 };
@@ -50,23 +58,27 @@ uint32_t c_flash_erase(struct c_flash *part, uint32_t block);
  * page of the operation in which power went shows one of what it may be, and always the same. */
 void c_flash_power_on(struct c_flash *part);
 
-/* The lines of the handle, from the first. */
-struct c_stream c_lines_open(size_t handle);
+/* The requests of the handle, from the first. */
+struct c_requests c_requests_open(size_t handle);
 
-/* Puts the next bytes of the lines into the buffer, `count` at most, and answers how many: 0 at the end alone, which has to come some
- * time. While there is no line yet it waits. */
-size_t c_lines_read(struct c_stream *lines, uint8_t *bytes, size_t count);
+/* Tells of the next request, which stays the next one; `is_there` is 0 at the end alone, which has to come some time. While there is
+ * none yet it waits. A request is a line of docs/scripts.md, with no LF; where it has data, those bytes stand in the place of the data
+ * that the line has, as in `pwrite 0 4096 -`. */
+struct c_request c_requests_next(struct c_requests *requests);
 
-/* The replies of the handle. */
-struct c_stream c_replies_open(size_t handle);
+/* Takes the next request. The counts are those that were told. */
+void c_requests_take(struct c_requests *requests, uint8_t *line, size_t line_count, uint8_t *data, size_t data_count);
 
-/* Takes the next bytes of the replies. The reply to a line is whole before the line after it is asked for. */
-void c_replies_write(struct c_stream *replies, const uint8_t *bytes, size_t count);
+/* Leaves the next request out: there was no memory for it. It is answered all the same. */
+void c_requests_skip(struct c_requests *requests);
+
+/* Takes the reply to the request that was taken or left out last: WORDS, a line with its LF; BYTES, those of a file that was read. */
+void c_requests_answer(struct c_requests *requests, uint32_t form, const uint8_t *bytes, size_t count);
 
 /* ---- the library defines this ---- */
 
 /* Serves the part of a handle: with a history that is not 0 makes an empty file system on it, mounts it, and carries out the lines.
- * It returns when the lines are at their end, 0; or 1 to 31 (docs/scripts.md) where no file system was made or is mounted, or there
+ * It returns when the requests are at their end, 0; or 1 to 31 (docs/scripts.md) where no file system was made or is mounted, or there
  * was no memory; else 101. It may be called for several handles at once, also in several threads. */
 uint32_t undofs_serve(size_t handle, uint32_t history);
 

@@ -44,16 +44,21 @@ try_ensures_of_flash() {
     edit program c_flash c_flash.rt "/^        ensures { Programs /$drop"
     edit erase c_flash c_flash.rt "/^        ensures { Erases /$drop"
     edit power_on c_flash c_flash.rt "/^        ensures { part_device part.new /$drop"
-    edit lines c_flash streams.rt "/^        ensures bytes /$drop"
-    edit replies c_flash streams.rt "/^        ensures { replies_taken /$drop"
+    edit next c_flash requests.rt "/fn c_requests_next/,/;\$/{/^        ensures tells /$drop}"
+    edit take c_flash requests.rt '/fn c_requests_take/,/;$/{/^        ensures takes /d}'
+    edit skip c_flash requests.rt '/fn c_requests_skip/,/;$/{/^        ensures skips /d}'
+    edit answer c_flash requests.rt "/fn c_requests_answer/,/;\$/{/^        ensures taken /$drop}"
     check c_flash
     tell "c_flash with no ensures is refused" $(($? == 0))
     is_refused "a read of which nothing is ensured is refused" c_flash::c_flash::CFlashFlash::read
     is_refused "a program of which nothing is ensured is refused" c_flash::c_flash::CFlashFlash::program
     is_refused "an erase of which nothing is ensured is refused" c_flash::c_flash::CFlashFlash::erase
     is_refused "power of which nothing is ensured is refused" c_flash::c_flash::CFlashFlash::power_on
-    is_refused "lines of which no bytes are ensured are refused" c_flash::streams::CLinesRead::read
-    is_refused "replies of which nothing is ensured are refused" c_flash::streams::CRepliesWrite::write
+    is_refused "a next request of which nothing is told is refused" c_flash::requests::CRequests::next
+    is_refused "a request of which no bytes are ensured is refused" c_flash::requests::CRequests::take
+    is_refused "a request that need not go is refused" c_flash::requests::CRequests::skip
+    is_refused "replies in words of which nothing is ensured are refused" c_flash::requests::CRequests::answer_in_words
+    is_refused "replies in bytes of which nothing is ensured are refused" c_flash::requests::CRequests::answer_in_bytes
     is_proved "and what does not stand on them is proved" c_flash::c_flash::CFlashFlash::geometry
 }
 
@@ -95,17 +100,19 @@ try_ensures() {
 try_edits() {
     copy_crates
     edit page_out_of_range_is_asked c_flash c_flash.rt 's/state(unsafe { c_flash_read(self, page, buffer) })/state(unsafe { c_flash_read(self, page | 1, buffer) })/'
-    edit reply_is_cut_short c_flash streams.rt 's/c_replies_write(self, bytes);/c_replies_write(self, \&bytes[..bytes.len() \/ 2]);/'
-    edit bound c_flash streams.rt '/^        ensures bound /d'
+    edit reply_is_cut_short c_flash requests.rt 's/c_requests_answer(self, 0, line)/c_requests_answer(self, 0, \&line[..line.len() \/ 2])/'
+    edit bytes_are_told_as_words c_flash requests.rt 's/c_requests_answer(self, 1, bytes)/c_requests_answer(self, 0, bytes)/'
+    cat tests/refused/requests.in >> "$made/copy/crates/c_flash/src/requests.rt"
     cat tests/refused/calls.in >> "$made/copy/crates/c_flash/src/c_flash.rt"
     check c_flash
     tell "c_flash with edits is refused" $(($? == 0))
     is_refused "page_out_of_range_is_asked is refused" c_flash::c_flash::CFlashFlash::read
-    is_refused "reply_is_cut_short is refused" c_flash::streams::CRepliesWrite::write
-    is_refused "lines of which no bound is ensured are refused" c_flash::streams::CLinesRead::read
+    is_refused "reply_is_cut_short is refused" c_flash::requests::CRequests::answer_in_words
+    is_refused "bytes_are_told_as_words is refused" c_flash::requests::CRequests::answer_in_bytes
     for name in read_in_no_range read_of_any_length program_in_no_range program_of_any_length program_of_what_is_there erase_in_no_range; do
         is_refused "$name is refused" "c_flash::c_flash::$name"
     done
+    is_refused "take_of_any_length is refused" c_flash::requests::take_of_any_length
     is_proved "and a call as it has to be is proved" c_flash::c_flash::program_as_it_has_to_be
     edit unreadable_is_told_as_data c_answers lib.rt 's/2 => Ok(PageState::Unreadable)/2 => Ok(PageState::Data)/'
     check c_answers
@@ -140,16 +147,16 @@ try_above() {
 # The sources of these crates make and write no ghost content: no line names what holds it but where it is declared, and nothing is
 # proved by hand.
 try_sources() {
-    local crate sources types='Held|HeldPages|Shown|Bytes|CFlash|CNor|CChip|CLines|CReplies'
+    local crate sources types='Held|HeldPages|Shown|Exchanged|CFlash|CNor|CChip|CRequests'
     for crate in $of_c; do
         sources=crates/$crate
         [ ! -e "$sources/proofs" ] && [ ! -e "$room/crates/$crate/proofs" ]
         tell "$crate has no proofs by hand" $?
         ! grep -rhE "\b($types) \{" "$sources/src" | grep -vE "^(pub |pub\(crate\) )?struct |^impl |-> ($types) \{$"
         tell "no line of $crate makes a part or what it holds" $?
-        ! grep -rnE 'mem::(swap|replace|take)|\*(self|part|chip|lines|replies) =|\.(held|shown|left|taken) =|derive\(.*(Clone|Copy)' "$sources/src"
+        ! grep -rnE 'mem::(swap|replace|take)|\*(self|part|chip|requests) =|\.(held|shown|exchanged|left|taken) =|derive\(.*(Clone|Copy)' "$sources/src"
         tell "no line of $crate writes, swaps or copies one" $?
-        ! grep -rnE 'pub (ghost|held|shown|left|taken|handle|page|pages|blocks|told_page|told_pages|told_blocks)\b' "$sources/src"
+        ! grep -rnE 'pub (ghost|held|shown|exchanged|left|taken|handle|page|pages|blocks|told_page|told_pages|told_blocks)\b' "$sources/src"
         tell "its fields are private" $?
     done
 }
@@ -169,8 +176,8 @@ try_verdicts() {
         tell "$crate is proved" $?
     done
     grep -hE '^axioms [a-z_]+: [0-9]+ reached|  reached$' "$room"/undofs_*.said | sed 's/^/      /'
-    reaches undofs_in_process c_flash 9 9
-    reaches undofs_nor_in_process c_flash 4 9
+    reaches undofs_in_process c_flash 10 10
+    reaches undofs_nor_in_process c_flash 5 10
     reaches undofs_nor_in_process c_nor 5 5
     reaches undofs_driver_checks c_chip 7 7
 }

@@ -7,6 +7,8 @@
 #include <stdlib.h>
 #include <string.h>
 
+const int undofs_takes_bytes = 1;
+
 enum { SHORT_REPLIES = 4096, READ_FAILED = 23 };
 
 /* ---- live handles, each with a driver of its own ---- */
@@ -52,32 +54,70 @@ int service_opens(struct undofs *u) {
     return is_first;
 }
 
-struct c_stream c_lines_open(size_t handle) { return (struct c_stream){handle}; }
+struct c_requests c_requests_open(size_t handle) { return (struct c_requests){handle}; }
 
-size_t c_lines_read(struct c_stream *lines, uint8_t *bytes, size_t count) {
-    struct undofs *u = service_handle(lines->handle);
-    if (u->lines == u->lines_end && !u->is_ending) turns_give_way(u->turns);
-    size_t left = (size_t)(u->lines_end - u->lines);
-    size_t taken = left < count ? left : count;
-    if (taken > 0) memcpy(bytes, u->lines, taken);
-    u->lines += taken;
-    return taken;
+/* How long the first of some lines is, and where it ends. Its data, which may be of several pieces, is a word of one byte in it. */
+static const char *measure(const char *at, const char *end, struct c_request *next) {
+    while (at < end && *at != '\n') {
+        size_t count = *at == 0 ? undofs_count_at(at) : 0;
+        next->line += *at != 0;
+        next->data += count;
+        at += *at == 0 ? UNDOFS_BYTES_HEAD + count : 1;
+    }
+    next->line += next->data > 0;
+    return at < end ? at + 1 : end;
 }
 
-struct c_stream c_replies_open(size_t handle) { return (struct c_stream){handle}; }
+struct c_request c_requests_next(struct c_requests *requests) {
+    struct undofs *u = service_handle(requests->handle);
+    if (u->lines == u->lines_end && !u->is_ending) turns_give_way(u->turns);
+    struct c_request next = {u->lines != u->lines_end, 0, 0};
+    (void)measure(u->lines, u->lines_end, &next);
+    return next;
+}
 
-/* Each reply is ended by NUL. One for which there is no memory is dropped, and the exchange tells so. */
-void c_replies_write(struct c_stream *replies, const uint8_t *bytes, size_t count) {
-    struct undofs *u = service_handle(replies->handle);
+void c_requests_take(struct c_requests *requests, uint8_t *line, size_t line_count, uint8_t *data, size_t data_count) {
+    struct undofs *u = service_handle(requests->handle);
+    const char *at = u->lines;
+    (void)line_count;
+    while (at < u->lines_end && *at != '\n') {
+        if (*at != 0) {
+            *line++ = (uint8_t)*at++;
+            continue;
+        }
+        size_t count = undofs_count_at(at);
+        memcpy(data, at + UNDOFS_BYTES_HEAD, count);
+        data += count;
+        at += UNDOFS_BYTES_HEAD + count;
+    }
+    if (data_count > 0) *line = '-';
+    u->lines = at < u->lines_end ? at + 1 : at;
+}
+
+void c_requests_skip(struct c_requests *requests) {
+    struct undofs *u = service_handle(requests->handle);
+    struct c_request next = {0, 0, 0};
+    u->lines = measure(u->lines, u->lines_end, &next);
+}
+
+static void put(struct undofs_replies *to, const void *bytes, size_t count) {
+    if (count > 0) memcpy(to->text + to->length, bytes, count);
+    to->length += count;
+}
+
+/* One for which there is no memory is dropped, and the exchange tells so. */
+void c_requests_answer(struct c_requests *requests, uint32_t form, const uint8_t *bytes, size_t count) {
+    struct undofs *u = service_handle(requests->handle);
     struct undofs_replies *to = &u->replied;
-    if (u->has_no_memory || !undofs_has_room(to, count)) {
-        u->has_no_memory = 1;
-        return;
+    u->has_no_memory = u->has_no_memory || !undofs_has_room(to, sizeof "data" + UNDOFS_BYTES_HEAD + count);
+    u->reply_count++;
+    if (u->has_no_memory) return;
+    if (form == C_REQUESTS_BYTES) {
+        put(to, "data ", sizeof "data ");
+        put(to, &count, sizeof count);
     }
-    for (size_t i = 0; i < count; i++) {
-        u->reply_count += bytes[i] == '\n';
-        to->text[to->length++] = bytes[i] == '\n' ? 0 : (char)bytes[i];
-    }
+    put(to, bytes, count);
+    if (form == C_REQUESTS_WORDS) to->text[to->length - 1] = 0; /* its LF */
 }
 
 /* ---- the service ---- */

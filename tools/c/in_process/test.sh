@@ -1,7 +1,7 @@
 #!/bin/bash
 # Tries undofs inside of a C program: tools/c/in_process/test.sh FOLDER PROGRAM [CASE ..]
 # FOLDER is one that build.sh filled, PROGRAM the `uffs` of the same sources. Without a CASE all are tried: demos, example,
-# sessions, handles, pages, liars, memory, holds, nor, checks, wrong, proofs. The last line counts. By hand, and no part of ./test.sh.
+# sessions, handles, bytes, pages, liars, memory, holds, nor, checks, wrong, proofs. The last line counts. By hand, and no part of ./test.sh.
 [ $# -ge 2 ] || { sed -n 2,4p "$0"; exit 2; }
 room=$(realpath "$1") program=$(realpath "$2") || exit 2
 shift 2
@@ -170,6 +170,13 @@ try_handles() {
     run_cases "handles under the thread sanitizer" 300 handles
 }
 
+try_bytes() {
+    build bytes "$sanitizers" tests/ram_part.c tests/bytes.c
+    run_cases "bytes of files of many lengths" 300 bytes
+    build_child bytes_child tests/ram_part.c tests/bytes.c
+    run_cases "the same over a child" 300 bytes_child "$program"
+}
+
 try_pages() {
     build pages "$sanitizers" tests/ram_part.c tests/calls.c tests/pages.c
     run_cases pages 300 pages
@@ -249,6 +256,7 @@ wrong() {
 # How each program is built with an edited file.
 wrong_flash() { SYSTEM=${of_flash/$1/$made/$1} build wrong "" tests/ram_part.c tests/calls.c "tests/$2.c"; }
 wrong_handles() { wrong_flash "$1" handles; }
+wrong_bytes() { wrong_flash "$1" bytes; }
 wrong_pages() { wrong_flash "$1" pages; }
 wrong_liars() { wrong_flash "$1" liars; }
 wrong_nor() { SYSTEM=${of_nor/$1/$made/$1} build_nor wrong "" tests/nor_memory.c tests/calls.c tests/nor.c; }
@@ -263,6 +271,8 @@ try_wrong() {
     wrong a_copy_of_a_driver_is_another service.c 's/return u->driver == other->driver ||.*/return u->driver == other->driver;/' handles
     wrong a_call_of_the_driver_writes_the_line service.c 's/    if (u->is_running) return &u->none;//' handles
     wrong a_handle_is_live_after_its_end service.c 's/^    leave(u);$//' handles
+    wrong pieces_lie_over_one_another service.c 's/^        data += count;$//' bytes
+    wrong bytes_are_in_no_reply service.c 's/form == C_REQUESTS_BYTES/form > C_REQUESTS_BYTES/' bytes
     wrong changed_page_is_shown shown_pages.c 's/(shown == NOT_SEEN || shown == now)/(shown == now || shown != now)/' liars 0 40 256 16 128
     wrong half_of_a_page_is_summed shown_pages.c 's/sum_of(bytes, count)/sum_of(bytes, count \/ 2)/' pages
     wrong what_a_cut_left_is_not_settled shown_pages.c 's/is_sure(shown, now) ? now : SEEN_UNREADABLE/is_sure(shown, now) ? now : now/' pages
@@ -280,7 +290,7 @@ try_wrong() {
 
 . ./proofs.sh
 
-cases=${*:-demos example sessions handles pages liars memory holds nor checks wrong proofs}
+cases=${*:-demos example sessions handles bytes pages liars memory holds nor checks wrong proofs}
 for case in $cases; do "try_$case"; done
 echo "$passed passed, $failed failed"
 [ "$failed" = 0 ]

@@ -31,7 +31,7 @@ static const char *file_of(const char *name) {
 }
 
 static void put_reply(const char *reply) {
-    size_t length = strlen(reply) + 1;
+    size_t length = (size_t)(undofs_end_of_reply(reply) - reply);
     if (!undofs_has_room(&replied, length)) abort();
     memcpy(replied.text + replied.length, reply, length);
     replied.length += length;
@@ -78,13 +78,19 @@ static void end_as_planned(struct undofs *u) {
     (void)__real_undofs_exchange(u, &(struct undofs_lines){last, sizeof last - 1, sizeof last - 1, 0});
 }
 
+/* Past its LF, which may be among the bytes of a file too. */
+static char *end_of_line(char *at) {
+    while (*at != '\n') at += *at == 0 ? UNDOFS_BYTES_HEAD + undofs_count_at(at) : 1;
+    return at + 1;
+}
+
 int __wrap_undofs_exchange(struct undofs *u, const struct undofs_lines *lines) {
     size_t count = 0;
     replied.length = 0;
     if (lines->failed) return UNDOFS_NO_MEMORY;
     char *end = lines->text + lines->length;
     for (char *line = lines->text, *next; line < end; line = next, count++) {
-        next = (char *)memchr(line, '\n', (size_t)(end - line)) + 1;
+        next = end_of_line(line);
         int why = give(u, line, (size_t)(next - line));
         if (why != 0) return why;
     }

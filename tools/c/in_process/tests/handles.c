@@ -1,5 +1,6 @@
 /* What a handle refuses and what it keeps apart. Each line tells a case; the last one counts. */
 #define _GNU_SOURCE
+#include "../../undofs_wire.h"
 #include "../c_flash.h"
 #include "calls.h"
 #include "ram_part.h"
@@ -142,6 +143,22 @@ static void call_in(void *with) {
     caller->is_quiet = 0;
 }
 
+/* Writes bytes by some lines at once, which are the handle's own, as those of a call are. */
+static int write_in_pieces(struct undofs *u, uint32_t file, const uint8_t *bytes, size_t count) {
+    enum { PIECE = 20000 };
+    struct undofs_lines *lines = undofs_line(u);
+    for (size_t at = 0; at < count; at += PIECE) {
+        undofs_put_text(lines, "pwrite ");
+        undofs_put_number(lines, file);
+        undofs_put_text(lines, " ");
+        undofs_put_number(lines, at);
+        undofs_put_text(lines, " ");
+        undofs_put_data(lines, bytes + at, PIECE);
+        undofs_put_end(lines);
+    }
+    return undofs_exchange(u, lines);
+}
+
 static void calls_of_drivers(void) {
     static uint8_t bytes[100000];
     struct opened one;
@@ -152,7 +169,7 @@ static void calls_of_drivers(void) {
     one.part.before = call_in;
     for (size_t i = 0; i < sizeof bytes; i++) bytes[i] = (uint8_t)below(&seed, 256);
     int why = undofs_open(one.handle, "/f", UNDOFS_READ | UNDOFS_WRITE | UNDOFS_CREAT, &file);
-    if (why == 0) why = undofs_pwrite(one.handle, file, 0, bytes, sizeof bytes); /* some lines at once */
+    if (why == 0) why = write_in_pieces(one.handle, file, bytes, sizeof bytes);
     if (why == 0) why = undofs_close(one.handle, file);
     if (why == 0) why = undofs_sync(one.handle);
     caller.is_quiet = 1;

@@ -1,6 +1,6 @@
 //! An archive that is put into an image.
-ghost use Rattle.std.specs.Prelude.{◌≡◌, ◌≤◌, ℕ, Option, List, All, true, vec_len, IfOk, IfErr};
-ghost use Rattle.host_files.specs.Files.{KeepsOthers, ReadsClaimed};
+ghost use Rattle.std.specs.Prelude.{◌≡◌, ◌≤◌, ℕ, Option, List, All, true, vec_len, IfOk, IfErr, OnOk};
+ghost use Rattle.host_files.specs.Files.{KeepsOthers, KeepsOrSyncs, ReadsClaimed};
 ghost use Rattle.image_jobs.specs.Images.{host_at};
 ghost use Rattle.put_jobs.specs.Inputs.{IsWholeInput};
 ghost use Rattle.put_lots.specs.Lots.{lots_of};
@@ -40,6 +40,7 @@ pub fn put_archive<F: ImageFiles, R: Read, E: Write>(
     err: &mut E,
 ) -> Result<(), Failure>
     ensures ends { (out : Option (List ℕ)) → UntarEnds skip_links name.now word.now (ReadsClaimed F.claims F.reads name.now) (host_at (F.held files.old) (R.remaining reader.old) out) result (host_at (F.held files.new) (R.remaining reader.new) out) }
+    ensures synced { OnOk result (KeepsOrSyncs (F.held files.old) (F.held files.new) (F.synced files.new name.now)) }
     ensures others { KeepsOthers name.now (F.held files.old) (F.held files.new) }
 {
     let base = match told_path(alloc, word, err) {

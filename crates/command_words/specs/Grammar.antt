@@ -61,6 +61,10 @@ steps_app name = with_rule (image_app name) (count_rule false)
 abbrev pub checkpoint_app : Text → App
 checkpoint_app name = with_rule (image_app name) (word_rule (codes "NAME"))
 
+-- a version of an image is gone to
+abbrev pub goto_app : App
+goto_app = with_rule (image_app (codes "goto")) (word_rule (codes "SERIAL"))
+
 abbrev pub forget_app : App
 forget_app = with_rule (with_rule (image_app (codes "forget")) (count_rule false)) (number_rule (codes "free"))
 
@@ -74,7 +78,7 @@ abbrev pub tree_app : App
 tree_app = with_rule (image_app (codes "tree")) (optional_rule (codes "VIEW"))
 
 abbrev pub diff_app : App
-diff_app = with_rule (with_rule (with_rule (image_app (codes "diff")) (word_rule (codes "VIEW"))) (optional_rule (codes "OTHER"))) (flag_rule (codes "exit-code"))
+diff_app = with_rule (with_rule (with_rule (image_app (codes "diff")) (optional_rule (codes "VIEW"))) (optional_rule (codes "OTHER"))) (flag_rule (codes "exit-code"))
 
 -- the option `--html FILE`, of the file of a page
 abbrev pub html_rule : Rule
@@ -94,12 +98,14 @@ to_part_app = with_rule (image_app (codes "to-part")) (word_rule (codes "FILE"))
 abbrev pub from_part_app : App
 from_part_app = with_rule (with_rule (new_app (codes "from-part")) (word_rule (codes "FILE"))) (word_rule (codes "IMAGE"))
 
--- an image as the bytes of a serial NOR part, and back, with the sizes of its pages and blocks
+-- an image as the bytes of a serial NOR part, and back, with the sizes of its pages and blocks, and how many of these
 abbrev pub raw_app : App
 raw_app = with_rule (image_app (codes "raw")) (word_rule (codes "FILE"))
 
 abbrev pub from_raw_app : App
-from_raw_app = with_rule (with_rule (with_rule (with_rule (new_app (codes "from-raw")) (word_rule (codes "FILE"))) (word_rule (codes "IMAGE"))) (number_rule (codes "page"))) (number_rule (codes "pages"))
+from_raw_app =
+    with_rule (with_rule (with_rule (with_rule (with_rule (new_app (codes "from-raw")) (word_rule (codes "FILE"))) (word_rule (codes "IMAGE"))) (number_rule (codes "page"))) (number_rule (codes "pages")))
+    (number_rule (codes "blocks"))
 
 -- two images, of which the second has the new tree
 abbrev pub update_app : App
@@ -132,6 +138,10 @@ untar_app = with_rule (with_rule (image_app (codes "untar")) (word_rule (codes "
 abbrev pub explain_app : App
 explain_app = with_rule (new_app (codes "explain")) (word_rule (codes "REFUSAL"))
 
+-- what can be asked for, or by one word
+abbrev pub help_app : App
+help_app = with_rule (new_app (codes "help")) (optional_rule (codes "WORD"))
+
 -- the program before its subcommands: one of them has to be named, by the first word
 abbrev pub bare_top : Shape
 bare_top = record (new_app (codes "uffs")).top { no_binary_name = true; disable_help_subcommand = true; subcommand_required = true; has_version = true }
@@ -146,7 +156,7 @@ with_changing_apps app = with_subcommand (with_subcommand (with_subcommand app f
 -- a program with the subcommands more that step in the history of an image; with those more for its checkpoints; and with all
 -- that change its history
 abbrev pub with_step_apps : App → App
-with_step_apps app = with_subcommand (with_subcommand app (steps_app (codes "undo")).top) (steps_app (codes "redo")).top
+with_step_apps app = with_subcommand (with_subcommand (with_subcommand app (steps_app (codes "undo")).top) (steps_app (codes "redo")).top) goto_app.top
 
 abbrev pub with_checkpoint_apps : App → App
 with_checkpoint_apps app = with_subcommand (with_subcommand (with_subcommand app
@@ -190,7 +200,7 @@ with_tree_apps app = with_subcommand (with_subcommand (with_archive_apps (with_u
 
 -- a program with the subcommands more that tell of the program itself
 abbrev pub with_about_apps : App → App
-with_about_apps app = with_subcommand (with_subcommand (with_subcommand app explain_app.top) (new_app (codes "help")).top) (new_app (codes "version")).top
+with_about_apps app = with_subcommand (with_subcommand (with_subcommand app explain_app.top) help_app.top) (new_app (codes "version")).top
 
 -- the program
 abbrev pub uffs : App

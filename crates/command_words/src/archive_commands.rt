@@ -30,7 +30,8 @@ const UNTAR_HELP: &str =
 and plain files are put below PATH as put puts those of a folder: all of it as one version, which is
 synced. What else stands in it, as a link or a device, is refused with its name; with --skip-links it
 is left out, and each is told. Modes, owners and times are not kept. Where anything is refused IMAGE
-stays as it was. PATH is spelled as in a script.
+stays as it was. PATH is taken as it is typed; one with a % is spelled as in a script, where %25 is %
+and %20 a space.
 
 Status: 0 it is there; 1 IMAGE or the input cannot be read, the archive is broken or has something else
 than folders and plain files, IMAGE cannot be written, or memory; 2 the words; 3 IMAGE holds no image,

@@ -67,8 +67,8 @@ const PUT_HELP: &str =
 Files that are there are replaced, and other entries of a directory stay, but with --mirror: then what
 stands below PATH and not in the folder FILE is removed, and what a link in FILE stands for stays, which
 --skip-links leaves out. All of it is one version, which is synced: `undo` takes it back, and where power
-goes the tree is the old one. Where anything is refused IMAGE stays as it was. PATH is spelled as in a
-script.
+goes the tree is the old one. Where anything is refused IMAGE stays as it was. PATH is taken as it is
+typed; one with a % is spelled as in a script, where %25 is % and %20 a space.
 
 Status: 0 it is there; 1 IMAGE, FILE or the input cannot be read, IMAGE cannot be written, or memory; 2
 the words, or FILE is no folder and --mirror or --skip-links is given; 3 IMAGE holds no image, or its

@@ -10,8 +10,8 @@ use crate::copy_commands::COPY_COMMAND;
 use crate::create_commands::CREATE_COMMAND;
 use crate::flash_commands::{MEMORY_COMMAND, SERVE_COMMAND};
 use crate::history_commands::{
-    CHECKPOINT_COMMAND, FORGET_COMMAND, REDO_COMMAND, RMCHECKPOINT_COMMAND, ROLLBACK_COMMAND,
-    TRIM_COMMAND, UNDO_COMMAND,
+    CHECKPOINT_COMMAND, FORGET_COMMAND, GOTO_COMMAND, REDO_COMMAND, RMCHECKPOINT_COMMAND,
+    ROLLBACK_COMMAND, TRIM_COMMAND, UNDO_COMMAND,
 };
 use crate::image_commands::{
     CHECK_COMMAND, DF_COMMAND, LOG_COMMAND, MAP_COMMAND, VERSIONS_COMMAND,
@@ -44,9 +44,10 @@ static CHANGING_COMMANDS: [Subcommand; 3] = [FORMAT_COMMAND, RUN_COMMAND, PUT_CO
 
 /// The subcommands that move or change the history of an image, and the one that erases what it does not
 /// reach.
-static HISTORY_COMMANDS: [Subcommand; 7] = [
+static HISTORY_COMMANDS: [Subcommand; 8] = [
     UNDO_COMMAND,
     REDO_COMMAND,
+    GOTO_COMMAND,
     ROLLBACK_COMMAND,
     CHECKPOINT_COMMAND,
     RMCHECKPOINT_COMMAND,

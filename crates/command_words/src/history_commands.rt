@@ -1,7 +1,7 @@
 //! The words of `uffs` that move or change the history of an image, and the one that erases what it does not
 //! reach.
 use crate::argument::Argument;
-use crate::names::FREE;
+use crate::names::{FREE, SERIAL};
 use crate::shared_arguments::{IMAGE_WORD, NAME_WORD, STEPS_COUNT};
 use crate::subcommand::Subcommand;
 
@@ -34,6 +34,27 @@ pub(crate) const REDO_COMMAND: Subcommand = Subcommand {
     about: "Goes forward again after an undo",
     help: REDO_HELP,
     arguments: &[IMAGE_WORD, STEPS_COUNT],
+};
+
+const GOTO_HELP: &str =
+    "The kept version of this serial becomes the present one, as by so many steps of `undo` or `redo`. It
+is synced. Nothing is printed. Where it is refused IMAGE stays as it was. `log` prints the serials.
+
+Status: as of undo.
+
+Example: uffs goto disk.image 5";
+
+pub(crate) const GOTO_COMMAND: Subcommand = Subcommand {
+    name: "goto",
+    about: "Goes to the version of a serial",
+    help: GOTO_HELP,
+    arguments: &[
+        IMAGE_WORD,
+        Argument::Word {
+            name: SERIAL,
+            help: "The serial of the version",
+        },
+    ],
 };
 
 const ROLLBACK_HELP: &str =

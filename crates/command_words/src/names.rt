@@ -35,3 +35,9 @@ pub const FREE: &str = "free";
 
 /// The name of the argument that names a checkpoint.
 pub const NAME: &str = "NAME";
+
+/// The name of the argument that is the serial of a version.
+pub const SERIAL: &str = "SERIAL";
+
+/// The name of the argument that is a word of the program.
+pub const WORD: &str = "WORD";

@@ -31,12 +31,15 @@ pub(crate) const RAW_COMMAND: Subcommand = Subcommand {
 const FROM_RAW_HELP: &str =
     "IMAGE is written whole or not at all: as IMAGE.new, which is renamed. A file that is there is
 replaced. It has all pages of the part, and tells no block as worn. Its number of blocks is that of FILE,
-8192 bytes each. Nothing is printed, and nothing is written to FILE.
+8192 bytes each, or N: then it has the first N blocks of FILE, and what comes after them is not looked at,
+as the rest of the chip in a dump of it. Nothing is printed, and nothing is written to FILE.
 
 Status: 0 it is written; 1 FILE cannot be read, IMAGE cannot be written, or memory; 2 the words; 3 P is
-not 256, K is not 16, or FILE is not 16 to 16384 whole blocks, told as uffs: BADGEOMETRY 28.
+not 256, K is not 16, FILE is not 16 to 16384 whole blocks, N is not 16 to 16384, or FILE has not as
+many, told as uffs: BADGEOMETRY 28.
 
-Example: uffs from-raw chip.bin disk.image";
+Example: uffs from-raw chip.bin disk.image
+         uffs from-raw dump.bin disk.image --blocks 306";
 
 pub(crate) const FROM_RAW_COMMAND: Subcommand = Subcommand {
     name: "from-raw",
@@ -57,6 +60,11 @@ pub(crate) const FROM_RAW_COMMAND: Subcommand = Subcommand {
             name: "pages",
             shown: "K",
             help: "Pages of a block, which are 16 [default: 16]",
+        },
+        Argument::NumberOption {
+            name: "blocks",
+            shown: "N",
+            help: "Blocks, the first ones of FILE [default: all of it]",
         },
     ],
 };

@@ -1,6 +1,6 @@
 //! The words of `uffs` that read what stands in an image.
 use crate::argument::Argument;
-use crate::names::{FILE, OTHER, PATH, VIEW};
+use crate::names::{FILE, OTHER, PATH};
 use crate::shared_arguments::{IMAGE_WORD, VIEW_WORD};
 use crate::subcommand::Subcommand;
 
@@ -8,8 +8,9 @@ const GET_HELP: &str =
     "The file at PATH of the image is written to FILE, whole or not at all: it is written as FILE.new,
 which is renamed. A file that is there is replaced. As - for FILE it is printed. A directory becomes a
 folder, with all that is below it, whole or not at all: FILE must not be there, nor FILE.new, under
-which it is made. Without VIEW it is that of the present version; @5 is the version of serial 5, and
-=name a checkpoint. PATH and VIEW are spelled as in a script. Nothing is written to IMAGE.
+which it is made. PATH is taken as it is typed; one with a % is spelled as in a script, where %25 is %
+and %20 a space. Without VIEW it is that of the present version; @5 is the version of serial 5, and
+=name a checkpoint, spelled as in a script. Nothing is written to IMAGE.
 
 Status: 0 it is there; 1 IMAGE cannot be read, FILE cannot be written, or memory; 2 the words; 3
 IMAGE holds no image, or its mount was refused; 4 it was refused, told as uffs: ENOENT 1, or the
@@ -37,8 +38,8 @@ pub(crate) const GET_COMMAND: Subcommand = Subcommand {
 };
 
 const CAT_HELP: &str =
-    "Prints the bytes of the file at PATH of the image, and nothing else. VIEW is as of get. Nothing is
-written to IMAGE.
+    "Prints the bytes of the file at PATH of the image, and nothing else. PATH and VIEW are as of get.
+Nothing is written to IMAGE.
 
 Status: 0 it is printed; 1 IMAGE cannot be read, the output failed, or memory; 2 the words; 3 IMAGE
 holds no image, or its mount was refused; 4 it was refused, told as uffs: ENOENT 1.
@@ -80,14 +81,16 @@ pub(crate) const TREE_COMMAND: Subcommand = Subcommand {
 const DIFF_HELP: &str =
     "Prints a line for each path at which the tree of VIEW and that of OTHER differ: - before what went,
 ~ before a file with other bytes, and then + before what came. What went and what came are told as
-tree tells them. Without OTHER it is the present version; @5 is the version of serial 5, and =name a
-checkpoint. Nothing is written to IMAGE.
+tree tells them. Without OTHER it is the present version, and without VIEW the version before that; @5
+is the version of serial 5, and =name a checkpoint. Nothing is written to IMAGE.
 
 Status: 0 it is printed, whatever differs; 1 IMAGE cannot be read, the output failed, or memory; 2
 the words; 3 IMAGE holds no image, or its mount was refused; 4 it was refused, told as
-uffs: NOSUCHVERSION 20; 5 it is printed and something differs, with --exit-code.
+uffs: NOSUCHVERSION 20, or without VIEW as undo is; 5 it is printed and something differs, with
+--exit-code.
 
-Example: uffs diff disk.image =before @5";
+Example: uffs diff disk.image
+         uffs diff disk.image =before @5";
 
 pub(crate) const DIFF_COMMAND: Subcommand = Subcommand {
     name: "diff",
@@ -95,10 +98,7 @@ pub(crate) const DIFF_COMMAND: Subcommand = Subcommand {
     help: DIFF_HELP,
     arguments: &[
         IMAGE_WORD,
-        Argument::Word {
-            name: VIEW,
-            help: "The version, as @5, or the checkpoint, as =name",
-        },
+        VIEW_WORD,
         Argument::OptionalWord {
             name: OTHER,
             help: "The version or the checkpoint that it is compared with",

@@ -39,6 +39,7 @@ pub fn copy_image<F: ImageFiles, E: Write>(
     err: &mut E,
 ) -> Result<(), Failure>
     ensures ends { CopyEnds asked salvages image.now name.now (F.held files.old) (F.held files.new) result }
+    ensures synced { OnOk result (F.synced files.new name.now) }
     ensures others { KeepsOthers name.now (F.held files.old) (F.held files.new) }
 {
     match spare(files, alloc, name, image) {
@@ -91,6 +92,7 @@ fn save_copy<F: ImageFiles>(
 ) -> Result<(), Failure>
     requires { F.claims files.old name.now }
     ensures ends { SavesCopy copy.now (F.held files.old name.now) (F.held files.new name.now) result }
+    ensures synced { OnOk result (F.synced files.new name.now) }
     ensures others { KeepsOthers name.now (F.held files.old) (F.held files.new) }
 {
     match save_image(files, alloc, name, &copy.flash) {

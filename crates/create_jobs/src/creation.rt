@@ -14,7 +14,7 @@ pub struct NewImage {
     pub page: u32,
     /// Pages of a block.
     pub pages: u32,
-    /// Blocks of the flash; none where they are as many as what is put needs.
+    /// Blocks of the flash; none where they are as many as what is put wants, up to the most there may be.
     pub blocks: Option<u32>,
     /// Versions that are kept.
     pub history: u32,
@@ -44,7 +44,7 @@ pub(crate) fn sizes_of(image: NewImage, sources: &[Source]) -> Geometry
     };
     let blocks = match image.blocks {
         Some(blocks) => blocks,
-        None => blocks_for(sizes, image.history, sources).min(u64::from(u32::MAX)) as u32,
+        None => blocks_for(sizes, image.history, sources),
     };
     Geometry { blocks, ..sizes }
 }

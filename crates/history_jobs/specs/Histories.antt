@@ -11,15 +11,16 @@ use Rattle.image_jobs.specs.Failures.{of_refusal}
 use Rattle.image_jobs.specs.Images.{RunEnds, host_at}
 use Rattle.image_jobs.specs.declared.failure.Failure.{Failure}
 
--- the line of a script that asks for a call of the history
+-- the line of a script that asks for a call of the history, with its word: the name of a checkpoint, or a serial
 abbrev pub history_line : HistoryCall → List ℕ → ℕ → List ℕ
-history_line HistoryCall.Undo checkpoint count = codes "undo"
-history_line HistoryCall.Redo checkpoint count = codes "redo"
-history_line HistoryCall.Rollback checkpoint count = codes "rollback " ++ checkpoint
-history_line HistoryCall.Checkpoint checkpoint count = codes "checkpoint " ++ checkpoint
-history_line HistoryCall.RemoveCheckpoint checkpoint count = codes "rmcheckpoint " ++ checkpoint
-history_line HistoryCall.Forget checkpoint count = codes "forget " ++ decimal count
-history_line HistoryCall.ForgetFree checkpoint count = codes "forgetfree " ++ decimal count
+history_line HistoryCall.Undo word count = codes "undo"
+history_line HistoryCall.Redo word count = codes "redo"
+history_line HistoryCall.Goto word count = codes "goto " ++ word
+history_line HistoryCall.Rollback word count = codes "rollback " ++ word
+history_line HistoryCall.Checkpoint word count = codes "checkpoint " ++ word
+history_line HistoryCall.RemoveCheckpoint word count = codes "rmcheckpoint " ++ word
+history_line HistoryCall.Forget word count = codes "forget " ++ decimal count
+history_line HistoryCall.ForgetFree word count = codes "forgetfree " ++ decimal count
 
 -- how often it is asked for: a step by each. A history has at most so many versions, and so fewer steps: as many lines as versions
 -- are refused, and stand for any greater number
@@ -45,8 +46,8 @@ script_unless (Some refusal) script = Err (Failure.Refused refusal)
 
 -- the script of a call with its words, or how they are refused
 abbrev pub history_spelled : HistoryCall → List ℕ → ℕ → Result (List ℕ) Failure
-history_spelled call checkpoint count =
-    script_unless (refusal_of_line (line_of (history_line call checkpoint count))) (history_script (history_line call checkpoint count) (line_count call count))
+history_spelled call word count =
+    script_unless (refusal_of_line (line_of (history_line call word count))) (history_script (history_line call word count) (line_count call count))
 
 -- why a script is not had: the words are refused, or for want of memory
 abbrev pub Unspelled : Result (List ℕ) Failure → Failure → Type 0

@@ -1,6 +1,6 @@
 //! A call of the history on the file of an image, and a trim.
-ghost use Rattle.std.specs.Prelude.{◌≡◌};
-ghost use Rattle.host_files.specs.Files.{KeepsOthers, ReadsClaimed};
+ghost use Rattle.std.specs.Prelude.{◌≡◌, OnOk};
+ghost use Rattle.host_files.specs.Files.{KeepsOthers, KeepsOrSyncs, ReadsClaimed};
 ghost use Rattle.history_jobs.specs.Histories.{HistoryEnds, RunsUnprinted, history_spelled, trim_script, unprinted};
 
 use crate::history_lines::history_script;
@@ -13,19 +13,21 @@ use std::alloc::Global;
 const TRIM_SCRIPT: &[u8] = b"reclaim 18446744073709551615\nclean 18446744073709551615\nsync\n";
 
 /// Carries out a call of the history on an image, which is claimed first, and syncs it: steps `count`
-/// times, all of them or none. Nothing is printed. Where it is refused the image stays as it was.
+/// times, all of them or none. `word` is the name of a checkpoint, or for [`HistoryCall::Goto`] a
+/// serial. Nothing is printed. Where it is refused the image stays as it was.
 pub fn change_history<F: ImageFiles>(
     files: &mut F,
     alloc: Global,
     name: &str,
     call: HistoryCall,
-    checkpoint: &str,
+    word: &str,
     count: u32,
 ) -> Result<(), Failure>
-    ensures ends { HistoryEnds (history_spelled call checkpoint.now count) name.now (ReadsClaimed F.claims F.reads name.now) (F.held files.old) result (F.held files.new) }
+    ensures ends { HistoryEnds (history_spelled call word.now count) name.now (ReadsClaimed F.claims F.reads name.now) (F.held files.old) result (F.held files.new) }
+    ensures synced { OnOk result (KeepsOrSyncs (F.held files.old) (F.held files.new) (F.synced files.new name.now)) }
     ensures others { KeepsOthers name.now (F.held files.old) (F.held files.new) }
 {
-    let script = match history_script(alloc, call, checkpoint, count) {
+    let script = match history_script(alloc, call, word, count) {
         Ok(script) => script,
         Err(failure) => return Err(failure),
     };
@@ -36,6 +38,7 @@ pub fn change_history<F: ImageFiles>(
 /// Nothing is printed. Where it is refused the image stays as it was.
 pub fn trim_image<F: ImageFiles>(files: &mut F, alloc: Global, name: &str) -> Result<(), Failure>
     ensures ends { RunsUnprinted trim_script name.now (ReadsClaimed F.claims F.reads name.now) (F.held files.old) result (F.held files.new) }
+    ensures synced { OnOk result (KeepsOrSyncs (F.held files.old) (F.held files.new) (F.synced files.new name.now)) }
     ensures others { KeepsOthers name.now (F.held files.old) (F.held files.new) }
 {
     run_unprinted(files, alloc, name, TRIM_SCRIPT)
@@ -49,6 +52,7 @@ fn run_unprinted<F: ImageFiles>(
     script: &[u8],
 ) -> Result<(), Failure>
     ensures ends { RunsUnprinted script.now name.now (ReadsClaimed F.claims F.reads name.now) (F.held files.old) result (F.held files.new) }
+    ensures synced { OnOk result (KeepsOrSyncs (F.held files.old) (F.held files.new) (F.synced files.new name.now)) }
     ensures others { KeepsOthers name.now (F.held files.old) (F.held files.new) }
 {
     let mut reader = script;
@@ -60,7 +64,7 @@ fn run_unprinted<F: ImageFiles>(
 }
 
 /// What a failure of a script is told as, of which no reply is printed.
-fn unprinted(failure: Failure) -> Failure
+pub(crate) fn unprinted(failure: Failure) -> Failure
     ensures { result ≡ unprinted failure }
 {
     match failure {

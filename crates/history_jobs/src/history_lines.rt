@@ -10,18 +10,18 @@ use script::{Line, read_line};
 use script_runs::Refusal;
 use std::alloc::{AllocError, Global};
 
-/// The script of a call of the history: its line, as often as it is asked for, and `sync`. Refused as
-/// its line is.
+/// The script of a call of the history, with its word: its line, as often as it is asked for, and
+/// `sync`. Refused as its line is.
 pub(crate) fn history_script(
     alloc: Global,
     call: HistoryCall,
-    checkpoint: &str,
+    word: &str,
     count: u32,
 ) -> Result<String, Failure>
-    ensures ok { IfOk result (λ script. history_spelled call checkpoint.now count ≡ Ok (string_bytes script)) }
-    ensures err { IfErr result (Unspelled (history_spelled call checkpoint.now count)) }
+    ensures ok { IfOk result (λ script. history_spelled call word.now count ≡ Ok (string_bytes script)) }
+    ensures err { IfErr result (Unspelled (history_spelled call word.now count)) }
 {
-    let line = match history_line(alloc, call, checkpoint, count) {
+    let line = match history_line(alloc, call, word, count) {
         Ok(line) => line,
         Err(_) => return Err(Failure::Memory),
     };
@@ -40,17 +40,18 @@ pub(crate) fn history_script(
 fn history_line(
     alloc: Global,
     call: HistoryCall,
-    checkpoint: &str,
+    word: &str,
     count: u32,
 ) -> Result<String, AllocError>
-    ensures { IfOk result (λ line. string_bytes line ≡ history_line call checkpoint.now count) }
+    ensures { IfOk result (λ line. string_bytes line ≡ history_line call word.now count) }
 {
     match call {
         HistoryCall::Undo => format!(in alloc; "undo"),
         HistoryCall::Redo => format!(in alloc; "redo"),
-        HistoryCall::Rollback => format!(in alloc; "rollback {checkpoint}"),
-        HistoryCall::Checkpoint => format!(in alloc; "checkpoint {checkpoint}"),
-        HistoryCall::RemoveCheckpoint => format!(in alloc; "rmcheckpoint {checkpoint}"),
+        HistoryCall::Goto => format!(in alloc; "goto {word}"),
+        HistoryCall::Rollback => format!(in alloc; "rollback {word}"),
+        HistoryCall::Checkpoint => format!(in alloc; "checkpoint {word}"),
+        HistoryCall::RemoveCheckpoint => format!(in alloc; "rmcheckpoint {word}"),
         HistoryCall::Forget => format!(in alloc; "forget {count}"),
         HistoryCall::ForgetFree => format!(in alloc; "forgetfree {count}"),
     }

@@ -1,5 +1,5 @@
 -- Files by their names.
-use Rattle.std.specs.Prelude.{◌≡◌, ◌≢◌, ◌||◌, ℕ, Bool, Option, IfSome, List, ◌++◌, take, codes}
+use Rattle.std.specs.Prelude.{◌≡◌, ◌≢◌, ◌⊎◌, ◌||◌, ℕ, Bool, Option, IfSome, List, ◌++◌, take, codes}
 use Rattle.std.specs.Str.{bytes_eq}
 use Rattle.host_files.specs.declared.image_files.FileFault.{FileFault}
 use Rattle.host_files.specs.declared.image_files.TheConstants.{MOST_BYTES}
@@ -21,6 +21,10 @@ takes_away name other = bytes_eq other name || bytes_eq other (new_name name)
 abbrev pub ReadsClaimed : {S : Type 0} → (S → List ℕ → Type 0) → (S → List ℕ → List ℕ → Type 0) → List ℕ → List ℕ → Type 0
 ReadsClaimed {S} Claims Reads name bytes = (files : S) × Claims files name × Reads files name bytes
 
+-- and these what a read of another name gives then
+abbrev pub ReadsBeside : {S : Type 0} → (S → List ℕ → Type 0) → (S → List ℕ → List ℕ → Type 0) → List ℕ → List ℕ → List ℕ → Type 0
+ReadsBeside {S} Claims Reads claimed name bytes = (files : S) × Claims files claimed × Reads files name bytes
+
 -- every file but the one of a name, and the new one beside it, holds what it held
 abbrev pub KeepsOthers : List ℕ → Held → Held → Type 0
 KeepsOthers name held saved = (other : List ℕ) → other ≢ name → other ≢ new_name name → saved other ≡ held other
@@ -33,3 +37,15 @@ LeavesFile was now bytes _ = now ≡ was
 -- the bytes of a file that are read, where those of the file are known
 abbrev pub AreBytesRead : Option (List ℕ) → List ℕ → Type 0
 AreBytesRead held bytes = IfSome held (λ all. bytes ≡ take MOST_BYTES all)
+
+-- what reads of files give: the bytes of each, where they are known, and those that a read of its name gives
+pub record Readings : Type 1 where
+  pub held : Held
+  pub gives : List ℕ → List ℕ → Type 0
+
+abbrev pub readings_of : Held → (List ℕ → List ℕ → Type 0) → Readings
+readings_of held Reads = record { held = held; gives = Reads }
+
+-- no file changes, or what has a name is brought to the disk
+abbrev pub KeepsOrSyncs : Held → Held → Type 0 → Type 0
+KeepsOrSyncs held saved IsSynced = (saved ≡ held) ⊎ IsSynced

@@ -2,45 +2,59 @@
 ghost use Rattle.std.specs.Prelude.{◌≡◌, take, IfSome, IfOk};
 
 mod claims;
+mod folder_tree;
+mod gathered;
 mod gathering;
 mod host_part;
 mod identity;
 mod new_folder;
+mod opened_folder;
+mod opening;
 mod replaced;
 mod replacing;
+mod unwritten;
 
 use crate::channels::Channels;
 use crate::folders::Folders;
-use crate::image_files::{FileFault, ImageFiles, MOST_BYTES, UnreadCause};
+use crate::image_files::{FileFault, ImageFiles, MOST_BYTES, UnreadCause, UnwrittenCause};
 use crate::parts::Parts;
 use crate::source::{Source, Sources};
 use claims::Claim;
+use gathered::Gathered;
 use gathering::gather;
 pub use host_part::HostPart;
 use identity::Identity;
 use new_folder::NewFolder;
+use opening::{Opened, open_looked, refuse_special};
 use replaced::Replaced;
 use replacing::replace_file;
 use std::alloc::{AllocError, Global};
-use std::fs::{File, Metadata, OpenFile, OpenOptions};
+use std::cell::{Cell, RefCell};
+use std::fs::{File, OpenOptions};
 use std::io::{BufWriter, ErrorKind, Read};
 use std::rt::Files;
 use std::{fs, io};
+use unwritten::{Failed, unwritten_cause};
 
 /// The files of the host, of whose bytes no contract speaks.
 ///
 /// A name is claimed by a lock on the file that it leads to, through links: so two programs that claim
 /// one file are kept apart, and any other program is not. A file is replaced by a new one that is
 /// written beside it under its name with `.new` after it, has its mode, is brought to the disk and
-/// renamed; then the folder is brought to the disk. Where that fails, the new file is removed again. One
+/// renamed; then the folder is brought to the disk. Where that fails, the new file is removed again; what a
+/// program left of one that a signal ended is removed before. One
 /// that may not be written is not replaced. A folder is made in the same way, but where something stands
 /// at its name or at that of the new one it is refused: between the last look and the renaming another
-/// program may put an empty folder there, which is replaced.
+/// program may put an empty folder there, which is replaced. What stands in a folder is gathered, read and
+/// made by the open folder, so no link is followed that takes a folder's place meanwhile.
 #[derive(Drop)]
 pub struct HostFiles<'a, R> {
     rt: &'a R,
     claim: Option<Claim>,
     folder: Option<NewFolder>,
+    gathered: RefCell<Gathered>,
+    removed: Option<String>,
+    failed: Cell<Option<Failed>>,
 }
 
 impl<'a, R: Files<File = File>> HostFiles<'a, R> {
@@ -50,7 +64,35 @@ impl<'a, R: Files<File = File>> HostFiles<'a, R> {
             rt,
             claim: None,
             folder: None,
+            gathered: RefCell::new(Gathered::Nothing),
+            removed: None,
+            failed: Cell::new(None),
         }
+    }
+
+    /// The name of a new file that was there already, as what a signal leaves, and was removed before a
+    /// file was replaced. No clause says what it answers.
+    pub fn removed(&self) -> Option<&str> {
+        match &self.removed {
+            Some(name) => Some(name.as_str()),
+            None => None,
+        }
+    }
+
+    /// The fault by how a file was not written, which is kept.
+    fn unwritten(&self, error: &io::Error) -> FileFault {
+        self.keep_failed(error, false)
+    }
+
+    /// The fault by how a folder was not made, which is kept.
+    fn unmade(&self, error: &io::Error) -> FileFault {
+        self.keep_failed(error, true)
+    }
+
+    fn keep_failed(&self, error: &io::Error, is_folder: bool) -> FileFault {
+        let kind = error.kind();
+        self.failed.set(Some(Failed { kind, is_folder }));
+        fault_of(error)
     }
 }
 
@@ -62,7 +104,7 @@ impl<R: Files<File = File>> ImageFiles for HostFiles<'_, R> {
                 self.claim = Some(claim);
                 Ok(())
             }
-            Err(error) => Err(fault_of(&error)),
+            Err(error) => Err(self.unwritten(&error)),
         }
     }
 
@@ -71,7 +113,13 @@ impl<R: Files<File = File>> ImageFiles for HostFiles<'_, R> {
     }
 
     fn read_source(&self, alloc: Global, name: &str) -> Result<Vec<u8>, FileFault> {
-        read_unlinked(self.rt, alloc, name).map_err(|error| fault_of(&error))
+        let Ok(mut gathered) = self.gathered.try_borrow_mut() else {
+            return Err(FileFault::Failed);
+        };
+        match gathered.open_source(self.rt, alloc, name) {
+            Ok(file) => read_opened(alloc, file).map_err(|error| fault_of(&error)),
+            Err(error) => Err(fault_of(&error)),
+        }
     }
 
     fn takes_away(&self, alloc: Global, name: &str, other: &str) -> Result<bool, FileFault> {
@@ -85,6 +133,14 @@ impl<R: Files<File = File>> ImageFiles for HostFiles<'_, R> {
         unread_cause(self.rt, name)
     }
 
+    fn unwritten_cause(&self, alloc: Global, name: &str) -> Option<UnwrittenCause> {
+        let failed = self.failed.get()?;
+        match unwritten_cause(self.rt, alloc, name, failed) {
+            Ok(cause) => cause,
+            Err(_) => None,
+        }
+    }
+
     fn replace(&mut self, alloc: Global, name: &str, bytes: &[u8]) -> Result<(), FileFault> {
         let Some(claim) = self.claim.take() else {
             return Err(FileFault::Failed);
@@ -92,9 +148,9 @@ impl<R: Files<File = File>> ImageFiles for HostFiles<'_, R> {
         if claim.name() != name {
             return Err(FileFault::Failed);
         }
-        match replace_file(self.rt, alloc, &claim, bytes) {
+        match replace_file(self.rt, alloc, &claim, bytes, &mut self.removed) {
             Ok(folder) => folder.sync_all().map_err(|_| FileFault::Unsynced),
-            Err(error) => Err(fault_of(&error)),
+            Err(error) => Err(self.unwritten(&error)),
         }
     }
 }
@@ -106,17 +162,16 @@ impl<R: Files<File = File>> Folders for HostFiles<'_, R> {
                 self.folder = Some(folder);
                 Ok(())
             }
-            Err(error) => Err(fault_of(&error)),
+            Err(error) => Err(self.unmade(&error)),
         }
     }
 
     fn make_folder(&mut self, alloc: Global, name: &str, way: &str) -> Result<(), FileFault> {
-        match &mut self.folder {
-            Some(folder) if folder.is_named(name) => folder
-                .make_folder(self.rt, alloc, way)
-                .map_err(|error| fault_of(&error)),
-            _ => Err(FileFault::Failed),
-        }
+        let made = match &mut self.folder {
+            Some(folder) if folder.is_named(name) => folder.make_folder(self.rt, alloc, way),
+            _ => return Err(FileFault::Failed),
+        };
+        made.map_err(|error| self.unmade(&error))
     }
 
     fn make_file(
@@ -126,27 +181,26 @@ impl<R: Files<File = File>> Folders for HostFiles<'_, R> {
         way: &str,
         bytes: &[u8],
     ) -> Result<(), FileFault> {
-        match &self.folder {
-            Some(folder) if folder.is_named(name) => folder
-                .make_file(self.rt, alloc, way, bytes)
-                .map_err(|error| fault_of(&error)),
-            _ => Err(FileFault::Failed),
-        }
+        let made = match &mut self.folder {
+            Some(folder) if folder.is_named(name) => folder.make_file(self.rt, alloc, way, bytes),
+            _ => return Err(FileFault::Failed),
+        };
+        made.map_err(|error| self.unmade(&error))
     }
 
     fn finish_folder(&mut self, alloc: Global, name: &str) -> Result<(), FileFault> {
-        let Some(folder) = self.folder.take() else {
+        let Some(mut folder) = self.folder.take() else {
             return Err(FileFault::Failed);
         };
         if !folder.is_named(name) {
             folder.remove(self.rt, alloc);
             return Err(FileFault::Failed);
         }
-        match folder.finish(self.rt) {
+        match folder.finish(self.rt, alloc) {
             Ok(above) => above.sync_all().map_err(|_| FileFault::Unsynced),
             Err(error) => {
                 folder.remove(self.rt, alloc);
-                Err(fault_of(&error))
+                Err(self.unmade(&error))
             }
         }
     }
@@ -165,7 +219,9 @@ impl<R: Files<File = File> + AllocGlobal> Sources for HostFiles<'_, R> {
             Err(error) if error.kind() == ErrorKind::OutOfMemory => return Err(AllocError),
             Err(_) => Replaced::none(),
         };
-        gather(self.rt, alloc, name, own)
+        let (sources, gathered) = gather(self.rt, alloc, name, own)?;
+        let _ = self.gathered.try_replace(gathered);
+        Ok(sources)
     }
 }
 
@@ -187,7 +243,10 @@ impl<R: Files<File = File>> Parts for HostFiles<'_, R> {
     type Part = HostPart;
 
     fn open_part(&self, alloc: Global, name: &str) -> Result<HostPart, FileFault> {
-        HostPart::open(self.rt, alloc, name).map_err(|error| fault_of(&error))
+        match HostPart::open(self.rt, alloc, name) {
+            Ok(part) => Ok(part),
+            Err(error) => Err(self.unwritten(&error)),
+        }
     }
 }
 
@@ -217,36 +276,24 @@ fn is_among<R: Files>(rt: &R, replaced: Replaced, name: &str) -> bool {
 }
 
 /// The bytes of the plain file that a name leads to. Any other is refused before it is opened.
-fn read_file<R: Files>(rt: &R, alloc: Global, name: &str) -> io::Result<Vec<u8>> {
+fn read_file<R: Files<File = File>>(rt: &R, alloc: Global, name: &str) -> io::Result<Vec<u8>> {
     refuse_special(&fs::metadata(rt, name)?)?;
-    read_opened(alloc, fs::open(rt, name)?)
-}
-
-/// The bytes of the plain file of a name that is no link. The host opens a link too, so what was opened
-/// has to be the file that was looked at before.
-fn read_unlinked<R: Files>(rt: &R, alloc: Global, name: &str) -> io::Result<Vec<u8>> {
-    let looked = fs::symlink_metadata(rt, name)?;
-    refuse_special(&looked)?;
-    let file = fs::open(rt, name)?;
-    if Identity::of(&file.metadata()?) != Identity::of(&looked) {
-        return Err(io::Error::from(ErrorKind::InvalidInput));
-    }
+    let Opened { file, .. } = open_looked(rt, name)?;
     read_opened(alloc, file)
 }
 
 /// The bytes of a plain file that is open.
-fn read_opened<F: Read + OpenFile + Drop>(alloc: Global, file: F) -> io::Result<Vec<u8>> {
-    let opened = file.metadata()?;
-    refuse_special(&opened)?;
-    read_front(alloc, file, opened.len())
+fn read_opened(alloc: Global, file: File) -> io::Result<Vec<u8>> {
+    let len = file.metadata()?.len();
+    read_front(alloc, file, len)
 }
 
 /// Why a name gives no bytes, if it gives none.
-fn unread_cause<R: Files>(rt: &R, name: &str) -> Option<UnreadCause> {
+fn unread_cause<R: Files<File = File>>(rt: &R, name: &str) -> Option<UnreadCause> {
     match fs::metadata(rt, name) {
         Ok(found) if found.is_dir() => Some(UnreadCause::Folder),
         Ok(found) if !found.is_file() => Some(UnreadCause::Special),
-        Ok(_) => match fs::open(rt, name) {
+        Ok(_) => match open_looked(rt, name) {
             Ok(_) => None,
             Err(error) => cause_of(&error),
         },
@@ -260,14 +307,6 @@ fn cause_of(error: &io::Error) -> Option<UnreadCause> {
         ErrorKind::PermissionDenied => Some(UnreadCause::Denied),
         _ => None,
     }
-}
-
-/// Refused where it is no plain file.
-fn refuse_special(found: &Metadata) -> io::Result<()> {
-    if found.is_file() {
-        return Ok(());
-    }
-    Err(io::Error::from(ErrorKind::InvalidInput))
 }
 
 /// The bytes of a reader, the first [`MOST_BYTES`] where it has more. The room is made at once for

@@ -37,6 +37,41 @@ pub enum UnreadCause {
     Special,
 }
 
+/// Why a file or a folder cannot be written.
+#[derive(Debug, Drop, Error)]
+pub enum UnwrittenCause {
+    /// Another program has it, or its new file.
+    #[error("another program has it")]
+    InUse,
+    /// The host does not allow it, or its mode lets nobody write.
+    #[error("it may not be written")]
+    Denied,
+    /// It is a folder, and a file is to be written.
+    #[error("it is a folder")]
+    Folder,
+    /// It is a fifo, a device or the like.
+    #[error("it is neither a folder nor a plain file")]
+    Special,
+    /// Something stands where a folder is to be made, or by now where a file is that was missing.
+    #[error("something stands there")]
+    Standing,
+    /// What stands at this name, where the new file or folder is made, is nobody's to remove but its owner's.
+    #[error("{0} is in the way, remove it")]
+    NewName(String),
+    /// The folder in which it is to stand is missing.
+    #[error("its folder is missing")]
+    NoFolder,
+    /// Nothing may be made in that folder.
+    #[error("its folder may not be written")]
+    FolderDenied,
+    /// There is no room for it.
+    #[error("the disk is full")]
+    Full,
+    /// The host allows no file of its size.
+    #[error("it would be too large for the host")]
+    TooLarge,
+}
+
 /// Files, by their names.
 pub trait ImageFiles {
     ghost use Rattle.std.specs.Prelude.{◌≡◌, ◌⊎◌, None, List, ℕ, take, IfSome, IfOk, IfErr, OnOk};
@@ -51,6 +86,12 @@ pub trait ImageFiles {
 
     // A read of the file of this name gives these bytes, as the files are now.
     ghost reads: { Self → List ℕ → List ℕ → Type 0 } = { λ _ _ _. Unit {0} };
+
+    // A read of this name that follows no link gives these bytes, as the files are now.
+    ghost reads_source: { Self → List ℕ → List ℕ → Type 0 } = { λ _ _ _. Unit {0} };
+
+    // What has this name is brought to the disk.
+    ghost synced: { Self → List ℕ → Type 0 } = { λ _ _. Unit {0} };
 
     /// Claims a name: until it is replaced, another is claimed or the files are dropped, no other
     /// program that claims it has its file, if there is one. A name that is claimed before is let
@@ -69,7 +110,8 @@ pub trait ImageFiles {
     /// The bytes of a file, as [`read`](ImageFiles::read) gives them. Refused where its name is a link too.
     fn read_source(&self, alloc: Global, name: &str) -> Result<Vec<u8>, FileFault>
         ensures ok { IfOk result (λ bytes. IfSome (held self.now name.now) (λ all. bytes.items ≡ take MOST_BYTES all)) }
-        ensures failed { IfErr result (λ fault. (fault ≡ FileFault.Memory) ⊎ (held self.now name.now ≡ None)) };
+        ensures failed { IfErr result (λ fault. (fault ≡ FileFault.Memory) ⊎ (held self.now name.now ≡ None)) }
+        ensures now { IfOk result (λ bytes. reads_source self.now name.now bytes.items) };
 
     /// Whether to replace the file of a name takes the file of another name away, as the files tell: both
     /// names lead to one file, or the other leads to what stands where the new file is made. No clause
@@ -82,12 +124,20 @@ pub trait ImageFiles {
         None
     }
 
+    /// Why the file of a name, or a folder, was not written at the last call that was to write it, as a look
+    /// and that call tell; none where they tell nothing, or for want of memory. No clause says what it
+    /// answers.
+    fn unwritten_cause(&self, _alloc: Global, _name: &str) -> Option<UnwrittenCause> {
+        None
+    }
+
     /// Puts a file of these bytes in the place of the one of this name, which is claimed, if there is
     /// one. Where that fails the file of this name stays as it was; where it is `Unsynced` it is the
     /// new one. Of the other files only the one under the name with `.new` after it may change.
     fn replace(&mut self, alloc: Global, name: &str, bytes: &[u8]) -> Result<(), FileFault>
         requires { claims self.old name.now }
         ensures ok { OnOk result (IfSome (held self.new name.now) (λ all. all ≡ bytes.now)) }
+        ensures synced { OnOk result (synced self.new name.now) }
         ensures err { IfErr result (LeavesFile (held self.old name.now) (held self.new name.now) bytes.now) }
         ensures others { KeepsOthers name.now (held self.old) (held self.new) };
 }

@@ -16,7 +16,7 @@ pub use backing::Backing;
 pub use channels::Channels;
 pub use folders::Folders;
 pub use host_files::{HostFiles, HostPart};
-pub use image_files::{FileFault, ImageFiles, MOST_BYTES, UnreadCause};
+pub use image_files::{FileFault, ImageFiles, MOST_BYTES, UnreadCause, UnwrittenCause};
 pub use limits::read_limit_law;
 pub use names::takes_away;
 pub use parts::Parts;

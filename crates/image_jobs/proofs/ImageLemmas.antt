@@ -13,9 +13,9 @@ use Rattle.flash_image.specs.Images.{image_of, IsFault}
 use Rattle.system.specs.Mounts.{IsMountOf}
 use Rattle.system.specs.declared.systems.System.{System}
 use Rattle.image_jobs.specs.Failures.{of_system}
-use Rattle.host_files.specs.Files.{Held, AreBytesRead}
+use Rattle.host_files.specs.Files.{Held, KeepsOrSyncs, AreBytesRead}
 use Rattle.script_runs.specs.Flashes.{IsNewFlash, AreLawful, IsDecoded, IsMade, IsUnformatted}
-use Rattle.image_jobs.specs.Images.{DecodeCause, IsUnclaimed, IsUnread, IsSpelledFlash, LoadCause, IsImageFile, Unsaved, SavesChange, ChangeUnsaved, FormatEnds, FormatFailure, PlaysBy, Plays, host_at, RunEnds, CheckEnds}
+use Rattle.image_jobs.specs.Images.{DecodeCause, IsUnclaimed, IsUnread, IsSpelledFlash, LoadCause, IsImageFile, Unsaved, SavesChange, ChangeUnsaved, FaultRead, FormatEnds, FormatFailure, PlaysBy, Plays, host_at, RunEnds, CheckEnds}
 use Rattle.script_runs.specs.Scripts.{streams_at}
 use Rattle.image_jobs.specs.declared.failure.Failure.{Failure}
 
@@ -62,6 +62,16 @@ cause_front held bytes front Failure.Input cause = absurd cause
 cause_front held bytes front Failure.Output cause = absurd cause
 cause_front held bytes front (Failure.System fault) cause = absurd cause
 
+-- bytes that a read gave are at fault
+pub fault_read : (Reads : List ℕ → Type 0) (bytes lent : List ℕ) → lent ≡ bytes → Reads bytes → (failure : Failure) → DecodeCause lent failure → FaultRead Reads failure
+fault_read Reads bytes lent same given (Failure.Image fault) cause = (bytes, given, subst (IsFault fault) same cause)
+fault_read Reads bytes lent same given _ cause = tt
+
+-- a file that is not read has none
+pub unread_fault : (Reads : List ℕ → Type 0) (held : Option (List ℕ)) (failure : Failure) → IsUnread held failure → FaultRead Reads failure
+unread_fault Reads held (Failure.Image fault) unread = absurd unread
+unread_fault Reads held _ unread = tt
+
 -- a file that is not read gives no flash
 pub cause_unread : (held : Option (List ℕ)) (failure : Failure) → IsUnread held failure → LoadCause held failure
 cause_unread held Failure.CannotRead cause = cause
@@ -93,6 +103,15 @@ after_claim : (stop : Bool) (name : List ℕ) (IsClaimed : List ℕ → Type 0) 
     → claimed ≡ held → RunEnds stop name IsClaimed (host_at claimed input old) result (host_at saved left new) → RunEnds stop name IsClaimed (host_at held input old) result (host_at saved left new)
 after_claim stop name IsClaimed held claimed saved input left result old new same ends =
     subst (λ (h : Held). RunEnds stop name IsClaimed (host_at h input old) result (host_at saved left new)) same ends
+
+-- what is written is brought to the disk
+pub synced_alone : (held saved : Held) (IsSynced : Type 0) (result : Result (Unit {0}) Failure) → OnOk result IsSynced → OnOk result (KeepsOrSyncs held saved IsSynced)
+synced_alone held saved IsSynced (Ok done) synced = inr synced
+synced_alone held saved IsSynced (Err failure) synced = tt
+
+-- what is saved since a claim is so since before it
+pub synced_since : (held claimed saved : Held) (IsSynced : Type 0) (result : Result (Unit {0}) Failure) → claimed ≡ held → OnOk result (KeepsOrSyncs claimed saved IsSynced) → OnOk result (KeepsOrSyncs held saved IsSynced)
+synced_since held claimed saved IsSynced result same synced = subst (λ (h : Held). OnOk result (KeepsOrSyncs h saved IsSynced)) same synced
 
 -- what a script leaves is saved where it changed
 pub run_saved : (stop : Bool) (name : List ℕ) (IsClaimed : List ℕ → Type 0) (held claimed saved : Held) (bytes kept : List ℕ) (input left : Option (List ℕ)) (end : SimFlash) (result : Result (Unit {0}) Failure) (old new : Option (List ℕ))

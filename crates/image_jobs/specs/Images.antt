@@ -45,6 +45,11 @@ LoadCause held Failure.Memory = Unit {0}
 LoadCause held (Failure.Image fault) = IfSome held (λ bytes. IsFault fault (take MOST_BYTES bytes))
 LoadCause held _ = ⊥
 
+-- where bytes are at fault, a read gave them
+abbrev pub FaultRead : (List ℕ → Type 0) → Failure → Type 0
+FaultRead Reads (Failure.Image fault) = (bytes : List ℕ) × Reads bytes × IsFault fault bytes
+FaultRead Reads _ = Unit {0}
+
 -- why a file is not claimed: it is no plain file, or another program has it; or for want of memory
 abbrev pub IsUnclaimed : Failure → Type 0
 IsUnclaimed Failure.Unavailable = Unit {0}

@@ -64,6 +64,7 @@ pub fn write_image<F: ImageFiles>(
 ) -> Result<(), Failure>
     requires { F.claims files.old name.now }
     ensures ok { OnOk result (IfSome (F.held files.new name.now) (λ all. all ≡ image.now)) }
+    ensures synced { OnOk result (F.synced files.new name.now) }
     ensures err { IfErr result (Unsaved (F.held files.old name.now) (F.held files.new name.now) image.now) }
     ensures others { KeepsOthers name.now (F.held files.old) (F.held files.new) }
 {

@@ -3,9 +3,9 @@ ghost use Rattle.std.specs.Prelude.{◌≡◌, ℕ, IfOk, OnOk, IfErr, IfSome, t
 ghost use Rattle.std.specs.Io.KnownBytes.{Appends};
 ghost use Rattle.flash_simulation.specs.Simulation.{device_of};
 ghost use Rattle.flash_image.specs.Images.{image_of};
-ghost use Rattle.host_files.specs.Files.{KeepsOthers, AreBytesRead, ReadsClaimed};
+ghost use Rattle.host_files.specs.Files.{KeepsOthers, KeepsOrSyncs, AreBytesRead, ReadsClaimed};
 ghost use Rattle.script_runs.specs.Flashes.{IsDecoded, IsMade};
-ghost use Rattle.image_jobs.specs.Images.{DecodeCause, IsUnclaimed, IsUnread, IsSpelledFlash, LoadCause, IsImageFile, Unsaved, SavesChange, ChangeUnsaved, FormatEnds, FormatFailure, PlaysBy, host_at, RunEnds, CheckEnds, LookEnds};
+ghost use Rattle.image_jobs.specs.Images.{DecodeCause, IsUnclaimed, IsUnread, IsSpelledFlash, LoadCause, FaultRead, IsImageFile, Unsaved, SavesChange, ChangeUnsaved, FormatEnds, FormatFailure, PlaysBy, host_at, RunEnds, CheckEnds, LookEnds};
 ghost use Rattle.script_runs.specs.Scripts.{streams_at};
 
 use crate::failure::Failure;
@@ -29,6 +29,7 @@ pub fn format_image<F: ImageFiles>(
     history: u32,
 ) -> Result<(), Failure>
     ensures ends { FormatEnds sizes history (F.held files.old name.now) (F.held files.new name.now) result }
+    ensures synced { OnOk result (F.synced files.new name.now) }
     ensures others { KeepsOthers name.now (F.held files.old) (F.held files.new) }
 {
     match claim(files, alloc, name) {
@@ -47,6 +48,7 @@ fn make_image<F: ImageFiles>(
 ) -> Result<(), Failure>
     requires { F.claims files.old name.now }
     ensures ends { FormatEnds sizes history (F.held files.old name.now) (F.held files.new name.now) result }
+    ensures synced { OnOk result (F.synced files.new name.now) }
     ensures others { KeepsOthers name.now (F.held files.old) (F.held files.new) }
 {
     match formatted_flash(alloc, sizes, history) {
@@ -81,6 +83,7 @@ pub fn run_image<F: ImageFiles, R: Read, W: Write>(
     out: &mut W,
 ) -> Result<(), Failure>
     ensures others { KeepsOthers name.now (F.held files.old) (F.held files.new) }
+    ensures synced { OnOk result (KeepsOrSyncs (F.held files.old) (F.held files.new) (F.synced files.new name.now)) }
     ensures ends { RunEnds stop name.now (ReadsClaimed F.claims F.reads name.now) (host_at (F.held files.old) (R.remaining reader.old) (W.contents out.old)) result (host_at (F.held files.new) (R.remaining reader.new) (W.contents out.new)) }
 {
     let bytes = match take_image(files, alloc, name) {
@@ -158,7 +161,9 @@ fn play<R: Read, W: Write>(
 /// The flash of an image.
 pub fn load<F: ImageFiles>(files: &F, alloc: Global, name: &str) -> Result<SimFlash, Failure>
     ensures ok { IfOk result (IsSpelledFlash (F.held files.now name.now)) }
+    ensures now { IfOk result (λ flash. F.reads files.now name.now (image_of (device_of flash))) }
     ensures err { IfErr result (LoadCause (F.held files.now name.now)) }
+    ensures faulty { IfErr result (FaultRead (F.reads files.now name.now)) }
 {
     match read_image(files, alloc, name) {
         Ok(bytes) => flash_of(alloc, &bytes),
@@ -186,6 +191,7 @@ pub fn save_image<F: ImageFiles>(
 ) -> Result<(), Failure>
     requires { F.claims files.old name.now }
     ensures ok { OnOk result (IsImageFile (F.held files.new name.now) flash.now) }
+    ensures synced { OnOk result (F.synced files.new name.now) }
     ensures err { IfErr result (Unsaved (F.held files.old name.now) (F.held files.new name.now) (image_of (device_of flash.now))) }
     ensures others { KeepsOthers name.now (F.held files.old) (F.held files.new) }
 {
@@ -207,6 +213,7 @@ pub fn save_changed<F: ImageFiles>(
     requires claimed { F.claims files.old name.now }
     requires read { F.reads files.old name.now bytes.now }
     ensures ok { OnOk result (SavesChange name.now (F.held files.old) (F.held files.new) bytes.now (image_of (device_of flash.now))) }
+    ensures synced { OnOk result (KeepsOrSyncs (F.held files.old) (F.held files.new) (F.synced files.new name.now)) }
     ensures err { IfErr result (ChangeUnsaved name.now (F.held files.old) (F.held files.new) bytes.now (image_of (device_of flash.now))) }
     ensures others { KeepsOthers name.now (F.held files.old) (F.held files.new) }
 {

@@ -38,6 +38,7 @@ pub fn save_bytes<F: ImageFiles>(
     bytes: &[u8],
 ) -> Result<(), Failure>
     ensures ok { OnOk result (IfSome (F.held files.new name.now) (λ all. all ≡ bytes.now)) }
+    ensures synced { OnOk result (F.synced files.new name.now) }
     ensures err { IfErr result (λ failure. (IsUnclaimed failure × (F.held files.new ≡ F.held files.old)) ⊎ Unsaved (F.held files.old name.now) (F.held files.new name.now) bytes.now failure) }
     ensures others { KeepsOthers name.now (F.held files.old) (F.held files.new) }
 {

@@ -3,4 +3,4 @@
 
 mod blocks;
 
-pub use blocks::blocks_for;
+pub use blocks::{blocks_for, changes_with_room, tree_blocks};

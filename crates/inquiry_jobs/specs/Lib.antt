@@ -1,3 +1,4 @@
 pub mod Asking
+pub mod LastChanges
 pub mod PathWords
 pub mod Tellings

@@ -68,7 +68,7 @@ pub fn tell_differences<F: ImageFiles, W: Write>(
 }
 
 /// Writes what is told of an image. Where the status is to tell it the job fails if there is something.
-fn tell_with_status<F: ImageFiles, W: Write>(
+pub(crate) fn tell_with_status<F: ImageFiles, W: Write>(
     files: &F,
     alloc: Global,
     name: &str,

@@ -3,11 +3,13 @@
 #![tactic(auto)]
 
 mod asking;
+mod last_change;
 mod path_word;
 mod planned;
 mod view_word;
 
 pub use asking::{of_ask, tell_differences, tell_file, tell_tree, tell_versions};
+pub use last_change::tell_last_change;
 pub use path_word::path_of_word;
 pub use planned::list_as_planned;
 pub use view_word::view_of_word;

@@ -1,15 +1,16 @@
 //! A path that a word of the program spells.
-ghost use Rattle.std.specs.Prelude.{◌≡◌, ◌++◌, codes, Ok, IfOk, IfErr};
+ghost use Rattle.std.specs.Prelude.{◌≡◌, ◌++◌, codes, Ok, IfOk, OnOk, IfErr};
 ghost use Rattle.script.specs.Lines.{line_of};
-ghost use Rattle.inquiry_jobs.specs.PathWords.{path_spelled, path_of_line, path_of_call, SpellingCause};
+ghost use Rattle.inquiry_jobs.specs.PathWords.{path_escaped, path_spelled, path_of_line, path_of_call, SpellingCause};
 
 use fs_types::{Call, Path};
 use image_jobs::Failure;
-use script::{Line, read_line};
+use script::{Line, print_name, read_line};
 use script_runs::Refusal;
 use std::alloc::{AllocError, Global};
 
-/// The path that a word spells, as the line `mkdir` of a script takes it. Refused as that line is.
+/// The path that a word spells: with a `%` as the line `mkdir` of a script takes it, else each of its
+/// bytes is meant. Refused as that line is.
 pub fn path_of_word(alloc: Global, word: &str) -> Result<Path, Failure>
     ensures ok { IfOk result (λ path. path_spelled word.now ≡ Ok path) }
     ensures err { IfErr result (SpellingCause word.now) }
@@ -22,12 +23,23 @@ pub fn path_of_word(alloc: Global, word: &str) -> Result<Path, Failure>
 
 /// The line `mkdir` with a word after it.
 fn line_of_word(alloc: Global, word: &str) -> Result<Line, AllocError>
-    ensures { IfOk result (λ line. line ≡ line_of (codes "mkdir " ++ word.now)) }
+    ensures { IfOk result (λ line. line ≡ line_of (codes "mkdir " ++ path_escaped word.now)) }
 {
     let mut bytes = Vec::new(alloc);
     bytes.extend_from_slice(b"mkdir ")?;
-    bytes.extend_from_slice(word.as_bytes())?;
+    add_path(&mut bytes, word.as_bytes())?;
     read_line(alloc, &bytes)
+}
+
+/// Appends a path, spelled as in a script: as it is where it has a `%`, else with its escapes.
+fn add_path(bytes: &mut Vec<u8>, word: &[u8]) -> Result<(), AllocError>
+    ensures { OnOk result (bytes.new.items ≡ bytes.old.items ++ path_escaped word.now) }
+{
+    if word.contains(&b'%') {
+        bytes.extend_from_slice(word)
+    } else {
+        print_name(bytes, word)
+    }
 }
 
 /// The path that a line `mkdir` names.

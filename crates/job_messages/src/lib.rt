@@ -1,6 +1,7 @@
 //! What the program tells on standard error.
 #![tactic(auto)]
 
+mod refused_words;
 mod telling;
 
 pub use telling::{

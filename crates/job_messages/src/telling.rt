@@ -1,13 +1,15 @@
 //! What is told on standard error, where a job did not run to its end.
 ghost use Rattle.std.specs.Prelude.{◌<◌};
 
-use flash_model::Geometry;
+use crate::refused_words::tell_refused_words;
+use flash_model::{Flash, Geometry};
 use fs_types::{Fault, MAX_VERSIONS, MIN_BLOCK_BYTES, MIN_VERSIONS, Path};
-use host_files::{ImageFiles, Source, UnreadCause};
-use image_jobs::{Failure, SourceFault, explain_refusal, explain_unread};
+use host_files::{ImageFiles, Source, UnreadCause, takes_away};
+use image_jobs::{Failure, SourceFault, explain_refusal, explain_unread, load};
 use jobs::{Job, Task};
+use record_sizes::recorded_sizes;
 use script::print_name;
-use script_runs::Refusal;
+use script_runs::{Refusal, mount_as_planned};
 use std::alloc::{AllocError, Global};
 use std::io;
 use std::io::Write;
@@ -22,7 +24,8 @@ const NODE_HEADER: usize = 80;
 const MAX_FLASH_BYTES: usize = 67_108_864;
 
 /// Tells why a job did not run to its end, unless that was told before: a put, an archive and a copy tell by
-/// themselves what was refused.
+/// themselves what was refused. Why an image is refused is told by one more look at it, where the failure does
+/// not tell it.
 pub fn tell_failure<F: ImageFiles, E: Write>(
     files: &F,
     alloc: Global,
@@ -40,6 +43,12 @@ pub fn tell_failure<F: ImageFiles, E: Write>(
             writeln!(err, "uffs: {} is no folder", word_given(job.file))
         }
         Failure::CannotRead if job.command == Task::Update => tell_unread_of_two(files, job, err),
+        Failure::Image(_) | Failure::System(_) if job.command == Task::Update => {
+            tell_refused_of_two(files, alloc, job, failure, err)
+        }
+        Failure::System(Fault::BadGeometry) => tell_other_sizes(files, alloc, job, err),
+        Failure::Refused(refusal) => tell_refused_words(files, alloc, job, refusal, err),
+        Failure::Unavailable | Failure::CannotWrite => tell_unwritten(files, alloc, job, err),
         _ => {
             let read = read_by(job);
             failure.explain(read, unread_cause(files, job, read), written_by(job), err);
@@ -83,6 +92,121 @@ fn tell_unread_of_two<F: ImageFiles, E: Write>(
         (None, cause) => explain_unread(second, cause, err),
         (cause, _) => explain_unread(first, cause, err),
     }
+}
+
+/// Tells which of two images is refused, by a look at the first: the second one, where that is not refused so.
+fn tell_refused_of_two<F: ImageFiles, E: Write>(
+    files: &F,
+    alloc: Global,
+    job: Job<'_>,
+    failure: Failure,
+    err: &mut E,
+) -> io::Result<()> {
+    let first = word_given(job.image);
+    let name = if is_refused_so(files, alloc, first, failure) {
+        first
+    } else {
+        word_given(job.file)
+    };
+    match failure {
+        Failure::Image(fault) => writeln!(err, "uffs: image {fault}: {name}"),
+        Failure::System(fault) => explain_refusal(Refusal::Fault(fault), Some(name), err),
+        _ => Ok(()),
+    }
+}
+
+/// Whether an image is refused so, or its mount.
+fn is_refused_so<F: ImageFiles>(files: &F, alloc: Global, name: &str, failure: Failure) -> bool {
+    let mut flash = match load(files, alloc, name) {
+        Ok(flash) => flash,
+        Err(found) => return found == failure,
+    };
+    match mount_as_planned(alloc, &mut flash) {
+        Ok(_) => false,
+        Err(fault) => Failure::of_system(fault) == failure,
+    }
+}
+
+/// Tells that an image is refused for its sizes, with those that its newest record tells, where a look at
+/// the image finds them.
+fn tell_other_sizes<F: ImageFiles, E: Write>(
+    files: &F,
+    alloc: Global,
+    job: Job<'_>,
+    err: &mut E,
+) -> io::Result<()> {
+    let refusal = Refusal::Fault(Fault::BadGeometry);
+    match recorded_text(files, alloc, word_given(job.image)) {
+        Some(text) => explain_refusal(refusal, Some(text.as_str()), err),
+        None => explain_refusal(refusal, None, err),
+    }
+}
+
+/// What the newest record of an image tells of the sizes of its flash, if it tells others.
+fn recorded_text<F: ImageFiles>(files: &F, alloc: Global, name: &str) -> Option<String> {
+    let flash = load(files, alloc, name).ok()?;
+    let sizes = flash.geometry();
+    let recorded = recorded_sizes(&flash)?;
+    if recorded == sizes {
+        return None;
+    }
+    let Geometry {
+        page,
+        pages,
+        blocks,
+    } = recorded;
+    let text = if page == sizes.page && pages == sizes.pages {
+        format!(in alloc; "the record is of {blocks} blocks")
+    } else {
+        format!(in alloc; "the record is of {blocks} blocks of {pages} pages of {page} bytes")
+    };
+    text.ok()
+}
+
+/// Tells that what a job writes cannot be written, with why where that is known: the orders of a driver are
+/// no file.
+fn tell_unwritten<F: ImageFiles, E: Write>(
+    files: &F,
+    alloc: Global,
+    job: Job<'_>,
+    err: &mut E,
+) -> io::Result<()> {
+    let name = written_by(job);
+    if has_two_names(job.command) && would_take_away(files, alloc, name, read_by(job)) {
+        return writeln!(
+            err,
+            "uffs: cannot write {name}: that would take {} away",
+            read_by(job)
+        );
+    }
+    let cause = match job.command {
+        Task::Serve => None,
+        _ => files.unwritten_cause(alloc, name),
+    };
+    match cause {
+        Some(cause) => writeln!(err, "uffs: cannot write {name}: {cause}"),
+        None => writeln!(err, "uffs: cannot write {name}"),
+    }
+}
+
+/// Whether a task reads one file and writes another.
+fn has_two_names(command: Task) -> bool {
+    matches!(
+        command,
+        Task::Get
+            | Task::MapPage
+            | Task::ToPart
+            | Task::FromPart
+            | Task::ToRaw
+            | Task::FromRaw
+            | Task::Copy
+    )
+}
+
+/// Whether to write the file of a name takes the one of another name away, by the names or by a look.
+fn would_take_away<F: ImageFiles>(files: &F, alloc: Global, name: &str, other: &str) -> bool {
+    matches!(takes_away(alloc, name, other), Ok(true))
+        || matches!(files.takes_away(alloc, name, other), Ok(true))
 }
 
 /// The name of what a job reads.
@@ -136,7 +260,6 @@ fn refused_number(alloc: Global, job: Job<'_>, fault: Fault) -> Result<Option<St
             String::from_str(alloc, "its pages are not 256 bytes, 16 in a block")?
         }
         (Fault::BadGeometry, Task::FromRaw) => refused_raw(alloc, job)?,
-        (Fault::BadGeometry, Task::Create) if !job.is_blocks_given => return Ok(None),
         _ => return format_number(alloc, sizes_of(job), job.history, fault),
     };
     Ok(Some(text))
@@ -183,7 +306,7 @@ fn sizes_of(job: Job<'_>) -> Geometry {
     }
 }
 
-/// The first of the sizes for the bytes of a part that is none, or that their length is.
+/// The first of the sizes for the bytes of a part that is none, or that their length is none.
 fn refused_raw(alloc: Global, job: Job<'_>) -> Result<String, AllocError> {
     let page = job.page;
     let pages = job.pages;
@@ -193,10 +316,22 @@ fn refused_raw(alloc: Global, job: Job<'_>) -> Result<String, AllocError> {
     if pages != 16 {
         return format!(in alloc; "--pages {pages} is not 16");
     }
+    if job.is_blocks_given {
+        return refused_first_blocks(alloc, job.blocks);
+    }
     String::from_str(
         alloc,
         "it has not 8192 bytes for each of 16 to 16384 blocks",
     )
+}
+
+/// Why so many first blocks of the bytes of a part are refused.
+fn refused_first_blocks(alloc: Global, blocks: u32) -> Result<String, AllocError> {
+    if matches!(blocks, 16..=16384) {
+        format!(in alloc; "it has not 8192 bytes for each of {blocks} blocks")
+    } else {
+        format!(in alloc; "--blocks {blocks} is not 16 to 16384")
+    }
 }
 
 /// The first of the sizes that is none, with what it may be beside those before it.

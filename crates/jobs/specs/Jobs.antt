@@ -50,6 +50,7 @@ reading_task_named name = if bytes_eq name (codes "cat") then Some Task.Cat
 abbrev pub history_task_named : Text → Option Task
 history_task_named name = if bytes_eq name (codes "undo") then Some (Task.History HistoryCall.Undo)
     else if bytes_eq name (codes "redo") then Some (Task.History HistoryCall.Redo)
+    else if bytes_eq name (codes "goto") then Some (Task.History HistoryCall.Goto)
     else if bytes_eq name (codes "rollback") then Some (Task.History HistoryCall.Rollback)
     else if bytes_eq name (codes "checkpoint") then Some (Task.History HistoryCall.Checkpoint)
     else if bytes_eq name (codes "rmcheckpoint") then Some (Task.History HistoryCall.RemoveCheckpoint)
@@ -91,6 +92,16 @@ abbrev pub map_task : Bool → Task
 map_task true = Task.MapPage
 map_task false = Task.Map
 
+-- what differs is told of a view, or without one of the last change
+abbrev pub difference_task : Bool → Task
+difference_task true = Task.Diff
+difference_task false = Task.LastChange
+
+-- help tells of all words, or of one that there is
+abbrev pub help_task : Option Text → Option Task
+help_task None = Some Task.Help
+help_task (Some word) = option_map (λ task. Task.Help) (task_named word)
+
 -- whether a word of this name is given
 abbrev pub has_word : Text → List Row → Bool
 has_word name rows = is_some (first_of name rows)
@@ -101,6 +112,8 @@ task_with rows (Task.History HistoryCall.Forget) = forget_task (has_word (codes 
 task_with rows Task.Format = format_task (has_word (codes "part") rows) (has_word (codes "IMAGE") rows)
 task_with rows Task.Serve = serve_task (has_word (codes "part") rows) (has_word (codes "ANSWERS") rows) (has_word (codes "ORDERS") rows)
 task_with rows Task.Map = Some (map_task (has_word (codes "FILE") rows))
+task_with rows Task.Diff = Some (difference_task (has_word (codes "VIEW") rows))
+task_with rows Task.Help = help_task (first_of (codes "WORD") rows)
 task_with rows task = Some task
 
 abbrev pub task_asked : Text → List Row → Option Task
@@ -178,6 +191,8 @@ pub record IsJobOf (name : Text) (rows : List Row) (job : Job) : Type 0 where
   pub file : word_text job.file ≡ first_of (codes "FILE") rows
   pub view : word_text job.view ≡ first_of (codes "VIEW") rows
   pub other : word_text job.other ≡ first_of (codes "OTHER") rows
+  pub serial : word_text job.serial ≡ first_of (codes "SERIAL") rows
+  pub word : word_text job.word ≡ first_of (codes "WORD") rows
   pub progress : job.progress ≡ flag_of (first_of (codes "progress") rows)
   pub mirror : job.mirror ≡ flag_of (first_of (codes "mirror") rows)
   pub skip_links : job.skip_links ≡ flag_of (first_of (codes "skip-links") rows)

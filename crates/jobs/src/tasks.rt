@@ -7,6 +7,8 @@ pub enum HistoryCall {
     Undo,
     /// Versions after become the present one, step by step.
     Redo,
+    /// The version of a serial becomes the present one.
+    Goto,
     /// The tree of a checkpoint becomes the present one.
     Rollback,
     /// The present tree is kept under a name.
@@ -40,6 +42,8 @@ pub enum Task {
     Tree,
     /// What differs between two trees of an image is told.
     Diff,
+    /// What differs between the present version of an image and the one before it is told.
+    LastChange,
     /// The versions and the checkpoints of an image are told, with their sizes.
     Versions,
     /// An image is mounted.
@@ -80,7 +84,7 @@ pub enum Task {
     Untar,
     /// What refusals mean is told.
     Explain,
-    /// What can be asked for is told.
+    /// What can be asked for is told, or by one word.
     Help,
     /// The program and its version are told.
     Version,
@@ -121,6 +125,10 @@ pub struct Job<'a> {
     pub count: u32,
     /// The name of a checkpoint; none where none is named.
     pub checkpoint: Option<&'a str>,
+    /// The serial of a version; none where none is named.
+    pub serial: Option<&'a str>,
+    /// The word of the program of which help tells; none where none is named.
+    pub word: Option<&'a str>,
     /// Whether the status tells that trees differ.
     pub exit_code: bool,
     /// Whether a script ends at its first line that is refused.

@@ -3,7 +3,7 @@ ghost use Rattle.std.specs.Prelude.{◌≡◌, ℕ, [], codes, IfOk, OnOk, IfErr
 ghost use Rattle.clap.specs.Words.{HasKind, app_of, fault_of, found_of, rows_of, subcommand_rows_of};
 ghost use Rattle.clap.specs.Walk.{one_of, first_of};
 ghost use Rattle.command_words.specs.Grammar.{uffs};
-ghost use Rattle.jobs.specs.Jobs.{AreNumbersOf, AsksFor, IsImageOf, IsNumberOf, SaysJob, count_word, flag_of, forget_task, format_task, has_no_image, has_word, map_task, serve_task, task_asked, task_named, history_task_named, reading_task_named, other_form_task_named, task_named_without_files, task_with};
+ghost use Rattle.jobs.specs.Jobs.{AreNumbersOf, AsksFor, IsImageOf, IsNumberOf, SaysJob, count_word, difference_task, flag_of, forget_task, format_task, has_no_image, has_word, help_task, map_task, serve_task, task_asked, task_named, history_task_named, reading_task_named, other_form_task_named, task_named_without_files, task_with, word_text};
 ghost use Rattle.jobs.specs.declared.tasks.Job.{Job};
 ghost use Rattle.jobs.specs.declared.words.Numbers.{Numbers};
 
@@ -11,12 +11,13 @@ use crate::tasks::{HistoryCall, Job, Task};
 use clap::error::ErrorKind;
 use clap::{ArgMatches, Command, Error};
 use command_words::names::{
-    ANSWERS, COUNT, FILE, FREE, IMAGE, NAME, ORDERS, OTHER, PART, PATH, REFUSAL, VIEW,
+    ANSWERS, COUNT, FILE, FREE, IMAGE, NAME, ORDERS, OTHER, PART, PATH, REFUSAL, SERIAL, VIEW, WORD,
 };
 use command_words::program;
 use std::alloc::Global;
 
 /// The numbers of a job.
+#[derive(Clone, Copy)]
 struct Numbers {
     page: u32,
     pages: u32,
@@ -80,6 +81,7 @@ fn misuse_of(matches: &ArgMatches<'_>) -> &'static str {
         ("serve", true) => "'--part <FILE>' cannot be used with ANSWERS",
         ("serve", false) => "ANSWERS and ORDERS, or '--part <FILE>', are wanted",
         ("forget", _) => "either N or '--free <BLOCKS>' is wanted",
+        ("help", _) => "there is no such WORD; 'uffs help' tells which there are",
         _ => "the words ask for nothing",
     }
 }
@@ -92,21 +94,15 @@ fn said<'a>(matches: &ArgMatches<'a>) -> Option<Job<'a>>
     let (name, given) = matches.subcommand()?;
     let command = task_asked(name, given)?;
     let image = image(given, command)?;
-    let Numbers {
-        page,
-        pages,
-        blocks,
-        history,
-        count,
-    } = numbers_of(given, command)?;
+    let numbers = numbers_of(given, command)?;
     Some(Job {
         command,
         image,
-        page,
-        pages,
-        blocks,
-        history,
-        count,
+        page: numbers.page,
+        pages: numbers.pages,
+        blocks: numbers.blocks,
+        history: numbers.history,
+        count: numbers.count,
         refusal: word(given, REFUSAL),
         checkpoint: word(given, NAME),
         is_page_given: is_given(given, "page"),
@@ -122,6 +118,8 @@ fn said<'a>(matches: &ArgMatches<'a>) -> Option<Job<'a>>
         file: word(given, FILE),
         view: word(given, VIEW),
         other: word(given, OTHER),
+        serial: word(given, SERIAL),
+        word: word(given, WORD),
         progress: has_flag(given, "progress"),
         mirror: has_flag(given, "mirror"),
         skip_links: has_flag(given, "skip-links"),
@@ -175,6 +173,8 @@ fn task_with(task: Task, given: &ArgMatches<'_>) -> Option<Task>
             is_given(given, ORDERS),
         ),
         Task::Map => Some(map_task(is_given(given, FILE))),
+        Task::Diff => Some(difference_task(is_given(given, VIEW))),
+        Task::Help => help_task(word(given, WORD)),
         _ => Some(task),
     }
 }
@@ -198,6 +198,30 @@ fn map_task(is_file_given: bool) -> Task
         Task::MapPage
     } else {
         Task::Map
+    }
+}
+
+/// What differs is told of a view, or without one of the last change.
+fn difference_task(is_view_given: bool) -> Task
+    ensures { result ≡ difference_task is_view_given }
+{
+    if is_view_given {
+        Task::Diff
+    } else {
+        Task::LastChange
+    }
+}
+
+/// Help tells of all words, or of one that there is.
+fn help_task(word: Option<&str>) -> Option<Task>
+    ensures { result ≡ help_task (word_text word.entry) }
+{
+    match word {
+        Some(word) => match task_named(word) {
+            Some(_) => Some(Task::Help),
+            None => None,
+        },
+        None => Some(Task::Help),
     }
 }
 
@@ -225,6 +249,7 @@ fn history_task_named(name: &str) -> Option<Task>
     match name {
         "undo" => Some(Task::History(HistoryCall::Undo)),
         "redo" => Some(Task::History(HistoryCall::Redo)),
+        "goto" => Some(Task::History(HistoryCall::Goto)),
         "rollback" => Some(Task::History(HistoryCall::Rollback)),
         "checkpoint" => Some(Task::History(HistoryCall::Checkpoint)),
         "rmcheckpoint" => Some(Task::History(HistoryCall::RemoveCheckpoint)),

@@ -1,5 +1,5 @@
 //! What is told of the blocks of an image.
-ghost use Rattle.std.specs.Prelude.{◌≡◌, IfOk, IfErr};
+ghost use Rattle.std.specs.Prelude.{◌≡◌, IfOk, IfErr, OnOk};
 ghost use Rattle.host_files.specs.Files.{KeepsOthers};
 ghost use Rattle.map_jobs.specs.Mapping.{AreKindsOf, IsMapPage, IsMapText, MapEnds, MapPageEnds, UnmappedCause, of_map};
 
@@ -39,6 +39,7 @@ pub fn save_map_page<F: ImageFiles>(
     file: &str,
 ) -> Result<(), Failure>
     ensures ends { MapPageEnds name.now file.now (F.held files.old) (F.held files.new) result }
+    ensures synced { OnOk result (F.synced files.new file.now) }
     ensures others { KeepsOthers file.now (F.held files.old) (F.held files.new) }
 {
     match spare(files, alloc, file, name) {

@@ -1,5 +1,5 @@
 //! Parts in flat files that are made, and images made of them.
-ghost use Rattle.std.specs.Prelude.{◌≡◌, false};
+ghost use Rattle.std.specs.Prelude.{◌≡◌, false, OnOk};
 ghost use Rattle.flash_simulation.specs.Simulation.{device_of};
 ghost use Rattle.host_files.specs.Files.{KeepsOthers};
 ghost use Rattle.part_jobs.specs.Making.{WritesPart, WritesImage, FormatPartEnds, ToPartEnds, FromPartEnds};
@@ -22,6 +22,7 @@ pub fn format_part<F: ImageFiles>(
     history: u32,
 ) -> Result<(), Failure>
     ensures ends { FormatPartEnds sizes history (F.held files.old name.now) (F.held files.new name.now) result }
+    ensures synced { OnOk result (F.synced files.new name.now) }
     ensures others { KeepsOthers name.now (F.held files.old) (F.held files.new) }
 {
     match claim(files, alloc, name) {
@@ -43,6 +44,7 @@ pub fn image_to_part<F: ImageFiles>(
     name: &str,
 ) -> Result<(), Failure>
     ensures ends { ToPartEnds image.now name.now (F.held files.old) (F.held files.new) result }
+    ensures synced { OnOk result (F.synced files.new name.now) }
     ensures others { KeepsOthers name.now (F.held files.old) (F.held files.new) }
 {
     match spare(files, alloc, name, image) {
@@ -68,6 +70,7 @@ pub fn part_to_image<F: ImageFiles + Parts>(
     name: &str,
 ) -> Result<(), Failure>
     ensures ends { FromPartEnds part.now name.now (F.placed files.old part.now) (F.held files.old) (F.held files.new) result }
+    ensures synced { OnOk result (F.synced files.new name.now) }
     ensures others { KeepsOthers name.now (F.held files.old) (F.held files.new) }
 {
     match spare(files, alloc, name, part) {
@@ -93,6 +96,7 @@ fn write_part<F: ImageFiles>(
 ) -> Result<(), Failure>
     requires { F.claims files.old name.now }
     ensures ends { WritesPart (device_of flash.now) (F.held files.old name.now) (F.held files.new name.now) result }
+    ensures synced { OnOk result (F.synced files.new name.now) }
     ensures others { KeepsOthers name.now (F.held files.old) (F.held files.new) }
 {
     match spelled_part(alloc, flash) {
@@ -110,6 +114,7 @@ fn save_flash<F: ImageFiles>(
 ) -> Result<(), Failure>
     requires { F.claims files.old name.now }
     ensures ends { WritesImage (device_of flash.now) (F.held files.old name.now) (F.held files.new name.now) result }
+    ensures synced { OnOk result (F.synced files.new name.now) }
     ensures others { KeepsOthers name.now (F.held files.old) (F.held files.new) }
 {
     save_image(files, alloc, name, flash)

@@ -1,5 +1,5 @@
 //! Jobs that words ask for, with ample memory.
-use jobs::{Job, Task, job};
+use jobs::{HistoryCall, Job, Task, job};
 use std::alloc::{AllocError, Global};
 use std::test::Fail;
 
@@ -9,7 +9,7 @@ use std::test::Fail;
 type Looked<'a> = (Task, bool, [Option<&'a str>; 6], Option<u32>, bool);
 
 /// Words, and what is asked for; none where they are refused.
-const ROWS: [(&str, Option<Looked<'static>>); 9] = [
+const ROWS: [(&str, Option<Looked<'static>>); 15] = [
     (
         "put disk.image notes.txt /notes --progress",
         Some((
@@ -67,6 +67,36 @@ const ROWS: [(&str, Option<Looked<'static>>); 9] = [
             false,
         )),
     ),
+    (
+        "diff disk.image",
+        Some((Task::LastChange, true, [None; 6], None, false)),
+    ),
+    (
+        "diff disk.image @2",
+        Some((
+            Task::Diff,
+            true,
+            [None, None, Some("@2"), None, None, None],
+            None,
+            false,
+        )),
+    ),
+    (
+        "goto disk.image 5",
+        Some((
+            Task::History(HistoryCall::Goto),
+            true,
+            [None; 6],
+            None,
+            false,
+        )),
+    ),
+    ("help", Some((Task::Help, false, [None; 6], None, false))),
+    (
+        "help put",
+        Some((Task::Help, false, [None; 6], None, false)),
+    ),
+    ("help mount", None),
     ("format", None),
     ("format x --part disk.part", None),
     ("serve answers", None),
@@ -140,6 +170,8 @@ fn words_are_read_as_a_job(rt: HostRuntime) -> Result<(), Fail> {
         refusal: None,
         count: 1,
         checkpoint: None,
+        serial: None,
+        word: None,
         exit_code: false,
         stop: false,
         path: None,

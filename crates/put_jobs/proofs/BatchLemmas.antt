@@ -18,13 +18,13 @@ use Rattle.put_jobs.specs.Putting.{PutEnds, SourcesEnd}
 use Rattle.put_jobs.specs.declared.batch.Batch.{Batch}
 
 -- a batch is put, which is what was asked for
-pub asked_ends : (mirror skips : Bool) (name word : List ℕ) (IsClaimed : List ℕ → Type 0) (gathered : Option (List Found)) (base : Path) (batch : Batch) (held saved : Held) (result : Result (Unit {0}) Failure)
+pub asked_ends : (mirror skips : Bool) (name word : List ℕ) (IsClaimed : List ℕ → Type 0) (Reads : List ℕ → List ℕ → Type 0) (gathered : Option (List Found)) (base : Path) (batch : Batch) (held saved : Held) (result : Result (Unit {0}) Failure)
     → path_spelled word ≡ Ok base → (all : List Found) × IfSome gathered (λ found. all ≡ found) × IsBatch mirror skips base all batch → AreOthers name (map source_found batch.sources.items)
-    → SourcesEnd name IsClaimed batch.base (kept_in batch) (map source_found batch.sources.items) held saved result → PutEnds mirror skips name word IsClaimed held saved gathered result
-asked_ends mirror skips name word IsClaimed gathered base batch held saved result spelled (all, known, is) others ends =
-    let at_base = subst (λ (p : Path). SourcesEnd name IsClaimed p (kept_in batch) (map source_found batch.sources.items) held saved result) is.base ends in
-    let at_kept = subst (λ (kept : Option (List Kept)). SourcesEnd name IsClaimed base kept (map source_found batch.sources.items) held saved result) is.kept at_base in
-    let at_sources = subst (λ (found : List Found). SourcesEnd name IsClaimed base (kept_asked mirror all) found held saved result) is.sources at_kept in
+    → SourcesEnd name IsClaimed Reads batch.base (kept_in batch) (map source_found batch.sources.items) held saved result → PutEnds mirror skips name word IsClaimed Reads held saved gathered result
+asked_ends mirror skips name word IsClaimed Reads gathered base batch held saved result spelled (all, known, is) others ends =
+    let at_base = subst (λ (p : Path). SourcesEnd name IsClaimed Reads p (kept_in batch) (map source_found batch.sources.items) held saved result) is.base ends in
+    let at_kept = subst (λ (kept : Option (List Kept)). SourcesEnd name IsClaimed Reads base kept (map source_found batch.sources.items) held saved result) is.kept at_base in
+    let at_sources = subst (λ (found : List Found). SourcesEnd name IsClaimed Reads base (kept_asked mirror all) found held saved result) is.sources at_kept in
     inl (base, all, record { spelled = spelled; known = known }, is.folder, subst (AreOthers name) is.sources others, at_sources)
 
 -- what was found is refused

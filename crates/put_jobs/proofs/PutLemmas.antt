@@ -19,7 +19,7 @@ use Rattle.undofs.specs.Runs.{World, Happens, Run}
 use Rattle.undofs.specs.Sessions.{Stands, world}
 use Rattle.undofs.proofs.SessionSteps.{mount_begins, serve_law}
 use Rattle.image_jobs.specs.Failures.{of_refusal}
-use Rattle.host_files.specs.Files.{Held, AreBytesRead, takes_away}
+use Rattle.host_files.specs.Files.{Held, Readings, readings_of, AreBytesRead, takes_away}
 use Rattle.put_jobs.specs.Puts.{group_start, lot_events, put_events, group_events, group_end, mark_all, clean_all, Trims, is_due, stop_of, GoOn, StopLast, IsThingBy, IsThing, AreThings, Carries, StopsWithin, StopsAtEnd, IsUnput, PutsBy, PutCause, FoundCause, GatherCause}
 use Rattle.inquiry_jobs.specs.PathWords.{SpellingCause, path_spelled}
 use Rattle.put_jobs.specs.Served.{Place, place, Turns, ServesAll, Halts, ServesPut, PutsReady, PutsNext, PutsEach, PutsGroup, ClosesGroup, IsTrimmed, IsTrimmedWhere, EndsGroup, PutsAll}
@@ -41,7 +41,7 @@ use Rattle.put_lots.specs.declared.lots.Taken.{Taken}
 use Rattle.put_lots.specs.declared.thing.Thing.{Thing}
 use Rattle.put_lots.proofs.Cuts.{IsCut, cut_none, cut_next, cut_events, events_more, events_until}
 use Rattle.image_jobs.proofs.ImageLemmas.{loaded_front, cause_front, cause_unread}
-use Rattle.put_jobs.proofs.FlashLemmas.{puts_as, cause_as}
+use Rattle.put_jobs.proofs.FlashLemmas.{puts_as, cause_as, puts_given, cause_given}
 
 -- ---- events
 
@@ -85,19 +85,19 @@ asks_halted events i event p q r answer refusal below is passes turns stops =
 
 -- ---- sources
 
-things_more : (held : Held) (base : Path) (all : List Found) (things : List Thing) (found : Found) (thing : Thing)
-    → AreThings held base all things → IsThing held base found thing → AreThings held base (all ++ found ∷ []) (things ++ thing ∷ [])
-things_more held base [] [] found thing h is = (is, tt)
-things_more held base [] (other ∷ things) found thing h is = absurd h
-things_more held base (other ∷ all) [] found thing h is = absurd h
-things_more held base (one ∷ all) (other ∷ things) found thing h is = (h.0, things_more held base all things found thing h.1 is)
+things_more : (readings : Readings) (base : Path) (all : List Found) (things : List Thing) (found : Found) (thing : Thing)
+    → AreThings readings base all things → IsThing readings base found thing → AreThings readings base (all ++ found ∷ []) (things ++ thing ∷ [])
+things_more readings base [] [] found thing h is = (is, tt)
+things_more readings base [] (other ∷ things) found thing h is = absurd h
+things_more readings base (other ∷ all) [] found thing h is = absurd h
+things_more readings base (one ∷ all) (other ∷ things) found thing h is = (h.0, things_more readings base all things found thing h.1 is)
 
 -- so many sources were taken in so far: some are put, and the last of them may wait
-abbrev pub HasTaken : Held → Path → List Found → Option Thing → Place → Place → Type 0
-HasTaken held base all last p q = (things : List Thing) × (done : List Thing) × AreThings held base all things × IsCut things done last × ServesAll p (flat_map thing_events done) q
+abbrev pub HasTaken : Readings → Path → List Found → Option Thing → Place → Place → Type 0
+HasTaken readings base all last p q = (things : List Thing) × (done : List Thing) × AreThings readings base all things × IsCut things done last × ServesAll p (flat_map thing_events done) q
 
-pub none_taken : (held : Held) (base : Path) (p : Place) → HasTaken held base [] None p p
-none_taken held base p = ([], [], tt, cut_none, refl)
+pub none_taken : (readings : Readings) (base : Path) (p : Place) → HasTaken readings base [] None p p
+none_taken readings base p = ([], [], tt, cut_none, refl)
 
 found_more : (sources : List Source) (i : ℕ) (source : Source) → i < length sources → source ≡ get_or sources i source
     → map source_found (take (i + 1) sources) ≡ map source_found (take i sources) ++ source_found source ∷ []
@@ -116,39 +116,39 @@ among sources i source below is =
     subst (λ (x : List Found). Contains x (source_found source)) (sym (parted sources i source below is))
     (Contains-append_left (first ++ source_found source ∷ []) (map source_found (drop (i + 1) sources)) (source_found source) (Contains-push first (source_found source)))
 
-pub puts_next : (held : Held) (base : Path) (sources : List Source) (i : ℕ) (source : Source) (last : Option Thing) (next : Thing) (p q r : Place) → i < length sources → source ≡ get_or sources i source
-    → HasTaken held base (map source_found (take i sources)) last p q → PutsNext held base (source_found source) last q (Ok next) r → HasTaken held base (map source_found (take (i + 1) sources)) (Some next) p r
-puts_next held base sources i source last next p q r below is (things, done, are, cut, passes) (thing, one, waits, more) =
+pub puts_next : (readings : Readings) (base : Path) (sources : List Source) (i : ℕ) (source : Source) (last : Option Thing) (next : Thing) (p q r : Place) → i < length sources → source ≡ get_or sources i source
+    → HasTaken readings base (map source_found (take i sources)) last p q → PutsNext readings base (source_found source) last q (Ok next) r → HasTaken readings base (map source_found (take (i + 1) sources)) (Some next) p r
+puts_next readings base sources i source last next p q r below is (things, done, are, cut, passes) (thing, one, waits, more) =
     let ready : List Thing = listed (taken_in last thing).ready in
     let all : ServesAll p (flat_map thing_events done ++ flat_map thing_events ready) r = passes_more p q r (flat_map thing_events done) (flat_map thing_events ready) passes more in
-    subst (λ (x : List Found). HasTaken held base x (Some next) p r) (sym (found_more sources i source below is)) (
+    subst (λ (x : List Found). HasTaken readings base x (Some next) p r) (sym (found_more sources i source below is)) (
       things ++ thing ∷ [],
       done ++ ready,
-      things_more held base (map source_found (take i sources)) things (source_found source) thing are one,
+      things_more readings base (map source_found (take i sources)) things (source_found source) thing are one,
       subst (λ (x : Thing). IsCut (things ++ thing ∷ []) (done ++ ready) (Some x)) (sym waits) (cut_next things done last thing cut),
       subst (λ (x : List Event). ServesAll p x r) (sym (events_more done ready)) all,
     )
 
-pub puts_broken : (held : Held) (base : Path) (sources : List Source) (i : ℕ) (source : Source) (last : Option Thing) (p q r : Place) (failure : Failure) → i < length sources → source ≡ get_or sources i source
-    → HasTaken held base (map source_found (take i sources)) last p q → PutsNext held base (source_found source) last q (Err failure) r → PutsEach held base (map source_found sources) p (Err failure) r
-puts_broken held base sources i source last p q r failure below is h (inl unput) = inr (inl (source_found source, among sources i source below is, unput))
-puts_broken held base sources i source last p q r failure below is (things, done, are, cut, passes) (inr (thing, one, (made, rest, refusal, at, begins, halts, why))) =
+pub puts_broken : (readings : Readings) (base : Path) (sources : List Source) (i : ℕ) (source : Source) (last : Option Thing) (p q r : Place) (failure : Failure) → i < length sources → source ≡ get_or sources i source
+    → HasTaken readings base (map source_found (take i sources)) last p q → PutsNext readings base (source_found source) last q (Err failure) r → PutsEach readings base (map source_found sources) p (Err failure) r
+puts_broken readings base sources i source last p q r failure below is h (inl unput) = inr (inl (source_found source, among sources i source below is, unput))
+puts_broken readings base sources i source last p q r failure below is (things, done, are, cut, passes) (inr (thing, one, (made, rest, refusal, at, begins, halts, why))) =
     let earlier : List Event = flat_map thing_events done in
     inr (inr (
       map source_found (take i sources) ++ source_found source ∷ [],
       map source_found (drop (i + 1) sources),
       things ++ thing ∷ [],
       parted sources i source below is,
-      things_more held base (map source_found (take i sources)) things (source_found source) thing are one,
+      things_more readings base (map source_found (take i sources)) things (source_found source) thing are one,
       (earlier ++ made, rest ++ thing_events (taken_in last thing).last, refusal, at, events_until things done last thing made rest cut begins, halts_more p q at earlier made refusal passes halts, why),
     ))
 
 -- all were taken in, and what waits is put, or not
-all_taken : (held : Held) (base : Path) (all : List Found) (last : Option Thing) (p q r : Place) (result : Result (Unit {0}) Failure) → HasTaken held base all last p q → PutsReady last q result r → PutsEach held base all p result r
-all_taken held base all last p q r (Ok done) (things, put, are, cut, passes) more =
+all_taken : (readings : Readings) (base : Path) (all : List Found) (last : Option Thing) (p q r : Place) (result : Result (Unit {0}) Failure) → HasTaken readings base all last p q → PutsReady last q result r → PutsEach readings base all p result r
+all_taken readings base all last p q r (Ok done) (things, put, are, cut, passes) more =
     (things, are, subst (λ (x : List Event). ServesAll p x r) (sym (cut_events things put last cut)) (passes_more p q r (flat_map thing_events put) (flat_map thing_events (listed last)) passes more))
-all_taken held base all last p q r (Err failure) h (inl memory) = inl memory
-all_taken held base all last p q r (Err failure) (things, put, are, cut, passes) (inr (made, rest, refusal, at, begins, halts, why)) =
+all_taken readings base all last p q r (Err failure) h (inl memory) = inl memory
+all_taken readings base all last p q r (Err failure) (things, put, are, cut, passes) (inr (made, rest, refusal, at, begins, halts, why)) =
     let earlier : List Event = flat_map thing_events put in
     inr (inr (
       all,
@@ -167,9 +167,9 @@ all_taken held base all last p q r (Err failure) (things, put, are, cut, passes)
       ),
     ))
 
-pub puts_all : (held : Held) (base : Path) (sources : List Source) (i : ℕ) (last : Option Thing) (p q r : Place) (result : Result (Unit {0}) Failure) → length sources ≤ i
-    → HasTaken held base (map source_found (take i sources)) last p q → PutsReady last q result r → PutsEach held base (map source_found sources) p result r
-puts_all held base sources i last p q r result over h ready = subst (λ (x : List Source). PutsEach held base (map source_found x) p result r) (take_all i sources over) (all_taken held base (map source_found (take i sources)) last p q r result h ready)
+pub puts_all : (readings : Readings) (base : Path) (sources : List Source) (i : ℕ) (last : Option Thing) (p q r : Place) (result : Result (Unit {0}) Failure) → length sources ≤ i
+    → HasTaken readings base (map source_found (take i sources)) last p q → PutsReady last q result r → PutsEach readings base (map source_found sources) p result r
+puts_all readings base sources i last p q r result over h ready = subst (λ (x : List Source). PutsEach readings base (map source_found x) p result r) (take_all i sources over) (all_taken readings base (map source_found (take i sources)) last p q r result h ready)
 
 -- ---- the change group
 
@@ -184,18 +184,18 @@ pub served_without : (p q : Place) (events : List Event) (refusal : Refusal) →
 served_without p q events refusal (made, rest, is, halts) = (made, rest ++ events, ap (λ (x : List Event). x ++ events) is ∙ append_assoc made rest events, halts)
 
 -- it does not begin, or what is removed first is refused
-pub unbegun : (removed : List Event) (held : Held) (base : Path) (all : List Found) (p q : Place) (refusal : Refusal) (failure : Failure) → ServesPut p (group_start ++ removed) (Err refusal) q
-    → failure ≡ of_refusal refusal → PutsGroup removed held base all p (Err failure) q
-unbegun removed held base all p q refusal failure (made, rest, begins, halts) why =
+pub unbegun : (removed : List Event) (readings : Readings) (base : Path) (all : List Found) (p q : Place) (refusal : Refusal) (failure : Failure) → ServesPut p (group_start ++ removed) (Err refusal) q
+    → failure ≡ of_refusal refusal → PutsGroup removed readings base all p (Err failure) q
+unbegun removed readings base all p q refusal failure (made, rest, begins, halts) why =
     inr (inr ([], all, [], refl, tt, (made, rest, refusal, q, ap (λ (x : List Event). group_start ++ x) (append-nil removed) ∙ begins, halts, why)))
 
 -- it begins, and sources are put in it
-pub grouped : (removed : List Event) (held : Held) (base : Path) (all : List Found) (p q r : Place) (result : Result (Unit {0}) Failure) → ServesAll p (group_start ++ removed) q
-    → PutsEach held base all q result r → PutsGroup removed held base all p result r
-grouped removed held base all p q r (Ok done) begun (things, are, passes) = (things, are, passes_more p q r (group_start ++ removed) (lot_events things) begun passes)
-grouped removed held base all p q r (Err failure) begun (inl memory) = inl memory
-grouped removed held base all p q r (Err failure) begun (inr (inl cause)) = inr (inl cause)
-grouped removed held base all p q r (Err failure) begun (inr (inr (first, later, things, parts, are, (made, rest, refusal, at, begins, halts, why)))) =
+pub grouped : (removed : List Event) (readings : Readings) (base : Path) (all : List Found) (p q r : Place) (result : Result (Unit {0}) Failure) → ServesAll p (group_start ++ removed) q
+    → PutsEach readings base all q result r → PutsGroup removed readings base all p result r
+grouped removed readings base all p q r (Ok done) begun (things, are, passes) = (things, are, passes_more p q r (group_start ++ removed) (lot_events things) begun passes)
+grouped removed readings base all p q r (Err failure) begun (inl memory) = inl memory
+grouped removed readings base all p q r (Err failure) begun (inr (inl cause)) = inr (inl cause)
+grouped removed readings base all p q r (Err failure) begun (inr (inr (first, later, things, parts, are, (made, rest, refusal, at, begins, halts, why)))) =
     let is : group_events removed things ≡ ((group_start ++ removed) ++ made) ++ rest = ap (λ (x : List Event). (group_start ++ removed) ++ x) begins ∙ sym (append_assoc (group_start ++ removed) made rest) in
     inr (inr (first, later, things, parts, are, ((group_start ++ removed) ++ made, rest, refusal, at, is, halts_more p q at (group_start ++ removed) made refusal begun halts, why)))
 
@@ -297,23 +297,23 @@ unended_session start mid m inside q events refusal reads begins system passes (
 -- ---- one source
 
 -- what is not a folder and may be put is a file
-pub file_thing : (held : Held) (base : Path) (found : Found) (bytes : List ℕ) → source_fault base found ≡ None → (found.kind ≡ SourceKind.Folder → ⊥) → AreBytesRead (held found.name) bytes
-    → IsThing held base found (Thing.File (put_place base found) bytes)
-file_thing held base found bytes lawful other front = (lawful, by_kind found.kind lawful other)
+pub file_thing : (readings : Readings) (base : Path) (found : Found) (bytes : List ℕ) → source_fault base found ≡ None → (found.kind ≡ SourceKind.Folder → ⊥) → AreBytesRead (readings.held found.name) bytes
+    → readings.gives found.name bytes → IsThing readings base found (Thing.File (put_place base found) bytes)
+file_thing readings base found bytes lawful other front given = (lawful, by_kind found.kind lawful other)
   where
     by_kind : (kind : SourceKind) → either_fault (kind_fault kind) (way_fault (path_refusal found.way) (length (put_place base found))) ≡ None → (kind ≡ SourceKind.Folder → ⊥)
-        → IsThingBy held kind (put_place base found) found.name (Thing.File (put_place base found) bytes)
+        → IsThingBy readings kind (put_place base found) found.name (Thing.File (put_place base found) bytes)
     by_kind SourceKind.Folder h other = absurd (other refl)
-    by_kind (SourceKind.File n) h other = (bytes, refl, front)
+    by_kind (SourceKind.File n) h other = (bytes, refl, front, given)
     by_kind SourceKind.Crowded h other = absurd cc
     by_kind SourceKind.Link h other = absurd cc
     by_kind SourceKind.Special h other = absurd cc
     by_kind SourceKind.Image h other = absurd cc
     by_kind SourceKind.Unreadable h other = absurd cc
 
-pub folder_thing : (held : Held) (base : Path) (found : Found) → source_fault base found ≡ None → found.kind ≡ SourceKind.Folder → IsThing held base found (Thing.Directory (put_place base found))
-folder_thing held base found lawful is =
-    (lawful, subst (λ (kind : SourceKind). IsThingBy held kind (put_place base found) found.name (Thing.Directory (put_place base found))) (sym is) refl)
+pub folder_thing : (readings : Readings) (base : Path) (found : Found) → source_fault base found ≡ None → found.kind ≡ SourceKind.Folder → IsThing readings base found (Thing.Directory (put_place base found))
+folder_thing readings base found lawful is =
+    (lawful, subst (λ (kind : SourceKind). IsThingBy readings kind (put_place base found) found.name (Thing.Directory (put_place base found))) (sym is) refl)
 
 pub unput_unplaced : (held : Held) (base : Path) (found : Found) (failure : Failure) → Unplaced base found failure → IsUnput held base found failure
 unput_unplaced held base found Failure.Memory h = tt
@@ -330,56 +330,56 @@ ready_stopped thing events lent p q r refusal failure same are (made, rest, begi
     inr (made, rest, refusal, q, append-nil (thing_events thing) ∙ sym (same ∙ are) ∙ begins, halts, why)
 
 -- and with it the source that was taken in
-pub next_put : (held : Held) (base : Path) (found : Found) (last : Option Thing) (thing next : Thing) (ready : Option Thing) (p q : Place) → IsThing held base found thing → record { ready = ready; last = next } ≡ taken_in last thing
-    → PutsReady ready p (Ok tt) q → PutsNext held base found last p (Ok next) q
-next_put held base found last thing next ready p q is taken h =
+pub next_put : (readings : Readings) (base : Path) (found : Found) (last : Option Thing) (thing next : Thing) (ready : Option Thing) (p q : Place) → IsThing readings base found thing → record { ready = ready; last = next } ≡ taken_in last thing
+    → PutsReady ready p (Ok tt) q → PutsNext readings base found last p (Ok next) q
+next_put readings base found last thing next ready p q is taken h =
     (thing, is, ap (λ (x : Taken). x.last) taken, subst (λ (x : Taken). ServesAll p (flat_map thing_events (listed x.ready)) q) taken h)
 
-pub next_stopped : (held : Held) (base : Path) (found : Found) (last : Option Thing) (thing next : Thing) (ready : Option Thing) (p q : Place) (failure : Failure) → IsThing held base found thing
-    → record { ready = ready; last = next } ≡ taken_in last thing → PutsReady ready p (Err failure) q → PutsNext held base found last p (Err failure) q
-next_stopped held base found last thing next ready p q failure is taken (inl memory) = inl (subst (IsUnput held base found) (sym memory) tt)
-next_stopped held base found last thing next ready p q failure is taken (inr (made, rest, refusal, at, begins, halts, why)) =
+pub next_stopped : (readings : Readings) (base : Path) (found : Found) (last : Option Thing) (thing next : Thing) (ready : Option Thing) (p q : Place) (failure : Failure) → IsThing readings base found thing
+    → record { ready = ready; last = next } ≡ taken_in last thing → PutsReady ready p (Err failure) q → PutsNext readings base found last p (Err failure) q
+next_stopped readings base found last thing next ready p q failure is taken (inl memory) = inl (subst (IsUnput readings.held base found) (sym memory) tt)
+next_stopped readings base found last thing next ready p q failure is taken (inr (made, rest, refusal, at, begins, halts, why)) =
     inr (thing, is, (made, rest, refusal, at, subst (λ (x : Taken). flat_map thing_events (listed x.ready) ≡ made ++ rest) taken begins, halts, why))
 
 -- ---- on what is mounted
 
-pub all_put : (IsThere : SimFlash → Type 0) (removed : List Event) (held : Held) (base : Path) (all : List Found) (start mid : SimFlash) (m : System) (end : Mounted) → IsThere start
+pub all_put : (IsThere : SimFlash → Type 0) (removed : List Event) (readings : Readings) (base : Path) (all : List Found) (start mid : SimFlash) (m : System) (end : Mounted) → IsThere start
     → OnlyReads (device_of start) (device_of mid) → IsMountOf (device_of start) (device_of mid) m → IsSystem (device_of mid) m
-    → PutsAll removed held base all (record { device = device_of mid; system = Some m }) (Ok tt) (place end) → PutsBy IsThere removed held base all start end.flash
-all_put IsThere removed held base all start mid m end there reads begins system (inside, (things, are, passes), ended) =
+    → PutsAll removed readings base all (record { device = device_of mid; system = Some m }) (Ok tt) (place end) → PutsBy IsThere removed readings base all start end.flash
+all_put IsThere removed readings base all start mid m end there reads begins system (inside, (things, are, passes), ended) =
     (things, there, are, put_session start mid m inside end (put_events removed things) reads begins system passes ended)
 
-pub not_put : (IsThere : SimFlash → Type 0) (Cause : Failure → Type 0) (removed : List Event) (held : Held) (base : Path) (all : List Found) (start mid : SimFlash) (m : System) (q : Place) (failure : Failure) → IsThere start
+pub not_put : (IsThere : SimFlash → Type 0) (Cause : Failure → Type 0) (removed : List Event) (readings : Readings) (base : Path) (all : List Found) (start mid : SimFlash) (m : System) (q : Place) (failure : Failure) → IsThere start
     → OnlyReads (device_of start) (device_of mid) → IsMountOf (device_of start) (device_of mid) m → IsSystem (device_of mid) m
-    → PutsAll removed held base all (record { device = device_of mid; system = Some m }) (Err failure) q → PutCause IsThere Cause removed held base all failure
-not_put IsThere Cause removed held base all start mid m q failure there reads begins system (inl (inl memory)) = inr (inl memory)
-not_put IsThere Cause removed held base all start mid m q failure there reads begins system (inl (inr (inl cause))) = inr (inr (inl cause))
-not_put IsThere Cause removed held base all start mid m q failure there reads begins system (inl (inr (inr (first, later, things, parts, are, (made, rest, refusal, at, is, halts, why))))) =
+    → PutsAll removed readings base all (record { device = device_of mid; system = Some m }) (Err failure) q → PutCause IsThere Cause removed readings base all failure
+not_put IsThere Cause removed readings base all start mid m q failure there reads begins system (inl (inl memory)) = inr (inl memory)
+not_put IsThere Cause removed readings base all start mid m q failure there reads begins system (inl (inr (inl cause))) = inr (inr (inl cause))
+not_put IsThere Cause removed readings base all start mid m q failure there reads begins system (inl (inr (inr (first, later, things, parts, are, (made, rest, refusal, at, is, halts, why))))) =
     inr (inr (inr (inr (start, first, later, things, refusal, there, parts, are, inl (stopped_session start mid m at (put_events removed things) made rest refusal reads begins system is halts), why))))
-not_put IsThere Cause removed held base all start mid m q failure there reads begins system (inr (inside, refusal, (things, are, passes), ended, why)) =
+not_put IsThere Cause removed readings base all start mid m q failure there reads begins system (inr (inside, refusal, (things, are, passes), ended, why)) =
     inr (inr (inr (inr (start, all, [], things, refusal, there, sym (append-nil all), are, inr (unended_session start mid m inside q (put_events removed things) refusal reads begins system passes ended), why))))
 
 -- what is removed first is known
-pub over_done : (IsThere : SimFlash → Type 0) (held : Held) (base : Path) (kept : Option (List Kept)) (all : List Found) (removed lent : List Event) (result : Result SimFlash Failure) → lent ≡ removed
-    → AreRemoved IsThere base kept removed → IfOk result (λ end. (start : SimFlash) × PutsBy IsThere lent held base all start end) → IfOk result (λ end. (start : SimFlash) × PutsOver IsThere held base kept all start end)
-over_done IsThere held base kept all removed lent (Ok end) same are (start, puts) = (start, (lent, subst (AreRemoved IsThere base kept) (sym same) are, puts))
-over_done IsThere held base kept all removed lent (Err failure) same are puts = tt
+pub over_done : (IsThere : SimFlash → Type 0) (readings : Readings) (base : Path) (kept : Option (List Kept)) (all : List Found) (removed lent : List Event) (result : Result SimFlash Failure) → lent ≡ removed
+    → AreRemoved IsThere base kept removed → IfOk result (λ end. (start : SimFlash) × PutsBy IsThere lent readings base all start end) → IfOk result (λ end. (start : SimFlash) × PutsOver IsThere readings base kept all start end)
+over_done IsThere readings base kept all removed lent (Ok end) same are (start, puts) = (start, (lent, subst (AreRemoved IsThere base kept) (sym same) are, puts))
+over_done IsThere readings base kept all removed lent (Err failure) same are puts = tt
 
-pub over_undone : (IsThere : SimFlash → Type 0) (Cause : Failure → Type 0) (held : Held) (base : Path) (kept : Option (List Kept)) (all : List Found) (removed lent : List Event) (result : Result SimFlash Failure) → lent ≡ removed
-    → AreRemoved IsThere base kept removed → IfErr result (PutCause IsThere Cause lent held base all) → IfErr result (OverCause IsThere Cause held base kept all)
-over_undone IsThere Cause held base kept all removed lent (Ok end) same are cause = tt
-over_undone IsThere Cause held base kept all removed lent (Err failure) same are cause = inr (lent, subst (AreRemoved IsThere base kept) (sym same) are, cause)
+pub over_undone : (IsThere : SimFlash → Type 0) (Cause : Failure → Type 0) (readings : Readings) (base : Path) (kept : Option (List Kept)) (all : List Found) (removed lent : List Event) (result : Result SimFlash Failure) → lent ≡ removed
+    → AreRemoved IsThere base kept removed → IfErr result (PutCause IsThere Cause lent readings base all) → IfErr result (OverCause IsThere Cause readings base kept all)
+over_undone IsThere Cause readings base kept all removed lent (Ok end) same are cause = tt
+over_undone IsThere Cause readings base kept all removed lent (Err failure) same are cause = inr (lent, subst (AreRemoved IsThere base kept) (sym same) are, cause)
 
 -- ---- the image
 
-puts_front : (held : Held) (name bytes : List ℕ) → AreBytesRead (held name) bytes → (removed : List Event) (base : Path) (all : List Found) (start end : SimFlash) → PutsBy (IsDecoded bytes) removed held base all start end
-    → PutsBy (IsSpelledFlash (held name)) removed held base all start end
-puts_front held name bytes front removed = puts_as (IsDecoded bytes) (IsSpelledFlash (held name)) (loaded_front (held name) bytes front) removed held
+puts_front : (held : Held) (readings : Readings) (name bytes : List ℕ) → AreBytesRead (held name) bytes → (removed : List Event) (base : Path) (all : List Found) (start end : SimFlash)
+    → PutsBy (IsDecoded bytes) removed readings base all start end → PutsBy (IsSpelledFlash (held name)) removed readings base all start end
+puts_front held readings name bytes front removed = puts_as (IsDecoded bytes) (IsSpelledFlash (held name)) (loaded_front (held name) bytes front) removed readings
 
-put_cause : (held : Held) (name bytes : List ℕ) → AreBytesRead (held name) bytes → (removed : List Event) (base : Path) (all : List Found) (failure : Failure)
-    → PutCause (IsDecoded bytes) (DecodeCause bytes) removed held base all failure → PutCause (IsSpelledFlash (held name)) (LoadCause (held name)) removed held base all failure
-put_cause held name bytes front removed =
-    cause_as (IsDecoded bytes) (IsSpelledFlash (held name)) (DecodeCause bytes) (LoadCause (held name)) (loaded_front (held name) bytes front) (cause_front (held name) bytes front) removed held
+put_cause : (held : Held) (readings : Readings) (name bytes : List ℕ) → AreBytesRead (held name) bytes → (removed : List Event) (base : Path) (all : List Found) (failure : Failure)
+    → PutCause (IsDecoded bytes) (DecodeCause bytes) removed readings base all failure → PutCause (IsSpelledFlash (held name)) (LoadCause (held name)) removed readings base all failure
+put_cause held readings name bytes front removed =
+    cause_as (IsDecoded bytes) (IsSpelledFlash (held name)) (DecodeCause bytes) (LoadCause (held name)) (loaded_front (held name) bytes front) (cause_front (held name) bytes front) removed readings
 
 removed_front : (held : Held) (name bytes : List ℕ) → AreBytesRead (held name) bytes → (base : Path) (kept : Option (List Kept)) (removed : List Event)
     → AreRemoved (IsDecoded bytes) base kept removed → AreRemoved (IsSpelledFlash (held name)) base kept removed
@@ -393,58 +393,74 @@ unlisted_front held name bytes front (Some kept) failure (inl cause) = inl (caus
 unlisted_front held name bytes front (Some kept) failure (inr (start, end, fault, there, asked, planned, why)) = inr (start, end, fault, loaded_front (held name) bytes front start there, asked, planned, why)
 
 -- sources are put so whatever the files hold that were claimed, since a claim changes none
-once_claimed : (name : List ℕ) (IsClaimed : List ℕ → Type 0) (base : Path) (kept : Option (List Kept)) (all : List Found) (held claimed saved : Held) (result : Result (Unit {0}) Failure) → claimed ≡ held
-    → SourcesEnd name IsClaimed base kept all claimed saved result → SourcesEnd name IsClaimed base kept all held saved result
-once_claimed name IsClaimed base kept all held claimed saved result same ends = subst (λ (h : Held). SourcesEnd name IsClaimed base kept all h saved result) same ends
+once_claimed : (name : List ℕ) (IsClaimed : List ℕ → Type 0) (Reads : List ℕ → List ℕ → Type 0) (base : Path) (kept : Option (List Kept)) (all : List Found) (held claimed saved : Held) (result : Result (Unit {0}) Failure) → claimed ≡ held
+    → SourcesEnd name IsClaimed Reads base kept all claimed saved result → SourcesEnd name IsClaimed Reads base kept all held saved result
+once_claimed name IsClaimed Reads base kept all held claimed saved result same ends = subst (λ (h : Held). SourcesEnd name IsClaimed Reads base kept all h saved result) same ends
 
-sources_unclaimed : (name : List ℕ) (IsClaimed : List ℕ → Type 0) (base : Path) (kept : Option (List Kept)) (all : List Found) (held claimed : Held) (failure : Failure) → claimed ≡ held → IsUnclaimed failure
-    → SourcesEnd name IsClaimed base kept all held claimed (Err failure)
-sources_unclaimed name IsClaimed base kept all held claimed failure same cause = inl (inl cause, same)
+sources_unclaimed : (name : List ℕ) (IsClaimed : List ℕ → Type 0) (Reads : List ℕ → List ℕ → Type 0) (base : Path) (kept : Option (List Kept)) (all : List Found) (held claimed : Held) (failure : Failure) → claimed ≡ held → IsUnclaimed failure
+    → SourcesEnd name IsClaimed Reads base kept all held claimed (Err failure)
+sources_unclaimed name IsClaimed Reads base kept all held claimed failure same cause = inl (inl cause, same)
 
-sources_unread : (name : List ℕ) (IsClaimed : List ℕ → Type 0) (base : Path) (kept : Option (List Kept)) (all : List Found) (held claimed : Held) (failure : Failure) → claimed ≡ held → IsUnread (claimed name) failure
-    → SourcesEnd name IsClaimed base kept all held claimed (Err failure)
-sources_unread name IsClaimed base kept all held claimed failure same unread =
-    once_claimed name IsClaimed base kept all held claimed claimed (Err failure) same (inl (inr (inl (cause_unread (claimed name) failure unread)), refl))
+sources_unread : (name : List ℕ) (IsClaimed : List ℕ → Type 0) (Reads : List ℕ → List ℕ → Type 0) (base : Path) (kept : Option (List Kept)) (all : List Found) (held claimed : Held) (failure : Failure) → claimed ≡ held → IsUnread (claimed name) failure
+    → SourcesEnd name IsClaimed Reads base kept all held claimed (Err failure)
+sources_unread name IsClaimed Reads base kept all held claimed failure same unread =
+    once_claimed name IsClaimed Reads base kept all held claimed claimed (Err failure) same (inl (inr (inl (cause_unread (claimed name) failure unread)), refl))
 
-pub sources_untaken : (name : List ℕ) (IsClaimed : List ℕ → Type 0) (base : Path) (kept : Option (List Kept)) (all : List Found) (held claimed : Held) (failure : Failure) → claimed ≡ held
-    → IsUnclaimed failure ⊎ IsUnread (claimed name) failure → SourcesEnd name IsClaimed base kept all held claimed (Err failure)
-sources_untaken name IsClaimed base kept all held claimed failure same (inl unclaimed) = sources_unclaimed name IsClaimed base kept all held claimed failure same unclaimed
-sources_untaken name IsClaimed base kept all held claimed failure same (inr unread) = sources_unread name IsClaimed base kept all held claimed failure same unread
+pub sources_untaken : (name : List ℕ) (IsClaimed : List ℕ → Type 0) (Reads : List ℕ → List ℕ → Type 0) (base : Path) (kept : Option (List Kept)) (all : List Found) (held claimed : Held) (failure : Failure) → claimed ≡ held
+    → IsUnclaimed failure ⊎ IsUnread (claimed name) failure → SourcesEnd name IsClaimed Reads base kept all held claimed (Err failure)
+sources_untaken name IsClaimed Reads base kept all held claimed failure same (inl unclaimed) = sources_unclaimed name IsClaimed Reads base kept all held claimed failure same unclaimed
+sources_untaken name IsClaimed Reads base kept all held claimed failure same (inr unread) = sources_unread name IsClaimed Reads base kept all held claimed failure same unread
 
-over_front : (held : Held) (name bytes : List ℕ) → AreBytesRead (held name) bytes → (base : Path) (kept : Option (List Kept)) (all : List Found) (start end : SimFlash) → PutsOver (IsDecoded bytes) held base kept all start end
-    → PutsOver (IsSpelledFlash (held name)) held base kept all start end
-over_front held name bytes front base kept all start end (removed, are, puts) =
-    (removed, removed_front held name bytes front base kept removed are, puts_front held name bytes front removed base all start end puts)
+over_front : (held : Held) (readings : Readings) (name bytes : List ℕ) → AreBytesRead (held name) bytes → (base : Path) (kept : Option (List Kept)) (all : List Found) (start end : SimFlash)
+    → PutsOver (IsDecoded bytes) readings base kept all start end → PutsOver (IsSpelledFlash (held name)) readings base kept all start end
+over_front held readings name bytes front base kept all start end (removed, are, puts) =
+    (removed, removed_front held name bytes front base kept removed are, puts_front held readings name bytes front removed base all start end puts)
 
-over_cause : (held : Held) (name bytes : List ℕ) → AreBytesRead (held name) bytes → (base : Path) (kept : Option (List Kept)) (all : List Found) (failure : Failure)
-    → OverCause (IsDecoded bytes) (DecodeCause bytes) held base kept all failure → OverCause (IsSpelledFlash (held name)) (LoadCause (held name)) held base kept all failure
-over_cause held name bytes front base kept all failure (inl cause) = inl (unlisted_front held name bytes front kept failure cause)
-over_cause held name bytes front base kept all failure (inr (removed, are, cause)) =
-    inr (removed, removed_front held name bytes front base kept removed are, put_cause held name bytes front removed base all failure cause)
+over_cause : (held : Held) (readings : Readings) (name bytes : List ℕ) → AreBytesRead (held name) bytes → (base : Path) (kept : Option (List Kept)) (all : List Found) (failure : Failure)
+    → OverCause (IsDecoded bytes) (DecodeCause bytes) readings base kept all failure → OverCause (IsSpelledFlash (held name)) (LoadCause (held name)) readings base kept all failure
+over_cause held readings name bytes front base kept all failure (inl cause) = inl (unlisted_front held name bytes front kept failure cause)
+over_cause held readings name bytes front base kept all failure (inr (removed, are, cause)) =
+    inr (removed, removed_front held name bytes front base kept removed are, put_cause held readings name bytes front removed base all failure cause)
 
-pub sources_unput : (name : List ℕ) (IsClaimed : List ℕ → Type 0) (base : Path) (kept : Option (List Kept)) (all : List Found) (held claimed : Held) (bytes : List ℕ) (failure : Failure) → claimed ≡ held
-    → AreBytesRead (claimed name) bytes → OverCause (IsDecoded bytes) (DecodeCause bytes) claimed base kept all failure → SourcesEnd name IsClaimed base kept all held claimed (Err failure)
-sources_unput name IsClaimed base kept all held claimed bytes failure same front cause =
-    once_claimed name IsClaimed base kept all held claimed claimed (Err failure) same (inl (inr (inr (over_cause claimed name bytes front base kept all failure cause)), refl))
+-- what reads give then is among what they may give
+over_given : (IsThere : SimFlash → Type 0) (held : Held) (Reads More : List ℕ → List ℕ → Type 0) → ((name bytes : List ℕ) → Reads name bytes → More name bytes) → (base : Path) (kept : Option (List Kept)) (all : List Found) (start end : SimFlash)
+    → PutsOver IsThere (readings_of held Reads) base kept all start end → PutsOver IsThere (readings_of held More) base kept all start end
+over_given IsThere held Reads More more base kept all start end (removed, are, puts) = (removed, are, puts_given IsThere held Reads More more removed base all start end puts)
 
-pub sources_saved : (name : List ℕ) (IsClaimed : List ℕ → Type 0) (base : Path) (kept : Option (List Kept)) (all : List Found) (held claimed saved : Held) (bytes lent : List ℕ) (start end : SimFlash)
-    (result : Result (Unit {0}) Failure) → claimed ≡ held → IsClaimed bytes → AreBytesRead (claimed name) bytes → PutsOver (IsDecoded bytes) claimed base kept all start end
+over_cause_given : (IsThere : SimFlash → Type 0) (Cause : Failure → Type 0) (held : Held) (Reads More : List ℕ → List ℕ → Type 0) → ((name bytes : List ℕ) → Reads name bytes → More name bytes) → (base : Path) (kept : Option (List Kept)) (all : List Found)
+    (failure : Failure) → OverCause IsThere Cause (readings_of held Reads) base kept all failure → OverCause IsThere Cause (readings_of held More) base kept all failure
+over_cause_given IsThere Cause held Reads More more base kept all failure (inl cause) = inl cause
+over_cause_given IsThere Cause held Reads More more base kept all failure (inr (removed, are, cause)) =
+    inr (removed, are, cause_given IsThere Cause held Reads More more removed base all failure cause)
+
+pub sources_unput : (name : List ℕ) (IsClaimed : List ℕ → Type 0) (Reads : List ℕ → List ℕ → Type 0) (base : Path) (kept : Option (List Kept)) (all : List Found) (held claimed : Held) (bytes : List ℕ) (failure : Failure)
+    (Now : List ℕ → List ℕ → Type 0) → ((name bytes : List ℕ) → Now name bytes → Reads name bytes) → claimed ≡ held
+    → AreBytesRead (claimed name) bytes → OverCause (IsDecoded bytes) (DecodeCause bytes) (readings_of claimed Now) base kept all failure → SourcesEnd name IsClaimed Reads base kept all held claimed (Err failure)
+sources_unput name IsClaimed Reads base kept all held claimed bytes failure Now given same front cause =
+    let found = over_cause_given (IsDecoded bytes) (DecodeCause bytes) claimed Now Reads given base kept all failure cause in
+    once_claimed name IsClaimed Reads base kept all held claimed claimed (Err failure) same (inl (inr (inr (over_cause claimed (readings_of claimed Reads) name bytes front base kept all failure found)), refl))
+
+pub sources_saved : (name : List ℕ) (IsClaimed : List ℕ → Type 0) (Reads : List ℕ → List ℕ → Type 0) (base : Path) (kept : Option (List Kept)) (all : List Found) (held claimed saved : Held) (bytes lent : List ℕ) (start end : SimFlash)
+    (result : Result (Unit {0}) Failure) (Now : List ℕ → List ℕ → Type 0) → ((name bytes : List ℕ) → Now name bytes → Reads name bytes) → claimed ≡ held → IsClaimed bytes → AreBytesRead (claimed name) bytes
+    → PutsOver (IsDecoded bytes) (readings_of claimed Now) base kept all start end
     → lent ≡ bytes → OnOk result (SavesChange name claimed saved lent (image_of (device_of end)))
-    → IfErr result (ChangeUnsaved name claimed saved lent (image_of (device_of end))) → SourcesEnd name IsClaimed base kept all held saved result
-sources_saved name IsClaimed base kept all held claimed saved bytes lent start end (Ok done) same held_so front puts is ok err =
+    → IfErr result (ChangeUnsaved name claimed saved lent (image_of (device_of end))) → SourcesEnd name IsClaimed Reads base kept all held saved result
+sources_saved name IsClaimed Reads base kept all held claimed saved bytes lent start end (Ok done) Now given same held_so front puts is ok err =
+    let found = over_given (IsDecoded bytes) claimed Now Reads given base kept all start end puts in
     let spelled : bytes ≡ image_of (device_of start) = puts.2.1.spelled in
-    once_claimed name IsClaimed base kept all held claimed saved (Ok done) same (
+    once_claimed name IsClaimed Reads base kept all held claimed saved (Ok done) same (
       start,
       end,
-      (subst IsClaimed spelled held_so, over_front claimed name bytes front base kept all start end puts),
+      (subst IsClaimed spelled held_so, over_front claimed (readings_of claimed Reads) name bytes front base kept all start end found),
       subst (λ (was : List ℕ). SavesChange name claimed saved was (image_of (device_of end))) (is ∙ spelled) ok,
     )
-sources_saved name IsClaimed base kept all held claimed saved bytes lent start end (Err failure) same held_so front puts is ok err =
+sources_saved name IsClaimed Reads base kept all held claimed saved bytes lent start end (Err failure) Now given same held_so front puts is ok err =
+    let found = over_given (IsDecoded bytes) claimed Now Reads given base kept all start end puts in
     let spelled : bytes ≡ image_of (device_of start) = puts.2.1.spelled in
-    once_claimed name IsClaimed base kept all held claimed saved (Err failure) same (inr (
+    once_claimed name IsClaimed Reads base kept all held claimed saved (Err failure) same (inr (
       start,
       end,
-      (subst IsClaimed spelled held_so, over_front claimed name bytes front base kept all start end puts),
+      (subst IsClaimed spelled held_so, over_front claimed (readings_of claimed Reads) name bytes front base kept all start end found),
       subst (λ (was : List ℕ). ChangeUnsaved name claimed saved was (image_of (device_of end)) failure) (is ∙ spelled) err,
     ))
 

@@ -13,7 +13,7 @@ use Rattle.inquiries.specs.declared.items.Item.{Item}
 use Rattle.image_jobs.specs.declared.failure.Failure.{Failure}
 use Rattle.put_removals.specs.Removals.{is_removed, kept_found, removal}
 use Rattle.put_removals.specs.declared.kept.Kept.{Kept}
-use Rattle.host_files.specs.Files.{Held}
+use Rattle.host_files.specs.Files.{Readings}
 use Rattle.inquiry_jobs.specs.Asking.{UntoldBy}
 use Rattle.put_jobs.specs.Puts.{PutsBy, PutCause}
 
@@ -47,10 +47,10 @@ UnlistedBy IsThere Cause None failure = ⊥
 UnlistedBy IsThere Cause (Some kept) failure = UntoldBy IsThere Cause (Inquiry.Tree View.Present) failure
 
 -- sources are put on a flash that is found so, after what is removed of its tree
-abbrev pub PutsOver : (SimFlash → Type 0) → Held → Path → Option (List Kept) → List Found → SimFlash → SimFlash → Type 0
-PutsOver IsThere held base kept all start end = (removed : List Event) × AreRemoved IsThere base kept removed × PutsBy IsThere removed held base all start end
+abbrev pub PutsOver : (SimFlash → Type 0) → Readings → Path → Option (List Kept) → List Found → SimFlash → SimFlash → Type 0
+PutsOver IsThere readings base kept all start end = (removed : List Event) × AreRemoved IsThere base kept removed × PutsBy IsThere removed readings base all start end
 
 -- why they are not: it is not known what is removed, or they are not put
-abbrev pub OverCause : (SimFlash → Type 0) → (Failure → Type 0) → Held → Path → Option (List Kept) → List Found → Failure → Type 0
-OverCause IsThere Cause held base kept all failure = UnlistedBy IsThere Cause kept failure
-    ⊎ ((removed : List Event) × AreRemoved IsThere base kept removed × PutCause IsThere Cause removed held base all failure)
+abbrev pub OverCause : (SimFlash → Type 0) → (Failure → Type 0) → Readings → Path → Option (List Kept) → List Found → Failure → Type 0
+OverCause IsThere Cause readings base kept all failure = UnlistedBy IsThere Cause kept failure
+    ⊎ ((removed : List Event) × AreRemoved IsThere base kept removed × PutCause IsThere Cause removed readings base all failure)

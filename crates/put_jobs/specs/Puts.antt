@@ -4,7 +4,7 @@ use Rattle.fs_types.specs.Names.{Path}
 use Rattle.flash_simulation.specs.Simulation.{device_of}
 use Rattle.flash_simulation.specs.declared.sim_flash.SimFlash.{SimFlash}
 use Rattle.image_jobs.specs.Failures.{of_system, of_refusal}
-use Rattle.host_files.specs.Files.{Held, AreBytesRead}
+use Rattle.host_files.specs.Files.{Held, Readings, AreBytesRead}
 use Rattle.script_runs.specs.Scripts.{IsUnmounted}
 use Rattle.host_files.specs.Sources.{Found}
 use Rattle.put_jobs.specs.Places.{put_place, source_fault, IsMisplaced}
@@ -106,18 +106,18 @@ StopLast (event ∷ next ∷ events) (answer ∷ answers) refusal = (stop_of eve
 StopLast _ _ refusal = ⊥
 
 -- a thing is what stands at a name of the host, at its place below a path: a file has the bytes that are read of it
-abbrev pub IsThingBy : Held → SourceKind → Path → List ℕ → Thing → Type 0
-IsThingBy held SourceKind.Folder path name thing = thing ≡ Thing.Directory path
-IsThingBy held (SourceKind.File length) path name thing = (bytes : List ℕ) × (thing ≡ Thing.File path bytes) × AreBytesRead (held name) bytes
-IsThingBy held _ path name thing = ⊥
+abbrev pub IsThingBy : Readings → SourceKind → Path → List ℕ → Thing → Type 0
+IsThingBy readings SourceKind.Folder path name thing = thing ≡ Thing.Directory path
+IsThingBy readings (SourceKind.File length) path name thing = (bytes : List ℕ) × (thing ≡ Thing.File path bytes) × AreBytesRead (readings.held name) bytes × readings.gives name bytes
+IsThingBy readings _ path name thing = ⊥
 
-abbrev pub IsThing : Held → Path → Found → Thing → Type 0
-IsThing held base found thing = (source_fault base found ≡ None) × IsThingBy held found.kind (put_place base found) found.name thing
+abbrev pub IsThing : Readings → Path → Found → Thing → Type 0
+IsThing readings base found thing = (source_fault base found ≡ None) × IsThingBy readings found.kind (put_place base found) found.name thing
 
-abbrev pub AreThings : Held → Path → List Found → List Thing → Type 0
-AreThings held base [] [] = Unit {0}
-AreThings held base (found ∷ all) (thing ∷ things) = IsThing held base found thing × AreThings held base all things
-AreThings held base _ _ = ⊥
+abbrev pub AreThings : Readings → Path → List Found → List Thing → Type 0
+AreThings readings base [] [] = Unit {0}
+AreThings readings base (found ∷ all) (thing ∷ things) = IsThing readings base found thing × AreThings readings base all things
+AreThings readings base _ _ = ⊥
 
 -- what is mounted on a flash carries out the events of a group, and no answer ends the put; in this world a version is due or not
 pub record IsGrouped (start : SimFlash) (events : List Event) (w : World) : Type 0 where
@@ -171,13 +171,13 @@ abbrev pub IsNever : Failure → Type 0
 IsNever failure = ⊥
 
 -- all sources are put below a path, after what is removed first, on a flash that is found so, which gives the flash as it is left
-abbrev pub PutsBy : (SimFlash → Type 0) → List Event → Held → Path → List Found → SimFlash → SimFlash → Type 0
-PutsBy IsThere removed held base all start end = (things : List Thing) × IsThere start × AreThings held base all things × Carries start (put_events removed things) end
+abbrev pub PutsBy : (SimFlash → Type 0) → List Event → Readings → Path → List Found → SimFlash → SimFlash → Type 0
+PutsBy IsThere removed readings base all start end = (things : List Thing) × IsThere start × AreThings readings base all things × Carries start (put_events removed things) end
 
 -- the first of them are put, and then an event is refused
-abbrev pub StopsBy : (SimFlash → Type 0) → List Event → Held → Path → List Found → Failure → Type 0
-StopsBy IsThere removed held base all failure = (start : SimFlash) × (first : List Found) × (later : List Found) × (things : List Thing) × (refusal : Refusal)
-    × IsThere start × (all ≡ first ++ later) × AreThings held base first things × Breaks start (put_events removed things) refusal × (failure ≡ of_refusal refusal)
+abbrev pub StopsBy : (SimFlash → Type 0) → List Event → Readings → Path → List Found → Failure → Type 0
+StopsBy IsThere removed readings base all failure = (start : SimFlash) × (first : List Found) × (later : List Found) × (things : List Thing) × (refusal : Refusal)
+    × IsThere start × (all ≡ first ++ later) × AreThings readings base first things × Breaks start (put_events removed things) refusal × (failure ≡ of_refusal refusal)
 
 -- a flash that is found so is not mounted
 abbrev pub UnmountedBy : (SimFlash → Type 0) → Failure → Type 0
@@ -185,9 +185,9 @@ UnmountedBy IsThere failure = (start : SimFlash) × (end : SimFlash) × (fault :
 
 -- why they are not put: there is no flash for its cause, or memory was wanted; one of them is not put; no system is mounted; or an
 -- event is refused
-abbrev pub PutCause : (SimFlash → Type 0) → (Failure → Type 0) → List Event → Held → Path → List Found → Failure → Type 0
-PutCause IsThere Cause removed held base all failure =
-    Cause failure ⊎ ((failure ≡ Failure.Memory) ⊎ (SourceCause held base all failure ⊎ (UnmountedBy IsThere failure ⊎ StopsBy IsThere removed held base all failure)))
+abbrev pub PutCause : (SimFlash → Type 0) → (Failure → Type 0) → List Event → Readings → Path → List Found → Failure → Type 0
+PutCause IsThere Cause removed readings base all failure =
+    Cause failure ⊎ ((failure ≡ Failure.Memory) ⊎ (SourceCause readings.held base all failure ⊎ (UnmountedBy IsThere failure ⊎ StopsBy IsThere removed readings base all failure)))
 
 -- a word of the program spells this path, and all of this stands at a name of the host, where that is known
 pub record IsAsked (gathered : Option (List Found)) (word : List ℕ) (base : Path) (all : List Found) : Type 0 where

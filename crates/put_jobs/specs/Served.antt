@@ -1,7 +1,9 @@
 -- Events of a put that are served one after the other, and how they end.
-use Rattle.std.specs.Prelude.{◌≡◌, ◌⊎◌, Bool, true, false, Option, Some, None, Result, Ok, Err, List, [], ◌∷◌, ◌++◌}
+use Rattle.std.specs.Prelude.{◌≡◌, ◌⊎◌, ℕ, Bool, true, false, Option, Some, None, Result, Ok, Err, List, [], ◌∷◌, ◌++◌}
 use Rattle.std.specs.List.{flat_map}
 use Rattle.fs_types.specs.Names.{Path}
+use Rattle.fs_types.specs.declared.call.Call.{Call}
+use Rattle.fs_types.specs.declared.call.Reply.{Reply}
 use Rattle.fs_types.specs.declared.event.Answer.{Answer}
 use Rattle.fs_types.specs.declared.event.Event.{Event}
 use Rattle.flash_model.specs.Device.{Device}
@@ -9,7 +11,7 @@ use Rattle.flash_simulation.specs.Simulation.{device_of}
 use Rattle.system.specs.declared.systems.System.{System}
 use Rattle.undofs.specs.Sessions.{Serves}
 use Rattle.image_jobs.specs.Failures.{of_refusal}
-use Rattle.host_files.specs.Files.{Held}
+use Rattle.host_files.specs.Files.{Readings}
 use Rattle.put_jobs.specs.Puts.{stop_of, lot_events, group_events, group_end, mark_all, clean_all, is_due, IsThing, AreThings, IsUnput, SourceCause}
 use Rattle.host_files.specs.Sources.{Found}
 use Rattle.image_jobs.specs.declared.failure.Failure.{Failure}
@@ -63,23 +65,23 @@ PutsReady ready p (Ok done) q = ServesAll p (flat_map thing_events (listed ready
 PutsReady ready p (Err failure) q = (failure ≡ Failure.Memory) ⊎ HaltsAmong p (flat_map thing_events (listed ready)) failure
 
 -- how a source is taken in after what waits: what is ready then is put
-abbrev pub PutsNext : Held → Path → Found → Option Thing → Place → Result Thing Failure → Place → Type 0
-PutsNext held base found last p (Ok next) q = (thing : Thing) × IsThing held base found thing × (next ≡ (taken_in last thing).last)
+abbrev pub PutsNext : Readings → Path → Found → Option Thing → Place → Result Thing Failure → Place → Type 0
+PutsNext readings base found last p (Ok next) q = (thing : Thing) × IsThing readings base found thing × (next ≡ (taken_in last thing).last)
     × ServesAll p (flat_map thing_events (listed (taken_in last thing).ready)) q
-PutsNext held base found last p (Err failure) q = IsUnput held base found failure
-    ⊎ ((thing : Thing) × IsThing held base found thing × HaltsAmong p (flat_map thing_events (listed (taken_in last thing).ready)) failure)
+PutsNext readings base found last p (Err failure) q = IsUnput readings.held base found failure
+    ⊎ ((thing : Thing) × IsThing readings base found thing × HaltsAmong p (flat_map thing_events (listed (taken_in last thing).ready)) failure)
 
 -- how sources are put, where these are the events of their things
-abbrev pub PutsThrough : (List Thing → List Event) → Held → Path → List Found → Place → Result (Unit {0}) Failure → Place → Type 0
-PutsThrough events held base all p (Ok done) q = (things : List Thing) × AreThings held base all things × ServesAll p (events things) q
-PutsThrough events held base all p (Err failure) q = (failure ≡ Failure.Memory) ⊎ (SourceCause held base all failure
-    ⊎ ((first : List Found) × (later : List Found) × (things : List Thing) × (all ≡ first ++ later) × AreThings held base first things × HaltsAmong p (events things) failure))
+abbrev pub PutsThrough : (List Thing → List Event) → Readings → Path → List Found → Place → Result (Unit {0}) Failure → Place → Type 0
+PutsThrough events readings base all p (Ok done) q = (things : List Thing) × AreThings readings base all things × ServesAll p (events things) q
+PutsThrough events readings base all p (Err failure) q = (failure ≡ Failure.Memory) ⊎ (SourceCause readings.held base all failure
+    ⊎ ((first : List Found) × (later : List Found) × (things : List Thing) × (all ≡ first ++ later) × AreThings readings base first things × HaltsAmong p (events things) failure))
 
 -- how all sources are put, and how they are in a change group that begins with what is removed first
-abbrev pub PutsEach : Held → Path → List Found → Place → Result (Unit {0}) Failure → Place → Type 0
+abbrev pub PutsEach : Readings → Path → List Found → Place → Result (Unit {0}) Failure → Place → Type 0
 PutsEach = PutsThrough lot_events
 
-abbrev pub PutsGroup : List Event → Held → Path → List Found → Place → Result (Unit {0}) Failure → Place → Type 0
+abbrev pub PutsGroup : List Event → Readings → Path → List Found → Place → Result (Unit {0}) Failure → Place → Type 0
 PutsGroup removed = PutsThrough (group_events removed)
 
 -- the group that is open is ended, and synced where a version is due in it
@@ -105,7 +107,12 @@ EndsGroup p (Ok done) q = (closed : Place) × ClosesGroup p (Ok tt) closed × Is
 EndsGroup p (Err refusal) q = ClosesGroup p (Err refusal) q
 
 -- how all sources are put in one change group, which is ended
-abbrev pub PutsAll : List Event → Held → Path → List Found → Place → Result (Unit {0}) Failure → Place → Type 0
-PutsAll removed held base all p (Ok done) q = (inside : Place) × PutsGroup removed held base all p (Ok tt) inside × EndsGroup inside (Ok tt) q
-PutsAll removed held base all p (Err failure) q = PutsGroup removed held base all p (Err failure) q
-    ⊎ ((inside : Place) × (refusal : Refusal) × PutsGroup removed held base all p (Ok tt) inside × EndsGroup inside (Err refusal) q × (failure ≡ of_refusal refusal))
+abbrev pub PutsAll : List Event → Readings → Path → List Found → Place → Result (Unit {0}) Failure → Place → Type 0
+PutsAll removed readings base all p (Ok done) q = (inside : Place) × PutsGroup removed readings base all p (Ok tt) inside × EndsGroup inside (Ok tt) q
+PutsAll removed readings base all p (Err failure) q = PutsGroup removed readings base all p (Err failure) q
+    ⊎ ((inside : Place) × (refusal : Refusal) × PutsGroup removed readings base all p (Ok tt) inside × EndsGroup inside (Err refusal) q × (failure ≡ of_refusal refusal))
+
+-- so many blocks are free as `df` tells once the change group that is open is given up, if one is
+abbrev pub FreesTold : Place → Place → ℕ → Type 0
+FreesTold p q free = (answer : Answer) × (between : Place) × (blocks : ℕ) × (bad : ℕ) × (anchors : ℕ) × Turns p (Event.Call Call.Abandon) answer between
+    × Turns between (Event.Call Call.Df) (Answer.Done (Reply.Df blocks bad free anchors)) q

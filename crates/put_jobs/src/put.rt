@@ -3,7 +3,7 @@ ghost use Rattle.std.specs.Prelude.{◌≡◌, ◌⊎◌, ◌++◌, false, List,
 ghost use Rattle.flash_simulation.specs.Simulation.{device_of};
 ghost use Rattle.flash_simulation.specs.declared.sim_flash.SimFlash.{SimFlash};
 ghost use Rattle.system.specs.Systems.{IsSystem};
-ghost use Rattle.host_files.specs.Files.{KeepsOthers, ReadsClaimed, takes_away};
+ghost use Rattle.host_files.specs.Files.{KeepsOthers, KeepsOrSyncs, ReadsClaimed, ReadsBeside, readings_of, takes_away};
 ghost use Rattle.put_jobs.specs.Puts.{Is, IsNever, stop_of, stop_of_reply, refused_by, is_mkdir, makes_directory, is_due, group_start, PutsBy, PutCause, PlaceCause, FoundCause};
 ghost use Rattle.inquiry_jobs.specs.PathWords.{path_spelled, SpellingCause};
 ghost use Rattle.put_jobs.specs.Served.{place, ServesPut, PutsReady, PutsNext, PutsEach, PutsGroup, ClosesGroup, EndsGroup, PutsAll};
@@ -18,7 +18,7 @@ ghost use Rattle.put_jobs.specs.Putting.{SourcesEnd, PutEnds};
 use crate::batch::{Batch, batch_of};
 use crate::mirror::removed_from;
 use crate::place::place_of;
-use crate::refused::tell_stopped;
+use crate::refused::{tell_room, tell_stopped, tell_unremoved};
 use crate::thing::thing_of;
 use crate::trim::trim_made;
 use flash_simulation::SimFlash;
@@ -67,7 +67,8 @@ pub fn put_into_image<F: ImageFiles + Sources, E: Write>(
     order: Order<'_>,
     err: &mut E,
 ) -> Result<(), Failure>
-    ensures ends { PutEnds order.entry.mirror order.entry.skip_links name.now order.entry.path.now (ReadsClaimed F.claims F.reads name.now) (F.held files.old) (F.held files.new) (F.gathered files.old order.entry.file.now name.now) result }
+    ensures ends { PutEnds order.entry.mirror order.entry.skip_links name.now order.entry.path.now (ReadsClaimed F.claims F.reads name.now) (ReadsBeside F.claims F.reads_source name.now) (F.held files.old) (F.held files.new) (F.gathered files.old order.entry.file.now name.now) result }
+    ensures synced { OnOk result (KeepsOrSyncs (F.held files.old) (F.held files.new) (F.synced files.new name.now)) }
     ensures others { KeepsOthers name.now (F.held files.old) (F.held files.new) }
 {
     let base = match told_path(alloc, order.path, err) {
@@ -180,7 +181,8 @@ fn put_sources<F: ImageFiles, E: Write>(
     progress: bool,
     err: &mut E,
 ) -> Result<(), Failure>
-    ensures ends { SourcesEnd name.now (ReadsClaimed F.claims F.reads name.now) batch.now.base (kept_in batch.now) (map source_found batch.now.sources.items) (F.held files.old) (F.held files.new) result }
+    ensures ends { SourcesEnd name.now (ReadsClaimed F.claims F.reads name.now) (ReadsBeside F.claims F.reads_source name.now) batch.now.base (kept_in batch.now) (map source_found batch.now.sources.items) (F.held files.old) (F.held files.new) result }
+    ensures synced { OnOk result (KeepsOrSyncs (F.held files.old) (F.held files.new) (F.synced files.new name.now)) }
     ensures others { KeepsOthers name.now (F.held files.old) (F.held files.new) }
 {
     let bytes = match take_image(files, alloc, name) {
@@ -203,8 +205,8 @@ fn put_on_image<F: ImageFiles, E: Write>(
     progress: bool,
     err: &mut E,
 ) -> Result<SimFlash, Failure>
-    ensures ok { IfOk result (λ end. (start : SimFlash) × PutsOver (IsDecoded image.now) (F.held files.now) batch.now.base (kept_in batch.now) (map source_found batch.now.sources.items) start end) }
-    ensures err { IfErr result (OverCause (IsDecoded image.now) (DecodeCause image.now) (F.held files.now) batch.now.base (kept_in batch.now) (map source_found batch.now.sources.items)) }
+    ensures ok { IfOk result (λ end. (start : SimFlash) × PutsOver (IsDecoded image.now) (readings_of (F.held files.now) (F.reads_source files.now)) batch.now.base (kept_in batch.now) (map source_found batch.now.sources.items) start end) }
+    ensures err { IfErr result (OverCause (IsDecoded image.now) (DecodeCause image.now) (readings_of (F.held files.now) (F.reads_source files.now)) batch.now.base (kept_in batch.now) (map source_found batch.now.sources.items)) }
 {
     let removed = match removed_from(alloc, image, batch) {
         Ok(removed) => removed,
@@ -223,8 +225,8 @@ fn put_on<F: ImageFiles, E: Write>(
     progress: bool,
     err: &mut E,
 ) -> Result<SimFlash, Failure>
-    ensures ok { IfOk result (λ end. (start : SimFlash) × PutsBy (IsDecoded bytes.now) removed.now (F.held files.now) batch.now.base (map source_found batch.now.sources.items) start end) }
-    ensures err { IfErr result (PutCause (IsDecoded bytes.now) (DecodeCause bytes.now) removed.now (F.held files.now) batch.now.base (map source_found batch.now.sources.items)) }
+    ensures ok { IfOk result (λ end. (start : SimFlash) × PutsBy (IsDecoded bytes.now) removed.now (readings_of (F.held files.now) (F.reads_source files.now)) batch.now.base (map source_found batch.now.sources.items) start end) }
+    ensures err { IfErr result (PutCause (IsDecoded bytes.now) (DecodeCause bytes.now) removed.now (readings_of (F.held files.now) (F.reads_source files.now)) batch.now.base (map source_found batch.now.sources.items)) }
 {
     match flash_of(alloc, bytes) {
         Ok(flash) => put_on_flash(files, alloc, flash, removed, batch, progress, err),
@@ -242,8 +244,8 @@ pub fn put_on_flash<F: ImageFiles, E: Write>(
     progress: bool,
     err: &mut E,
 ) -> Result<SimFlash, Failure>
-    ensures ok { IfOk result (λ end. PutsBy (Is flash) removed.now (F.held files.now) batch.now.base (map source_found batch.now.sources.items) flash end) }
-    ensures err { IfErr result (PutCause (Is flash) IsNever removed.now (F.held files.now) batch.now.base (map source_found batch.now.sources.items)) }
+    ensures ok { IfOk result (λ end. PutsBy (Is flash) removed.now (readings_of (F.held files.now) (F.reads_source files.now)) batch.now.base (map source_found batch.now.sources.items) flash end) }
+    ensures err { IfErr result (PutCause (Is flash) IsNever removed.now (readings_of (F.held files.now) (F.reads_source files.now)) batch.now.base (map source_found batch.now.sources.items)) }
 {
     let mut flash = flash;
     let system = match mount_as_planned(alloc, &mut flash) {
@@ -268,11 +270,14 @@ fn put_all<F: ImageFiles, E: Write>(
     err: &mut E,
 ) -> Result<(), Failure>
     requires { IfSome mounted.old.system (IsSystem (device_of mounted.old.flash)) }
-    ensures { PutsAll removed.now (F.held files.now) batch.now.base (map source_found batch.now.sources.items) (place mounted.old) result (place mounted.new) }
+    ensures { PutsAll removed.now (readings_of (F.held files.now) (F.reads_source files.now)) batch.now.base (map source_found batch.now.sources.items) (place mounted.old) result (place mounted.new) }
 {
     match put_group(files, alloc, removed, batch, mounted, progress, err) {
         Ok(()) => {}
-        Err(failure) => return Err(failure),
+        Err(failure) => {
+            tell_room(alloc, failure, &batch.base, &batch.sources, mounted, err);
+            return Err(failure);
+        }
     }
     match end_group(alloc, mounted) {
         Ok(()) => Ok(()),
@@ -295,7 +300,7 @@ fn put_group<F: ImageFiles, E: Write>(
 ) -> Result<(), Failure>
     requires { IfSome mounted.old.system (IsSystem (device_of mounted.old.flash)) }
     ensures mounted { IfSome mounted.new.system (IsSystem (device_of mounted.new.flash)) }
-    ensures ends { PutsGroup removed.now (F.held files.now) batch.now.base (map source_found batch.now.sources.items) (place mounted.old) result (place mounted.new) }
+    ensures ends { PutsGroup removed.now (readings_of (F.held files.now) (F.reads_source files.now)) batch.now.base (map source_found batch.now.sources.items) (place mounted.old) result (place mounted.new) }
 {
     match begin_group(alloc, removed, mounted) {
         Ok(()) => put_each(
@@ -308,7 +313,7 @@ fn put_group<F: ImageFiles, E: Write>(
             err,
         ),
         Err(refusal) => {
-            tell_refusal(refusal, "", err);
+            tell_unremoved(alloc, refusal, removed, mounted, err);
             Err(Failure::of_refusal(refusal))
         }
     }
@@ -383,7 +388,7 @@ fn put_each<F: ImageFiles, E: Write>(
 ) -> Result<(), Failure>
     requires { IfSome mounted.old.system (IsSystem (device_of mounted.old.flash)) }
     ensures mounted { IfSome mounted.new.system (IsSystem (device_of mounted.new.flash)) }
-    ensures ends { PutsEach (F.held files.now) base.now (map source_found sources.now) (place mounted.old) result (place mounted.new) }
+    ensures ends { PutsEach (readings_of (F.held files.now) (F.reads_source files.now)) base.now (map source_found sources.now) (place mounted.old) result (place mounted.new) }
 {
     let mut last = None;
     for (at, source) in sources.iter().enumerate() {
@@ -418,7 +423,7 @@ fn put_next<F: ImageFiles, E: Write>(
 ) -> Result<Thing, Failure>
     requires { IfSome mounted.old.system (IsSystem (device_of mounted.old.flash)) }
     ensures mounted { IfSome mounted.new.system (IsSystem (device_of mounted.new.flash)) }
-    ensures ends { PutsNext (F.held files.now) base.now (source_found source.now) last (place mounted.old) result (place mounted.new) }
+    ensures ends { PutsNext (readings_of (F.held files.now) (F.reads_source files.now)) base.now (source_found source.now) last (place mounted.old) result (place mounted.new) }
 {
     let thing = match thing_of(files, alloc, base, source) {
         Ok(thing) => thing,

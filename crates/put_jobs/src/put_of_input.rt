@@ -1,9 +1,9 @@
 //! The input is put into an image, as a file.
-ghost use Rattle.std.specs.Prelude.{◌≤◌, ℕ, Option, List, vec_len, IfOk, IfErr, IfSome};
+ghost use Rattle.std.specs.Prelude.{◌≤◌, ℕ, Option, List, vec_len, IfOk, IfErr, IfSome, OnOk};
 ghost use Rattle.flash_simulation.specs.Simulation.{device_of};
 ghost use Rattle.flash_simulation.specs.declared.sim_flash.SimFlash.{SimFlash};
 ghost use Rattle.system.specs.Systems.{IsSystem};
-ghost use Rattle.host_files.specs.Files.{KeepsOthers, ReadsClaimed};
+ghost use Rattle.host_files.specs.Files.{KeepsOthers, KeepsOrSyncs, ReadsClaimed};
 ghost use Rattle.image_jobs.specs.Images.{DecodeCause, host_at};
 ghost use Rattle.script_runs.specs.Flashes.{IsDecoded};
 ghost use Rattle.put_jobs.specs.Groups.{CarriesGroup, WritesBy, WriteCause, EventsEnd};
@@ -38,6 +38,7 @@ pub fn put_input<F: ImageFiles, R: Read, E: Write>(
     err: &mut E,
 ) -> Result<(), Failure>
     ensures ends { (out : Option (List ℕ)) → InputEnds name.now word.now (ReadsClaimed F.claims F.reads name.now) (host_at (F.held files.old) (R.remaining reader.old) out) result (host_at (F.held files.new) (R.remaining reader.new) out) }
+    ensures synced { OnOk result (KeepsOrSyncs (F.held files.old) (F.held files.new) (F.synced files.new name.now)) }
     ensures others { KeepsOthers name.now (F.held files.old) (F.held files.new) }
 {
     let base = match told_path(alloc, word, err) {
@@ -86,6 +87,7 @@ fn put_bytes<F: ImageFiles, E: Write>(
     err: &mut E,
 ) -> Result<(), Failure>
     ensures ends { EventsEnd name.now (ReadsClaimed F.claims F.reads name.now) (written path bytes) (F.held files.old) (F.held files.new) result }
+    ensures synced { OnOk result (KeepsOrSyncs (F.held files.old) (F.held files.new) (F.synced files.new name.now)) }
     ensures others { KeepsOthers name.now (F.held files.old) (F.held files.new) }
 {
     let image = match take_image(files, alloc, name) {

@@ -1,10 +1,10 @@
 //! Lots of things that are known, put into an image.
-ghost use Rattle.std.specs.Prelude.{◌≡◌, IfOk, IfErr, IfSome};
+ghost use Rattle.std.specs.Prelude.{◌≡◌, IfOk, IfErr, IfSome, OnOk};
 ghost use Rattle.std.specs.List.{flat_map};
 ghost use Rattle.flash_simulation.specs.Simulation.{device_of};
 ghost use Rattle.flash_simulation.specs.declared.sim_flash.SimFlash.{SimFlash};
 ghost use Rattle.system.specs.Systems.{IsSystem};
-ghost use Rattle.host_files.specs.Files.{KeepsOthers, ReadsClaimed};
+ghost use Rattle.host_files.specs.Files.{KeepsOthers, KeepsOrSyncs, ReadsClaimed};
 ghost use Rattle.image_jobs.specs.Failures.{of_refusal};
 ghost use Rattle.image_jobs.specs.Images.{DecodeCause};
 ghost use Rattle.script_runs.specs.Flashes.{IsDecoded};
@@ -32,6 +32,7 @@ pub fn put_lots<F: ImageFiles, E: Write>(
     err: &mut E,
 ) -> Result<(), Failure>
     ensures ends { EventsEnd name.now (ReadsClaimed F.claims F.reads name.now) (flat_map thing_events lots.items) (F.held files.old) (F.held files.new) result }
+    ensures synced { OnOk result (KeepsOrSyncs (F.held files.old) (F.held files.new) (F.synced files.new name.now)) }
     ensures others { KeepsOthers name.now (F.held files.old) (F.held files.new) }
 {
     let image = match take_image(files, alloc, name) {

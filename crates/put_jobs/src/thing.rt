@@ -1,6 +1,7 @@
 //! What is put at a path of an image.
 ghost use Rattle.std.specs.Prelude.{IfOk, IfErr};
 ghost use Rattle.put_jobs.specs.Puts.{IsThing, IsUnput};
+ghost use Rattle.host_files.specs.Files.{readings_of};
 ghost use Rattle.host_files.specs.Sources.{source_found};
 
 use crate::place::place_of;
@@ -17,7 +18,7 @@ pub(crate) fn thing_of<F: ImageFiles>(
     base: &Path,
     source: &Source,
 ) -> Result<Thing, Failure>
-    ensures ok { IfOk result (IsThing (F.held files.now) base.now (source_found source.now)) }
+    ensures ok { IfOk result (IsThing (readings_of (F.held files.now) (F.reads_source files.now)) base.now (source_found source.now)) }
     ensures err { IfErr result (IsUnput (F.held files.now) base.now (source_found source.now)) }
 {
     let path = match place_of(alloc, base, source) {

@@ -11,7 +11,7 @@ use Rattle.flash_simulation.specs.Simulation.{device_of}
 use Rattle.flash_model.specs.declared.geometry.Geometry.{Geometry}
 use Rattle.flash_simulation.specs.declared.sim_flash.SimFlash.{SimFlash}
 use Rattle.mounting.specs.Saved.{saved_trees}
-use Rattle.host_files.specs.Files.{Held}
+use Rattle.host_files.specs.Files.{Held, Readings, readings_of}
 use Rattle.host_files.specs.Sources.{Found}
 use Rattle.script_runs.specs.Flashes.{IsMade}
 use Rattle.image_jobs.specs.Images.{IsSpelledFlash}
@@ -56,14 +56,18 @@ pub record PutEventsLaw : Type 0 where
   -- the input, as one file
   pub input : (path : Path) (bytes : List ℕ) → All IsPutEvent (written path bytes)
 
+-- what reads of files give, where any bytes may be read of one that is not known
+abbrev pub readings_alone : Held → Readings
+readings_alone held = readings_of held (λ name bytes. Unit {0})
+
 -- so each put leaves the saved history, or changes it once: on the flash that the file of an image spells, and on a new one
 pub record PutsOnceLaw : Type 0 where
   -- what stands on the host is put, after what is removed first, if anything is
   pub puts : (image : Option (List ℕ)) (held : Held) (base : Path) (kept : Option (List Kept)) (all : List Found) (start end : SimFlash)
-      → PutsOver (IsSpelledFlash image) held base kept all start end → SavesOnce (device_of start) (device_of end)
+      → PutsOver (IsSpelledFlash image) (readings_alone held) base kept all start end → SavesOnce (device_of start) (device_of end)
   -- an image is made of it
   pub creates : (sizes : Geometry) (limit : ℕ) (held : Held) (base : Path) (all : List Found) (start end : SimFlash)
-      → PutsBy (IsMade sizes limit) [] held base all start end → SavesOnce (device_of start) (device_of end)
+      → PutsBy (IsMade sizes limit) [] (readings_alone held) base all start end → SavesOnce (device_of start) (device_of end)
   -- an archive is unpacked
   pub unpacks : (image : Option (List ℕ)) (things : List Thing) (start end : SimFlash)
       → WritesBy (IsSpelledFlash image) (lot_events things) start end → SavesOnce (device_of start) (device_of end)

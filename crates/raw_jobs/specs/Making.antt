@@ -1,5 +1,5 @@
 -- Bytes of a serial NOR part that are made of an image, and images made of them: how that ends.
-use Rattle.std.specs.Prelude.{◌≡◌, ◌≢◌, ◌⊎◌, ℕ, false, Option, None, Result, Ok, Err, IfSome, List, length, take}
+use Rattle.std.specs.Prelude.{◌≡◌, ◌≢◌, ◌≤◌, ◌*◌, ◌⊎◌, ℕ, false, Option, Some, None, Result, Ok, Err, IfSome, List, length, take}
 use Rattle.fs_types.specs.declared.fault.Fault.{Fault}
 use Rattle.flash_model.specs.Device.{Device}
 use Rattle.flash_simulation.specs.Simulation.{device_of}
@@ -11,6 +11,7 @@ use Rattle.image_jobs.specs.Images.{IsSpelledFlash, IsUnclaimed, LoadCause, Unsa
 use Rattle.image_jobs.specs.declared.failure.Failure.{Failure}
 use Rattle.nor_part.specs.Layout.{part_sizes}
 use Rattle.raw_part.specs.Raws.{IsRaw, IsRawFlash, IsRawLength}
+use Rattle.raw_jobs.specs.declared.taking.RawSizes.{RawSizes}
 
 -- a file becomes the bytes of the part of a flash; or that is not written, or not for good
 abbrev pub WritesRaw : Device → Option (List ℕ) → Option (List ℕ) → Result (Unit {0}) Failure → Type 0
@@ -28,17 +29,36 @@ RawCause d Failure.Memory = Unit {0}
 RawCause d (Failure.System fault) = (fault ≡ Fault.BadGeometry) × (d.geometry ≢ part_sizes d.geometry.blocks)
 RawCause d _ = ⊥
 
+-- what is taken of the bytes of a part: all of them; or those of the first blocks, where so many are asked for and there
+abbrev pub IsTaken : Option ℕ → List ℕ → List ℕ → Type 0
+IsTaken None bytes part = part ≡ bytes
+IsTaken (Some blocks) bytes part = (8192 * blocks ≤ length bytes) × (part ≡ take (8192 * blocks) bytes)
+
+-- the flash of what is taken
+abbrev pub IsTakenFlash : Option ℕ → List ℕ → Device → Type 0
+IsTakenFlash blocks bytes d = (part : List ℕ) × IsTaken blocks bytes part × IsRawFlash part d
+
+-- what is taken has no length that a part has, or there are fewer blocks
+abbrev pub IsNoPart : Option ℕ → List ℕ → Type 0
+IsNoPart blocks bytes = (part : List ℕ) → IsTaken blocks bytes part → ¬ IsRawLength (length part)
+
+-- why bytes give no flash: what is taken is no part; or for want of memory
+abbrev pub TakenCause : Option ℕ → List ℕ → Failure → Type 0
+TakenCause blocks bytes Failure.Memory = Unit {0}
+TakenCause blocks bytes (Failure.System fault) = (fault ≡ Fault.BadGeometry) × IsNoPart blocks bytes
+TakenCause blocks bytes _ = ⊥
+
 -- the flash of the part that a file has the bytes of
-abbrev pub IsRawFile : Option (List ℕ) → Device → Type 0
-IsRawFile held d = IfSome held (λ bytes. IsRawFlash (take MOST_BYTES bytes) d)
+abbrev pub IsRawFile : Option ℕ → Option (List ℕ) → Device → Type 0
+IsRawFile blocks held d = IfSome held (λ bytes. IsTakenFlash blocks (take MOST_BYTES bytes) d)
 
 -- why a file gives no flash: it is not read, and then its bytes are not known; or for want of memory; or pages or blocks of
--- another size are asked for; or it has no length that a part has
-abbrev pub RawFileCause : ℕ → ℕ → Option (List ℕ) → Failure → Type 0
-RawFileCause page pages held Failure.CannotRead = held ≡ None
-RawFileCause page pages held Failure.Memory = Unit {0}
-RawFileCause page pages held (Failure.System fault) = (fault ≡ Fault.BadGeometry) × (((page ≢ 256) ⊎ (pages ≢ 16)) ⊎ IfSome held (λ bytes. ¬ IsRawLength (length (take MOST_BYTES bytes))))
-RawFileCause page pages held _ = ⊥
+-- another size are asked for; or what is taken of it is no part
+abbrev pub RawFileCause : RawSizes → Option (List ℕ) → Failure → Type 0
+RawFileCause sizes held Failure.CannotRead = held ≡ None
+RawFileCause sizes held Failure.Memory = Unit {0}
+RawFileCause sizes held (Failure.System fault) = (fault ≡ Fault.BadGeometry) × (((sizes.page ≢ 256) ⊎ (sizes.pages ≢ 16)) ⊎ IfSome held (λ bytes. IsNoPart sizes.blocks (take MOST_BYTES bytes)))
+RawFileCause sizes held _ = ⊥
 
 -- a file becomes the bytes of the part of what an image holds, and does not take the image away. Else no file changes: the file is
 -- not claimed, the image is not had, or it has no such bytes
@@ -50,8 +70,8 @@ RawEnds image name held saved result =
 
 -- a file becomes the image of what a part holds, and does not take the file of its bytes away. Else no file changes: the file is
 -- not claimed, or the part is not had
-abbrev pub FromRawEnds : ℕ → ℕ → List ℕ → List ℕ → Held → Held → Result (Unit {0}) Failure → Type 0
-FromRawEnds page pages raw name held saved result =
-    ((failure : Failure) × (result ≡ Err failure) × (IsUnclaimed failure ⊎ RawFileCause page pages (held raw) failure) × (saved ≡ held))
-    ⊎ ((flash : SimFlash) × (takes_away name raw ≡ false) × (page ≡ 256) × (pages ≡ 16) × IsRawFile (held raw) (device_of flash)
+abbrev pub FromRawEnds : RawSizes → List ℕ → List ℕ → Held → Held → Result (Unit {0}) Failure → Type 0
+FromRawEnds sizes raw name held saved result =
+    ((failure : Failure) × (result ≡ Err failure) × (IsUnclaimed failure ⊎ RawFileCause sizes (held raw) failure) × (saved ≡ held))
+    ⊎ ((flash : SimFlash) × (takes_away name raw ≡ false) × (sizes.page ≡ 256) × (sizes.pages ≡ 16) × IsRawFile sizes.blocks (held raw) (device_of flash)
     × WritesImage (device_of flash) (held name) (saved name) result)

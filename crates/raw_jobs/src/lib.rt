@@ -4,5 +4,7 @@
 #![tactic(auto)]
 
 mod making;
+mod taking;
 
 pub use making::{image_to_raw, raw_to_image};
+pub use taking::RawSizes;

@@ -1,17 +1,16 @@
 //! Bytes of a serial NOR part that are made of an image, and images made of them.
-ghost use Rattle.std.specs.Prelude.{◌≡◌, ◌≢◌, ◌⊎◌, IfOk, IfErr, OnOk};
-ghost use Rattle.fs_types.specs.declared.fault.Fault.{Fault};
+ghost use Rattle.std.specs.Prelude.{◌≡◌, IfOk, IfErr, OnOk};
 ghost use Rattle.flash_simulation.specs.Simulation.{device_of};
 ghost use Rattle.host_files.specs.Files.{KeepsOthers};
 ghost use Rattle.raw_part.specs.Raws.{IsRaw};
 ghost use Rattle.raw_jobs.specs.Making.{RawCause, RawEnds, FromRawEnds, IsRawFile, RawFileCause, WritesImage};
 
-use flash_model::Geometry;
+use crate::taking::{RawSizes, flash_of_taken};
 use flash_simulation::SimFlash;
 use fs_types::Fault;
 use host_files::{FileFault, ImageFiles};
 use image_jobs::{Failure, claim, load, save_image, spare, write_image};
-use raw_part::{flash_of_raw, raw_of};
+use raw_part::raw_of;
 use std::alloc::Global;
 
 /// Makes the bytes of a serial NOR part of what an image holds, in the place of what has a name, which is
@@ -23,6 +22,7 @@ pub fn image_to_raw<F: ImageFiles>(
     name: &str,
 ) -> Result<(), Failure>
     ensures ends { RawEnds image.now name.now (F.held files.old) (F.held files.new) result }
+    ensures synced { OnOk result (F.synced files.new name.now) }
     ensures others { KeepsOthers name.now (F.held files.old) (F.held files.new) }
 {
     match spare(files, alloc, name, image) {
@@ -56,15 +56,17 @@ fn raw_bytes(alloc: Global, flash: &SimFlash) -> Result<Vec<u8>, Failure>
 
 /// Makes an image of the part of which a file has the bytes, in the place of what has a name, which is
 /// claimed then. Refused at once where that takes the file away. Pages of 256 bytes are to be asked for,
-/// and blocks of 16 pages.
+/// and blocks of 16 pages. Where a number of blocks is asked for the first ones are taken, and what stands
+/// after them is not looked at.
 pub fn raw_to_image<F: ImageFiles>(
     files: &mut F,
     alloc: Global,
     raw: &str,
     name: &str,
-    sizes: Geometry,
+    sizes: RawSizes,
 ) -> Result<(), Failure>
-    ensures ends { FromRawEnds sizes.page sizes.pages raw.now name.now (F.held files.old) (F.held files.new) result }
+    ensures ends { FromRawEnds sizes raw.now name.now (F.held files.old) (F.held files.new) result }
+    ensures synced { OnOk result (F.synced files.new name.now) }
     ensures others { KeepsOthers name.now (F.held files.old) (F.held files.new) }
 {
     match spare(files, alloc, name, raw) {
@@ -81,16 +83,16 @@ pub fn raw_to_image<F: ImageFiles>(
     }
 }
 
-/// The flash of the part of which a file has the bytes.
+/// The flash of the part of which a file has the bytes, as far as they are taken.
 fn load_raw<F: ImageFiles>(
     files: &F,
     alloc: Global,
     name: &str,
-    sizes: Geometry,
+    sizes: RawSizes,
 ) -> Result<SimFlash, Failure>
-    ensures ok { IfOk result (λ flash. IsRawFile (F.held files.now name.now) (device_of flash)) }
+    ensures ok { IfOk result (λ flash. IsRawFile sizes.blocks (F.held files.now name.now) (device_of flash)) }
     ensures sizes { OnOk result ((sizes.page ≡ 256) × (sizes.pages ≡ 16)) }
-    ensures err { IfErr result (RawFileCause sizes.page sizes.pages (F.held files.now name.now)) }
+    ensures err { IfErr result (RawFileCause sizes (F.held files.now name.now)) }
 {
     if sizes.page != 256 || sizes.pages != 16 {
         return Err(Failure::System(Fault::BadGeometry));
@@ -100,10 +102,7 @@ fn load_raw<F: ImageFiles>(
         Err(FileFault::Memory) => return Err(Failure::Memory),
         Err(_) => return Err(Failure::CannotRead),
     };
-    match flash_of_raw(alloc, &bytes) {
-        Ok(flash) => Ok(flash),
-        Err(fault) => Err(Failure::of_system(fault)),
-    }
+    flash_of_taken(alloc, &bytes, sizes.blocks)
 }
 
 /// Puts the image of a flash in the place of what has a claimed name.
@@ -115,6 +114,7 @@ fn save_flash<F: ImageFiles>(
 ) -> Result<(), Failure>
     requires { F.claims files.old name.now }
     ensures ends { WritesImage (device_of flash.now) (F.held files.old name.now) (F.held files.new name.now) result }
+    ensures synced { OnOk result (F.synced files.new name.now) }
     ensures others { KeepsOthers name.now (F.held files.old) (F.held files.new) }
 {
     save_image(files, alloc, name, flash)

@@ -8,6 +8,7 @@ use Rattle.clap.specs.declared.error.kind.ErrorKind.{ErrorKind}
 use Rattle.flash_model.specs.declared.geometry.Geometry.{Geometry}
 use Rattle.command_words.specs.Grammar.{uffs}
 use Rattle.jobs.specs.Jobs.{AsksFor}
+use Rattle.jobs.specs.declared.tasks.HistoryCall.{HistoryCall}
 use Rattle.jobs.specs.declared.tasks.Job.{Job}
 use Rattle.jobs.specs.declared.tasks.Task.{Task}
 use Rattle.inquiries.specs.declared.inquiry.Inquiry.{Inquiry}
@@ -16,7 +17,7 @@ use Rattle.inquiry_jobs.specs.Asking.{file_spelled, tree_spelled, differences_sp
 use Rattle.flash_image.specs.Images.{image_of, IsFresh}
 use Rattle.flash_model.specs.Device.{Device}
 use Rattle.image_jobs.specs.Failures.{of_image, of_script, job_status, status_of}
-use Rattle.image_jobs.specs.Images.{FormatEnds, Host, streams_of, RunEnds, LookEnds, CheckEnds}
+use Rattle.image_jobs.specs.Images.{FormatEnds, Host, streams_of, RunEnds, CheckEnds}
 use Rattle.host_files.specs.Files.{Held, KeepsOthers}
 use Rattle.script_runs.specs.Memory.{memory_sizes, EndsInMemory}
 use Rattle.put_jobs.specs.Inputs.{InputEnds}
@@ -25,16 +26,19 @@ use Rattle.script_runs.specs.Scripts.{Streams}
 use Rattle.host_files.specs.Sources.{Found, Gathered}
 use Rattle.host_files.specs.Streams.{Written}
 use Rattle.history_jobs.specs.Histories.{HistoryEnds, RunsUnprinted, history_spelled, trim_script}
+use Rattle.history_jobs.specs.Replies.{RepliesEnd}
 use Rattle.map_jobs.specs.Mapping.{MapEnds, MapPageEnds}
 use Rattle.part_jobs.specs.Making.{FormatPartEnds, ToPartEnds, FromPartEnds}
 use Rattle.part_jobs.specs.Serving.{ServePartEnds, of_session}
 use Rattle.raw_jobs.specs.Making.{RawEnds, FromRawEnds}
+use Rattle.raw_jobs.specs.declared.taking.RawSizes.{RawSizes}
 use Rattle.image_jobs.specs.declared.failure.Failure.{Failure}
 use Rattle.script_runs.specs.declared.scripts.ScriptFault.{ScriptFault}
 use Rattle.told_flash.specs.declared.start.StartFault.{StartFault}
 use Rattle.told_flash.specs.Starts.{start_text, IsStartFault}
 use Rattle.told_sessions.specs.Sessions.{SessionEnds}
 use Rattle.told_sessions.specs.declared.session_fault.SessionFault.{SessionFault}
+use Rattle.inquiry_jobs.specs.LastChanges.{LastChangeEnds}
 use Rattle.inquiry_jobs.specs.Tellings.{TellEnds, DiffEnds}
 use Rattle.update_jobs.specs.Updated.{UpdateEnds}
 use Rattle.folder_jobs.specs.Gets.{GetEnds}
@@ -107,6 +111,11 @@ abbrev pub word_given : Option (Bor (List ℕ)) → List ℕ
 word_given (Some word) = word.now
 word_given None = []
 
+-- the word of a call of the history: the serial of a version, or the name of a checkpoint
+abbrev pub history_word : HistoryCall → Job → List ℕ
+history_word HistoryCall.Goto job = word_given job.serial
+history_word _ job = word_given job.checkpoint
+
 -- the sizes that a job asks for
 abbrev pub sizes_of : Job → Geometry
 sizes_of job = record { page = job.page; pages = job.pages; blocks = job.blocks }
@@ -118,6 +127,10 @@ image_asked job = record { page = job.page; pages = job.pages; blocks = if job.i
 -- a number of a job, where a word gives it
 abbrev pub number_given : ℕ → Bool → Option ℕ
 number_given number is_given = if is_given then Some number else None
+
+-- what a job asks of the bytes of a part
+abbrev pub raw_asked : Job → RawSizes
+raw_asked job = record { page = job.page; pages = job.pages; blocks = number_given job.blocks job.is_blocks_given }
 
 -- what a job asks that a copy has
 abbrev pub sizes_asked : Job → AskedSizes
@@ -149,25 +162,30 @@ StreamEnds true path name IsClaimed before result after = (result ≡ Err Failur
 StreamEnds false path name IsClaimed before result after = InputEnds name path IsClaimed before result after × KeepsOthers name before.files after.files × (after.out ≡ before.out)
 
 -- what stands at a name of the host is put into an image, or the input
-abbrev pub PutsFrom : Bool → Bool → Bool → List ℕ → List ℕ → (List ℕ → Type 0) → Option (List Found) → Host → Result (Unit {0}) Failure → Host → Type 0
-PutsFrom true mirror skips path name IsClaimed gathered before result after = StreamEnds (wants_folder mirror skips) path name IsClaimed before result after
-PutsFrom false mirror skips path name IsClaimed gathered before result after = PutEnds mirror skips name path IsClaimed before.files after.files gathered result
+abbrev pub PutsFrom : Bool → Bool → Bool → List ℕ → List ℕ → (List ℕ → Type 0) → (List ℕ → List ℕ → Type 0) → Option (List Found) → Host → Result (Unit {0}) Failure → Host → Type 0
+PutsFrom true mirror skips path name IsClaimed Reads gathered before result after = StreamEnds (wants_folder mirror skips) path name IsClaimed before result after
+PutsFrom false mirror skips path name IsClaimed Reads gathered before result after = PutEnds mirror skips name path IsClaimed Reads before.files after.files gathered result
     × KeepsOthers name before.files after.files × OnlyWrites before after
 
 -- the bytes that the file of each name may have where it is claimed
 abbrev pub Claimed : Type 1
 Claimed = List ℕ → List ℕ → Type 0
 
--- what is known of the host before: what each file may have where it is claimed, what stands at a name, with all below it, what
+-- the bytes that a read of a source gives while a name is claimed
+abbrev pub ReadWhile : Type 1
+ReadWhile = List ℕ → List ℕ → List ℕ → Type 0
+
+-- what is known of the host before: what each file may have where it is claimed, what reads of sources give then, what stands at a name, with all below it, what
 -- another program writes under a name, and what the file of a name holds that is opened in place
 pub record Known : Type 1 where
   pub claimed : Claimed
+  pub sources : ReadWhile
   pub gathered : Gathered
   pub written : Written
   pub placed : Held
 
-abbrev pub known_by : Claimed → Gathered → Written → Held → Known
-known_by claimed gathered written placed = record { claimed = claimed; gathered = gathered; written = written; placed = placed }
+abbrev pub known_by : Claimed → ReadWhile → Gathered → Written → Held → Known
+known_by claimed sources gathered written placed = record { claimed = claimed; sources = sources; gathered = gathered; written = written; placed = placed }
 
 -- how a task ends that is done on no image
 abbrev pub EndsAlone : Task → Job → Known → Host → Result (Unit {0}) Failure → Host → Type 0
@@ -185,28 +203,29 @@ abbrev pub EndsOn : Job → List ℕ → Known → Host → Result (Unit {0}) Fa
 EndsOn job name known before result after = elim (job.command) as (λ task. Type 0) [
   | Task.Format ↦ FormatEnds (sizes_of job) job.history (before.files name) (after.files name) result × KeepsOthers name before.files after.files × OnlyWrites before after
   | Task.Run ↦ RunEnds job.stop name (known.claimed name) before result after × KeepsOthers name before.files after.files
-  | Task.Put ↦ PutsFrom (is_stream (word_given job.file)) job.mirror job.skip_links (word_given job.path) name (known.claimed name) (known.gathered (word_given job.file) name) before result after
-  | Task.Create ↦ CreateEnds (image_asked job) job.skip_links name before.files after.files (known.gathered (word_given job.file) name) result × KeepsOthers name before.files after.files × OnlyWrites before after
+  | Task.Put ↦ PutsFrom (is_stream (word_given job.file)) job.mirror job.skip_links (word_given job.path) name (known.claimed name) (known.sources name) (known.gathered (word_given job.file) name) before result after
+  | Task.Create ↦ CreateEnds (image_asked job) job.skip_links name (known.sources name) before.files after.files (known.gathered (word_given job.file) name) result × KeepsOthers name before.files after.files × OnlyWrites before after
   | Task.Copy ↦ CopyEnds (sizes_asked job) job.salvage name (word_given job.file) before.files after.files result × KeepsOthers (word_given job.file) before.files after.files × OnlyWrites before after
-  | Task.History call ↦ HistoryEnds (history_spelled call (word_given job.checkpoint) job.count) name (known.claimed name) before.files result after.files × KeepsOthers name before.files after.files × OnlyWrites before after
+  | Task.History call ↦ HistoryEnds (history_spelled call (history_word call job) job.count) name (known.claimed name) before.files result after.files × KeepsOthers name before.files after.files × OnlyWrites before after
   | Task.Trim ↦ RunsUnprinted trim_script name (known.claimed name) before.files result after.files × KeepsOthers name before.files after.files × OnlyWrites before after
   | Task.Get ↦ GetsTo (is_stream (word_given job.file)) job name before result after
   | Task.Cat ↦ TellEnds (file_spelled (word_given job.path) job.view) (before.files name) result before.out after.out × OnlyPrints before after
   | Task.Tree ↦ TellEnds (tree_spelled job.view) (before.files name) result before.out after.out × OnlyPrints before after
   | Task.Diff ↦ DiffEnds job.exit_code (differences_spelled job.view job.other) (before.files name) result before.out after.out × OnlyPrints before after
+  | Task.LastChange ↦ LastChangeEnds job.exit_code (before.files name) result before.out after.out × OnlyPrints before after
   | Task.Versions ↦ TellEnds (Ok Inquiry.Versions) (before.files name) result before.out after.out × OnlyPrints before after
   | Task.Update ↦ UpdateEnds (before.files name) (before.files (word_given job.file)) result before.out after.out × OnlyPrints before after
   | Task.Tar ↦ TarEnds job.view (before.files name) result before.out after.out × OnlyPrints before after
   | Task.Untar ↦ UntarEnds job.skip_links name (word_given job.path) (known.claimed name) before result after × KeepsOthers name before.files after.files × (after.out ≡ before.out)
   | Task.Check ↦ CheckEnds (before.files name) result before.out after.out × OnlyPrints before after
-  | Task.Log ↦ LookEnds (codes "log\n") (before.files name) result before.out after.out × OnlyPrints before after
-  | Task.Df ↦ LookEnds (codes "df\n") (before.files name) result before.out after.out × OnlyPrints before after
+  | Task.Log ↦ RepliesEnd (codes "log\n") (before.files name) result before.out after.out × OnlyPrints before after
+  | Task.Df ↦ RepliesEnd (codes "df\n") (before.files name) result before.out after.out × OnlyPrints before after
   | Task.Map ↦ MapEnds (before.files name) result before.out after.out × OnlyPrints before after
   | Task.MapPage ↦ MapPageEnds name (word_given job.file) before.files after.files result × KeepsOthers (word_given job.file) before.files after.files × OnlyWrites before after
   | Task.ToPart ↦ ToPartEnds name (word_given job.file) before.files after.files result × KeepsOthers (word_given job.file) before.files after.files × OnlyWrites before after
   | Task.FromPart ↦ FromPartEnds (word_given job.file) name (known.placed (word_given job.file)) before.files after.files result × KeepsOthers name before.files after.files × OnlyWrites before after
   | Task.ToRaw ↦ RawEnds name (word_given job.file) before.files after.files result × KeepsOthers (word_given job.file) before.files after.files × OnlyWrites before after
-  | Task.FromRaw ↦ FromRawEnds job.page job.pages (word_given job.file) name before.files after.files result × KeepsOthers name before.files after.files × OnlyWrites before after
+  | Task.FromRaw ↦ FromRawEnds (raw_asked job) (word_given job.file) name before.files after.files result × KeepsOthers name before.files after.files × OnlyWrites before after
   | Task.Memory ↦ EndsAlone Task.Memory job known before result after
   | Task.Serve ↦ EndsAlone Task.Serve job known before result after
   | Task.ServePart ↦ EndsAlone Task.ServePart job known before result after

@@ -7,11 +7,15 @@ use script::write_out;
 use std::alloc::Global;
 use std::io::Write;
 
-/// Writes what can be asked for, as `uffs --help` tells it.
-pub(crate) fn tell_help<W: Write>(alloc: Global, out: &mut W) -> Result<(), Failure>
+/// Writes what can be asked for, as `uffs --help` tells it, or by one word, as `uffs WORD --help` does.
+pub(crate) fn tell_help<W: Write>(
+    alloc: Global,
+    word: Option<&str>,
+    out: &mut W,
+) -> Result<(), Failure>
     ensures { HelpEnds result (W.contents out.old) (W.contents out.new) }
 {
-    match help_text(alloc) {
+    match help_text(alloc, word) {
         Ok(text) => print_text(out, text.as_bytes()),
         Err(_) => Err(Failure::Memory),
     }

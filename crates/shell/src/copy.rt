@@ -41,7 +41,7 @@ fn sizes_asked(job: Job<'_>) -> AskedSizes
 }
 
 /// A number, where a word gives it.
-fn number_given(number: u32, is_given: bool) -> Option<u32>
+pub(crate) fn number_given(number: u32, is_given: bool) -> Option<u32>
     ensures { result ≡ number_given number is_given }
 {
     if is_given { Some(number) } else { None }

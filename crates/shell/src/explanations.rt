@@ -1,7 +1,8 @@
-//! What the refusals mean.
+//! What is told where something is refused, and what it means.
 ghost use Rattle.std.specs.Prelude.{◌≡◌, ◌++◌, IfOk, OnOk};
 ghost use Rattle.std.specs.List.{filter};
-ghost use Rattle.shell.specs.Explained.{ExplainEnds, PrintsAny, TellsEach, explanation, is_meant};
+ghost use Rattle.std.specs.Str.{str_eq_ignore_ascii_case};
+ghost use Rattle.shell.specs.Explained.{ExplainEnds, PrintsAny, TellsEach, explanation, is_meant, is_number, number_text};
 
 use fs_types::Fault;
 use image_jobs::Failure;
@@ -10,47 +11,114 @@ use script_runs::Refusal;
 use std::alloc::{AllocError, Global};
 use std::io::Write;
 
-/// The refusals, in the order of their numbers.
-const FAULTS: [Fault; 31] = [
-    Fault::NoEntry,
-    Fault::NotDirectory,
-    Fault::IsDirectory,
-    Fault::Exists,
-    Fault::NotEmpty,
-    Fault::NotPermitted,
-    Fault::Invalid,
-    Fault::NameTooLong,
-    Fault::TooBig,
-    Fault::BadDescriptor,
-    Fault::TooManyOpen,
-    Fault::Busy,
-    Fault::DirectoryFull,
-    Fault::CheckpointsFull,
-    Fault::FlashFull,
-    Fault::ReadOnly,
-    Fault::NothingToUndo,
-    Fault::TooOld,
-    Fault::NothingToRedo,
-    Fault::NoSuchVersion,
-    Fault::Discarded,
-    Fault::Overflow,
-    Fault::ReadFailed,
-    Fault::PowerCut,
-    Fault::NoMemory,
-    Fault::Damaged,
-    Fault::NoRecord,
-    Fault::BadGeometry,
-    Fault::NoAnchors,
-    Fault::NoGroup,
-    Fault::InGroup,
+/// What is told where something is refused, or is not as it has to be.
+#[derive(Clone, Copy, Debug, PartialEq, Eq)]
+pub(crate) enum Told {
+    /// A refusal, with its number.
+    Fault(Fault),
+    /// A line or a word of the program is not spelled well.
+    Syntax,
+    /// More would be told, or looked at, than may be.
+    TooManyLines,
+    /// No file system is mounted.
+    Unmounted,
+    /// A file is no image.
+    NotImage,
+    /// A file is no part.
+    NotPart,
+    /// An image or a part has no lawful sizes.
+    BadGeometry,
+    /// A page or a block of an image or a part has no known state.
+    BadState,
+    /// An image ends too early.
+    Truncated,
+    /// An image does not end where it has to.
+    Trailing,
+}
+
+/// All that is told: the refusals in the order of their numbers, and then what has no number.
+pub(crate) const TOLD: [Told; 40] = [
+    Told::Fault(Fault::NoEntry),
+    Told::Fault(Fault::NotDirectory),
+    Told::Fault(Fault::IsDirectory),
+    Told::Fault(Fault::Exists),
+    Told::Fault(Fault::NotEmpty),
+    Told::Fault(Fault::NotPermitted),
+    Told::Fault(Fault::Invalid),
+    Told::Fault(Fault::NameTooLong),
+    Told::Fault(Fault::TooBig),
+    Told::Fault(Fault::BadDescriptor),
+    Told::Fault(Fault::TooManyOpen),
+    Told::Fault(Fault::Busy),
+    Told::Fault(Fault::DirectoryFull),
+    Told::Fault(Fault::CheckpointsFull),
+    Told::Fault(Fault::FlashFull),
+    Told::Fault(Fault::ReadOnly),
+    Told::Fault(Fault::NothingToUndo),
+    Told::Fault(Fault::TooOld),
+    Told::Fault(Fault::NothingToRedo),
+    Told::Fault(Fault::NoSuchVersion),
+    Told::Fault(Fault::Discarded),
+    Told::Fault(Fault::Overflow),
+    Told::Fault(Fault::ReadFailed),
+    Told::Fault(Fault::PowerCut),
+    Told::Fault(Fault::NoMemory),
+    Told::Fault(Fault::Damaged),
+    Told::Fault(Fault::NoRecord),
+    Told::Fault(Fault::BadGeometry),
+    Told::Fault(Fault::NoAnchors),
+    Told::Fault(Fault::NoGroup),
+    Told::Fault(Fault::InGroup),
+    Told::Syntax,
+    Told::TooManyLines,
+    Told::Unmounted,
+    Told::NotImage,
+    Told::NotPart,
+    Told::BadGeometry,
+    Told::BadState,
+    Told::Truncated,
+    Told::Trailing,
 ];
 
-/// Writes what the refusal of this number means, or each that has this word, in the order of their
-/// numbers. Refused by [`Fault::Invalid`] where none is meant.
+impl Told {
+    ghost use Rattle.std.specs.Prelude.{◌≡◌};
+    ghost use Rattle.shell.specs.Explained.{number_told, word_told};
+
+    /// The word that is told.
+    pub(crate) fn word(self) -> &'static str
+        ensures { result.now ≡ word_told self }
+    {
+        match self {
+            Told::Fault(fault) => fault.word(),
+            Told::Syntax => "SYNTAX",
+            Told::TooManyLines => "TOOMANYLINES",
+            Told::Unmounted => "unmounted",
+            Told::NotImage => "NotImage",
+            Told::NotPart => "NotPart",
+            Told::BadGeometry => "BadGeometry",
+            Told::BadState => "BadState",
+            Told::Truncated => "Truncated",
+            Told::Trailing => "Trailing",
+        }
+    }
+
+    /// The number that is told after it, if one is.
+    fn number(self) -> Option<u8>
+        ensures { result ≡ number_told self }
+    {
+        match self {
+            Told::Fault(fault) => Some(fault.number()),
+            _ => None,
+        }
+    }
+}
+
+/// Writes what is meant by this number, or all that is by this word, in capitals or in small letters.
+/// Refused by [`Fault::Invalid`] where nothing is.
 pub(crate) fn explain<W: Write>(alloc: Global, word: &str, out: &mut W) -> Result<(), Failure>
     ensures { ExplainEnds word.now result (W.contents out.old) (W.contents out.new) }
 {
-    match text_of_meant(alloc, &FAULTS, word) {
+    match text_of_meant(alloc, &TOLD, word) {
         Ok(text) => print_any(out, text.as_slice()),
         Err(_) => Err(Failure::Memory),
     }
@@ -69,43 +137,107 @@ fn print_any<W: Write>(out: &mut W, text: &[u8]) -> Result<(), Failure>
     }
 }
 
-/// A line for each of these refusals that is meant, in order.
-fn text_of_meant(alloc: Global, faults: &[Fault], word: &str) -> Result<Vec<u8>, AllocError>
-    ensures { IfOk result (λ text. TellsEach (filter (is_meant word.now) faults.now) text.items) }
+/// A line for each of these that is meant, in order.
+fn text_of_meant(alloc: Global, all: &[Told], word: &str) -> Result<Vec<u8>, AllocError>
+    ensures { IfOk result (λ text. TellsEach (filter (is_meant word.now) all.now) text.items) }
 {
     let mut text = Vec::new(alloc);
-    for fault in faults {
-        if is_meant(alloc, word, *fault)? {
-            print_explanation(&mut text, *fault, meaning_of(*fault))?;
+    for told in all {
+        if is_meant(alloc, word, *told)? {
+            print_explanation(&mut text, *told, meaning_of(*told))?;
         }
     }
     Ok(text)
 }
 
-/// Whether a word is the number of a refusal or its word.
-fn is_meant(alloc: Global, word: &str, fault: Fault) -> Result<bool, AllocError>
-    ensures { IfOk result (λ meant. meant ≡ is_meant word.now fault) }
+/// Whether a word is the number that is told, or the word, in capitals or in small letters.
+fn is_meant(alloc: Global, word: &str, told: Told) -> Result<bool, AllocError>
+    ensures { IfOk result (λ meant. meant ≡ is_meant word.now told) }
 {
-    let number = fault.number();
-    let number = format!(in alloc; "{number}")?;
-    Ok(number.as_str() == word || fault.word() == word)
+    let is_number = is_number(alloc, word, told.number())?;
+    Ok(is_number || is_word(told.word(), word))
 }
 
-/// Appends the line that tells what a refusal means.
-fn print_explanation(text: &mut Vec<u8>, fault: Fault, meaning: &str) -> Result<(), AllocError>
-    ensures { OnOk result (text.new.items ≡ text.old.items ++ explanation fault meaning.now) }
+/// Whether two words are the same but for capitals and small letters.
+fn is_word(told: &str, word: &str) -> bool
+    ensures { result ≡ str_eq_ignore_ascii_case told.now word.now }
 {
-    text.extend_from_slice(fault.word().as_bytes())?;
-    text.push(b' ')?;
-    print_number(text, u64::from(fault.number()))?;
+    told.eq_ignore_ascii_case(word)
+}
+
+/// Whether a word is a number, as it is printed.
+fn is_number(alloc: Global, word: &str, number: Option<u8>) -> Result<bool, AllocError>
+    ensures { IfOk result (λ is. is ≡ is_number word.now number) }
+{
+    match number {
+        Some(number) => {
+            let number = format!(in alloc; "{number}")?;
+            Ok(number.as_str() == word)
+        }
+        None => Ok(false),
+    }
+}
+
+/// Appends the line that tells what is meant.
+fn print_explanation(text: &mut Vec<u8>, told: Told, meaning: &str) -> Result<(), AllocError>
+    ensures { OnOk result (text.new.items ≡ text.old.items ++ explanation told meaning.now) }
+{
+    text.extend_from_slice(told.word().as_bytes())?;
+    print_told_number(text, told.number())?;
     text.extend_from_slice(b": ")?;
     text.extend_from_slice(meaning.as_bytes())?;
     text.push(b'\n')?;
     Ok(())
 }
 
+/// Appends a number that is told, if one is, with a space before it.
+fn print_told_number(text: &mut Vec<u8>, number: Option<u8>) -> Result<(), AllocError>
+    ensures { OnOk result (text.new.items ≡ text.old.items ++ number_text number) }
+{
+    match number {
+        Some(number) => {
+            text.push(b' ')?;
+            print_number(text, u64::from(number))
+        }
+        None => Ok(()),
+    }
+}
+
+/// What is meant, and what can be done.
+fn meaning_of(told: Told) -> &'static str {
+    match told {
+        Told::Fault(fault) => meaning_of_refusal(fault),
+        Told::Syntax => {
+            "a line of a script, or PATH, NAME, SERIAL or VIEW, is not spelled as it has to be: a version is @ and its serial, a checkpoint = and its name. Look it up in docs/scripts.md."
+        }
+        Told::TooManyLines => {
+            "more would have to be told, looked through or kept than may be. Ask for less."
+        }
+        Told::Unmounted => {
+            "no file system is mounted, since a `restart` was refused. Begin anew with `restart`."
+        }
+        Told::NotImage => {
+            "the file does not begin as an image. Take the right file: `from-part` and `from-raw` make an image of a part, `untar` puts an archive into one."
+        }
+        Told::NotPart =>
+            "the file does not begin as a part in a flat file. Make one with `to-part`.",
+        Told::BadGeometry => {
+            "the sizes that stand in the file of an image or a part are not lawful: it is damaged. Take another copy of it."
+        }
+        Told::BadState => {
+            "a page or a block in the file of an image or a part has no known state: it is damaged. Take another copy of it."
+        }
+        Told::Truncated => {
+            "the file ends inside the image: it was not copied whole. Take another copy of it."
+        }
+        Told::Trailing => {
+            "bytes stand after the end of the image: it was not copied alone. Take another copy of it."
+        }
+    }
+}
+
 /// What a refusal means, and what can be done.
-fn meaning_of(fault: Fault) -> &'static str {
+fn meaning_of_refusal(fault: Fault) -> &'static str {
     match fault {
         Fault::NoEntry => "nothing stands at the path, or at a name on the way. Look with `ls`.",
         Fault::NotDirectory => "a file stands where a directory is wanted. Look with `stat`.",

@@ -5,6 +5,7 @@ mod about;
 mod copy;
 mod explanations;
 mod get;
+mod nearest;
 mod process;
 mod program;
 mod put_from;

@@ -1,15 +1,16 @@
 //! What the program `uffs` does with its words.
 ghost use Rattle.std.specs.Prelude.{◌≡◌, IsTrue, map, string_bytes};
 ghost use Rattle.clap.specs.Words.{kind_of};
-ghost use Rattle.host_files.specs.Files.{ReadsClaimed};
+ghost use Rattle.host_files.specs.Files.{ReadsClaimed, ReadsBeside};
 ghost use Rattle.script_runs.specs.Scripts.{streams_at};
 ghost use Rattle.image_jobs.specs.Images.{host_at};
-ghost use Rattle.shell.specs.Tools.{known_by, image_asked, EndsAlone, EndsOn, JobEnds, MemoryEnds, ToolEnds, MemoryBy, sizes_of, word_given, refused_status, is_memory};
+ghost use Rattle.shell.specs.Tools.{known_by, image_asked, EndsAlone, EndsOn, JobEnds, MemoryEnds, ToolEnds, MemoryBy, history_word, raw_asked, sizes_of, word_given, refused_status, is_memory};
 
 use crate::about::{tell_help, tell_version};
-use crate::copy::copy_to;
+use crate::copy::{copy_to, number_given};
 use crate::explanations::explain;
 use crate::get::get_to;
+use crate::nearest::tell_unexplained;
 use crate::put_from::put_from;
 use crate::serving::{history_given, serve_part};
 use archive_jobs::{put_archive, tell_archive};
@@ -17,16 +18,16 @@ use clap::Error;
 use clap::error::ErrorKind;
 use create_jobs::{Creation, NewImage, create_image};
 use flash_model::Geometry;
-use history_jobs::{change_history, trim_image};
+use history_jobs::{change_history, tell_replies, trim_image};
 use host_files::{Channels, Folders, ImageFiles, Parts, Sources};
-use image_jobs::{Failure, check_image, format_image, look_at_image, run_image};
-use inquiry_jobs::{tell_differences, tell_file, tell_tree, tell_versions};
+use image_jobs::{Failure, check_image, format_image, run_image};
+use inquiry_jobs::{tell_differences, tell_file, tell_last_change, tell_tree, tell_versions};
 use job_messages::tell_failure;
-use jobs::{Job, Task, job};
+use jobs::{HistoryCall, Job, Task, job};
 use map_jobs::{save_map_page, tell_map};
 use part_jobs::{format_part, image_to_part, part_to_image, serve_part_file};
 use put_jobs::Order;
-use raw_jobs::{image_to_raw, raw_to_image};
+use raw_jobs::{RawSizes, image_to_raw, raw_to_image};
 use script_runs::run_in_memory;
 use std::alloc::Global;
 use std::io::{Read, Write};
@@ -48,7 +49,7 @@ pub fn tool<F: Folders + Sources + Channels + Parts, R: Read, W: Write, E: Write
     out: &mut W,
     err: &mut E,
 ) -> u8
-    ensures ends { ToolEnds (map string_bytes words.now) (known_by (ReadsClaimed F.claims F.reads) (F.gathered files.old) (F.written files.old) (F.placed files.old)) (host_at (F.held files.old) (R.remaining reader.old) (W.contents out.old)) result (host_at (F.held files.new) (R.remaining reader.new) (W.contents out.new)) }
+    ensures ends { ToolEnds (map string_bytes words.now) (known_by (ReadsClaimed F.claims F.reads) (ReadsBeside F.claims F.reads_source) (F.gathered files.old) (F.written files.old) (F.placed files.old)) (host_at (F.held files.old) (R.remaining reader.old) (W.contents out.old)) result (host_at (F.held files.new) (R.remaining reader.new) (W.contents out.new)) }
     // The word `memory` is understood.
     ensures memory { IsTrue (is_memory (map string_bytes words.now)) → MemoryBy (streams_at (R.remaining reader.old) (W.contents out.old)) result (streams_at (R.remaining reader.new) (W.contents out.new)) }
 {
@@ -59,9 +60,25 @@ pub fn tool<F: Folders + Sources + Channels + Parts, R: Read, W: Write, E: Write
     match carry_out(files, alloc, job, reader, out, err) {
         Ok(()) => 0,
         Err(failure) => {
-            tell_failure(files, alloc, job, failure, err);
+            tell_why(files, alloc, job, failure, err);
             failure.status()
         }
+    }
+}
+
+/// Says why a job did not run to its end.
+fn tell_why<F: ImageFiles, E: Write>(
+    files: &F,
+    alloc: Global,
+    job: Job<'_>,
+    failure: Failure,
+    err: &mut E,
+) {
+    match (job.command, failure) {
+        (Task::Explain, Failure::Refused(_)) => {
+            tell_unexplained(alloc, word_given(job.refusal), err);
+        }
+        _ => tell_failure(files, alloc, job, failure, err),
     }
 }
 
@@ -90,7 +107,7 @@ fn carry_out<F: Folders + Sources + Channels + Parts, R: Read, W: Write, E: Writ
     out: &mut W,
     err: &mut E,
 ) -> Result<(), Failure>
-    ensures { JobEnds job.entry (known_by (ReadsClaimed F.claims F.reads) (F.gathered files.old) (F.written files.old) (F.placed files.old)) (host_at (F.held files.old) (R.remaining reader.old) (W.contents out.old)) result (host_at (F.held files.new) (R.remaining reader.new) (W.contents out.new)) }
+    ensures { JobEnds job.entry (known_by (ReadsClaimed F.claims F.reads) (ReadsBeside F.claims F.reads_source) (F.gathered files.old) (F.written files.old) (F.placed files.old)) (host_at (F.held files.old) (R.remaining reader.old) (W.contents out.old)) result (host_at (F.held files.new) (R.remaining reader.new) (W.contents out.new)) }
 {
     match job.image {
         Some(name) => do_task(files, alloc, job, name, reader, out, err),
@@ -106,7 +123,7 @@ fn do_alone<F: Folders + Channels + Sources + Parts, R: Read, W: Write>(
     reader: &mut R,
     out: &mut W,
 ) -> Result<(), Failure>
-    ensures { EndsAlone job.entry.command job.entry (known_by (ReadsClaimed F.claims F.reads) (F.gathered files.old) (F.written files.old) (F.placed files.old)) (host_at (F.held files.old) (R.remaining reader.old) (W.contents out.old)) result (host_at (F.held files.new) (R.remaining reader.new) (W.contents out.new)) }
+    ensures { EndsAlone job.entry.command job.entry (known_by (ReadsClaimed F.claims F.reads) (ReadsBeside F.claims F.reads_source) (F.gathered files.old) (F.written files.old) (F.placed files.old)) (host_at (F.held files.old) (R.remaining reader.old) (W.contents out.old)) result (host_at (F.held files.new) (R.remaining reader.new) (W.contents out.new)) }
 {
     match job.command {
         Task::Serve => serve_part(files, alloc, job, reader, out),
@@ -119,7 +136,7 @@ fn do_alone<F: Folders + Channels + Sources + Parts, R: Read, W: Write>(
             format_part(files, alloc, part, sizes_of(job), job.history)
         }
         Task::Explain => explain(alloc, word_given(job.refusal), out),
-        Task::Help => tell_help(alloc, out),
+        Task::Help => tell_help(alloc, job.word, out),
         Task::Version => tell_version(alloc, out),
         _ => play_in_memory(alloc, reader, out),
     }
@@ -135,7 +152,7 @@ fn do_task<F: Folders + Sources + Channels + Parts, R: Read, W: Write, E: Write>
     out: &mut W,
     err: &mut E,
 ) -> Result<(), Failure>
-    ensures { EndsOn job.entry name.now (known_by (ReadsClaimed F.claims F.reads) (F.gathered files.old) (F.written files.old) (F.placed files.old)) (host_at (F.held files.old) (R.remaining reader.old) (W.contents out.old)) result (host_at (F.held files.new) (R.remaining reader.new) (W.contents out.new)) }
+    ensures { EndsOn job.entry name.now (known_by (ReadsClaimed F.claims F.reads) (ReadsBeside F.claims F.reads_source) (F.gathered files.old) (F.written files.old) (F.placed files.old)) (host_at (F.held files.old) (R.remaining reader.old) (W.contents out.old)) result (host_at (F.held files.new) (R.remaining reader.new) (W.contents out.new)) }
 {
     match job.command {
         Task::Format => format_image(files, alloc, name, sizes_of(job), job.history),
@@ -144,8 +161,8 @@ fn do_task<F: Folders + Sources + Channels + Parts, R: Read, W: Write, E: Write>
         Task::Create => create_image(files, alloc, name, creation_of(job), err),
         Task::Copy => copy_to(files, alloc, job, name, err),
         Task::History(call) => {
-            let checkpoint = word_given(job.checkpoint);
-            change_history(files, alloc, name, call, checkpoint, job.count)
+            let word = history_word(call, job);
+            change_history(files, alloc, name, call, word, job.count)
         }
         Task::Trim => trim_image(files, alloc, name),
         Task::Get => get_to(files, alloc, job, name, out),
@@ -155,6 +172,7 @@ fn do_task<F: Folders + Sources + Channels + Parts, R: Read, W: Write, E: Write>
             let exit_code = job.exit_code;
             tell_differences(files, alloc, name, job.view, job.other, exit_code, out)
         }
+        Task::LastChange => tell_last_change(files, alloc, name, job.exit_code, out),
         Task::Versions => tell_versions(files, alloc, name, out),
         Task::Update => tell_update(files, alloc, name, word_given(job.file), out),
         Task::Tar => tell_archive(files, alloc, name, job.view, out, err),
@@ -163,14 +181,14 @@ fn do_task<F: Folders + Sources + Channels + Parts, R: Read, W: Write, E: Write>
             put_archive(files, alloc, name, path, job.skip_links, reader, err)
         }
         Task::Check => check_image(files, alloc, name, out),
-        Task::Log => look_at_image(files, alloc, name, b"log\n", out),
-        Task::Df => look_at_image(files, alloc, name, b"df\n", out),
+        Task::Log => tell_replies(files, alloc, name, b"log\n", out),
+        Task::Df => tell_replies(files, alloc, name, b"df\n", out),
         Task::Map => tell_map(files, alloc, name, out),
         Task::MapPage => save_map_page(files, alloc, name, word_given(job.file)),
         Task::ToPart => image_to_part(files, alloc, name, word_given(job.file)),
         Task::FromPart => part_to_image(files, alloc, word_given(job.file), name),
         Task::ToRaw => image_to_raw(files, alloc, name, word_given(job.file)),
-        Task::FromRaw => raw_to_image(files, alloc, word_given(job.file), name, sizes_of(job)),
+        Task::FromRaw => raw_to_image(files, alloc, word_given(job.file), name, raw_asked(job)),
         Task::Memory | Task::Serve | Task::ServePart | Task::FormatPart => {
             do_alone(files, alloc, job, reader, out)
         }
@@ -220,6 +238,27 @@ fn image_asked(job: Job<'_>) -> NewImage
             None
         },
         history: job.history,
+    }
+}
+
+/// What is asked of the bytes of a part.
+fn raw_asked(job: Job<'_>) -> RawSizes
+    ensures { result ≡ raw_asked job.entry }
+{
+    RawSizes {
+        page: job.page,
+        pages: job.pages,
+        blocks: number_given(job.blocks, job.is_blocks_given),
+    }
+}
+
+/// The word of a call of the history: the serial of a version, or the name of a checkpoint.
+fn history_word<'a>(call: HistoryCall, job: Job<'a>) -> &'a str
+    ensures { result.now ≡ history_word call job.entry }
+{
+    match call {
+        HistoryCall::Goto => word_given(job.serial),
+        _ => word_given(job.checkpoint),
     }
 }
 

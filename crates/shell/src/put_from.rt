@@ -1,6 +1,6 @@
 //! Files of the host, or the input, for an image.
 ghost use Rattle.std.specs.Prelude.{◌≡◌, ℕ, Option, List};
-ghost use Rattle.host_files.specs.Files.{ReadsClaimed};
+ghost use Rattle.host_files.specs.Files.{ReadsClaimed, ReadsBeside};
 ghost use Rattle.image_jobs.specs.Images.{host_at};
 ghost use Rattle.put_jobs.specs.Mirrors.{wants_folder};
 ghost use Rattle.shell.specs.Tools.{PutsFrom, StreamEnds, is_stream};
@@ -21,7 +21,7 @@ pub(crate) fn put_from<F: ImageFiles + Sources, R: Read, E: Write>(
     reader: &mut R,
     err: &mut E,
 ) -> Result<(), Failure>
-    ensures { (out : Option (List ℕ)) → PutsFrom (is_stream order.entry.file.now) order.entry.mirror order.entry.skip_links order.entry.path.now name.now (ReadsClaimed F.claims F.reads name.now) (F.gathered files.old order.entry.file.now name.now) (host_at (F.held files.old) (R.remaining reader.old) out) result (host_at (F.held files.new) (R.remaining reader.new) out) }
+    ensures { (out : Option (List ℕ)) → PutsFrom (is_stream order.entry.file.now) order.entry.mirror order.entry.skip_links order.entry.path.now name.now (ReadsClaimed F.claims F.reads name.now) (ReadsBeside F.claims F.reads_source name.now) (F.gathered files.old order.entry.file.now name.now) (host_at (F.held files.old) (R.remaining reader.old) out) result (host_at (F.held files.new) (R.remaining reader.new) out) }
 {
     if is_stream(order.file) {
         put_stream(files, alloc, name, order, reader, err)

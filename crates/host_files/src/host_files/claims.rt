@@ -1,7 +1,8 @@
 //! A name of the host that one program has to itself.
 use super::identity::Identity;
+use super::opening::{Opened, open_looked, refuse_special};
 use std::alloc::Global;
-use std::fs::{File, OpenOptions};
+use std::fs::File;
 use std::io::ErrorKind;
 use std::path::Path;
 use std::rt::Files;
@@ -15,20 +16,12 @@ pub(super) const MOST_TURNS: u32 = 100;
 const MOST_LINKS: u32 = 40;
 
 /// A claimed name: the file that it leads to is open and locked, until this is dropped. A name that no
-/// file has, or one that cannot be opened, is claimed with no file.
+/// file has, or one whose file may not be opened, is claimed with no file.
 #[derive(Drop)]
 pub(super) struct Claim {
     name: String,
     path: String,
     file: Option<Opened>,
-}
-
-/// A plain file that is open.
-#[derive(Drop)]
-pub(super) struct Opened {
-    file: File,
-    /// Whether it is open for writing too.
-    is_written: bool,
 }
 
 impl Claim {
@@ -65,20 +58,18 @@ impl Claim {
     /// lets nobody write.
     pub(super) fn refuse_unwritable(&self) -> io::Result<()> {
         match &self.file {
-            Some(opened) => opened.refuse_unwritable(),
+            Some(opened) => refuse_unwritable(opened),
             None => Ok(()),
         }
     }
 }
 
-impl Opened {
-    fn refuse_unwritable(&self) -> io::Result<()> {
-        let is_readonly = self.file.metadata()?.permissions().readonly();
-        if is_readonly || !self.is_written {
-            return Err(io::Error::from(ErrorKind::PermissionDenied));
-        }
-        Ok(())
+fn refuse_unwritable(opened: &Opened) -> io::Result<()> {
+    let is_readonly = opened.file.metadata()?.permissions().readonly();
+    if is_readonly || !opened.is_written {
+        return Err(io::Error::from(ErrorKind::InvalidInput));
     }
+    Ok(())
 }
 
 /// Claims a name. `None` where the name leads to another file once the lock is had.
@@ -120,26 +111,25 @@ fn next_path<R: Files>(rt: &R, alloc: Global, link: &str) -> io::Result<String> 
 }
 
 /// Opens a plain file, for writing too where that is allowed, since some hosts lock no other. `None`
-/// where it cannot be opened; anything but a plain file is refused, and not opened.
+/// where it is missing or may not be opened; anything but a plain file is refused, and not opened.
 fn open_plain<R: Files<File = File>>(rt: &R, path: &str) -> io::Result<Option<Opened>> {
     match fs::symlink_metadata(rt, path) {
-        Ok(found) if found.is_file() => {}
-        Ok(_) => return Err(io::Error::from(ErrorKind::InvalidInput)),
+        Ok(found) => refuse_special(&found)?,
         Err(_) => return Ok(None),
     }
-    let is_written = true;
-    match OpenOptions::new().read(true).write(true).open(rt, path) {
-        Ok(file) => Ok(Some(Opened { file, is_written })),
-        Err(_) => Ok(open_for_reading(rt, path)),
+    match open_looked(rt, path) {
+        Ok(opened) => Ok(Some(opened)),
+        Err(error) if is_missing(&error) => Ok(None),
+        Err(error) => Err(error),
     }
 }
 
-fn open_for_reading<R: Files<File = File>>(rt: &R, path: &str) -> Option<Opened> {
-    let is_written = false;
-    match fs::open(rt, path) {
-        Ok(file) => Some(Opened { file, is_written }),
-        Err(_) => None,
-    }
+/// Whether an error says that there is no file, or none that may be opened.
+fn is_missing(error: &io::Error) -> bool {
+    matches!(
+        error.kind(),
+        ErrorKind::NotFound | ErrorKind::PermissionDenied
+    )
 }
 
 /// Opens what is left of a plain file at a name, if it can be.

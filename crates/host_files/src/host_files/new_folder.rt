@@ -1,4 +1,5 @@
 //! A folder of the host that is made whole.
+use super::folder_tree::FolderTree;
 use super::replacing::folder_of;
 use crate::names::new_name;
 use std::alloc::Global;
@@ -13,14 +14,19 @@ pub(super) struct NewFolder {
     name: String,
     path: String,
     new_path: String,
-    /// The folders in it that were made, and itself: each is brought to the disk at the end.
+    tree: FolderTree,
+    /// The ways to the folders in it that were made: each is brought to the disk at the end.
     folders: Vec<String>,
 }
 
 impl NewFolder {
     /// Makes the new folder. Refused where something stands at the name, and where something stands at that of
     /// the new folder, as what a program left that was killed: it is nobody's to remove but its owner's.
-    pub(super) fn begin<R: Files>(rt: &R, alloc: Global, name: &str) -> io::Result<NewFolder> {
+    pub(super) fn begin<R: Files<File = File>>(
+        rt: &R,
+        alloc: Global,
+        name: &str,
+    ) -> io::Result<NewFolder> {
         let path = String::from_str(alloc, name.trim_end_matches('/'))?;
         if path.is_empty() {
             return Err(io::Error::from(ErrorKind::AlreadyExists));
@@ -28,14 +34,13 @@ impl NewFolder {
         refuse_standing(rt, path.as_str())?;
         let new_path = new_name(alloc, path.as_str())?;
         let name = String::from_str(alloc, name)?;
-        let mut folders = Vec::new(alloc);
-        folders.push(new_path.clone()?)?;
-        fs::create_dir(rt, new_path.as_str())?;
+        let tree = make_tree(rt, alloc, new_path.as_str())?;
         Ok(NewFolder {
             name,
             path,
             new_path,
-            folders,
+            tree,
+            folders: Vec::new(alloc),
         })
     }
 
@@ -45,27 +50,27 @@ impl NewFolder {
     }
 
     /// Makes a folder in it.
-    pub(super) fn make_folder<R: Files>(
+    pub(super) fn make_folder<R: Files<File = File>>(
         &mut self,
         rt: &R,
         alloc: Global,
         way: &str,
     ) -> io::Result<()> {
-        let path = self.path_to(alloc, way)?;
+        let path = self.tree.path_to(rt, alloc, way)?;
         fs::create_dir(rt, path.as_str())?;
-        self.folders.push(path)?;
+        self.folders.push(String::from_str(alloc, way)?)?;
         Ok(())
     }
 
     /// Makes a file in it, and brings its bytes to the disk.
     pub(super) fn make_file<R: Files<File = File>>(
-        &self,
+        &mut self,
         rt: &R,
         alloc: Global,
         way: &str,
         bytes: &[u8],
     ) -> io::Result<()> {
-        let path = self.path_to(alloc, way)?;
+        let path = self.tree.path_to(rt, alloc, way)?;
         let mut options = OpenOptions::new();
         options.write(true).create_new(true);
         let mut file = options.open(rt, path.as_str())?;
@@ -73,27 +78,52 @@ impl NewFolder {
         file.sync_all()
     }
 
-    fn path_to(&self, alloc: Global, way: &str) -> io::Result<String> {
-        let mut path = self.new_path.clone()?;
-        path.push_str(way)?;
-        Ok(path)
-    }
-
     /// Brings all of it to the disk, gives it its name, and gives the folder that it stands in, which is not
-    /// yet brought to the disk. Refused where something stands at the name by then.
-    pub(super) fn finish<R: Files<File = File>>(&self, rt: &R) -> io::Result<File> {
-        for path in &self.folders {
-            fs::open(rt, path.as_str())?.sync_all()?;
+    /// yet brought to the disk. Refused where something stands at the name by then, or where something else
+    /// stood where it was made.
+    pub(super) fn finish<R: Files<File = File>>(
+        &mut self,
+        rt: &R,
+        alloc: Global,
+    ) -> io::Result<File> {
+        for way in &self.folders {
+            self.tree.sync(rt, alloc, way.as_str())?;
         }
+        self.tree.sync(rt, alloc, "")?;
         let folder = fs::open(rt, folder_of(self.path.as_str()))?;
         refuse_standing(rt, self.path.as_str())?;
+        if !self.stands(rt) {
+            return Err(io::Error::from(ErrorKind::NotFound));
+        }
         fs::rename(rt, self.new_path.as_str(), self.path.as_str())?;
+        if !self.tree.stands_at(rt, self.path.as_str()) {
+            return Err(io::Error::from(ErrorKind::NotFound));
+        }
         Ok(folder)
     }
 
-    /// Removes what was made, as far as the host lets it go.
+    /// Whether it stands where it was made.
+    fn stands<R: Files>(&self, rt: &R) -> bool {
+        self.tree.stands_at(rt, self.new_path.as_str())
+    }
+
+    /// Removes what was made, as far as the host lets it go, unless something else stands there by now.
     pub(super) fn remove<R: Files>(self, rt: &R, alloc: Global) {
-        let _ = rt.remove_dir_all(alloc, self.new_path.as_str());
+        if self.stands(rt) {
+            let _ = rt.remove_dir_all(alloc, self.new_path.as_str());
+        }
+    }
+}
+
+/// Makes a folder where there is none, and opens it. Where it cannot be opened it is removed again.
+fn make_tree<R: Files<File = File>>(rt: &R, alloc: Global, path: &str) -> io::Result<FolderTree> {
+    fs::create_dir(rt, path)?;
+    match FolderTree::open(rt, alloc, path) {
+        Ok(tree) => Ok(tree),
+        Err(error) => {
+            let _ = fs::remove_dir(rt, path);
+            Err(error)
+        }
     }
 }
 

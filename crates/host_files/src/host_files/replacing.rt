@@ -18,19 +18,26 @@ const PRIVATE_MODE: u32 = 0o600;
 
 /// Puts a file of these bytes in the place of a claimed one, and gives the folder, which is not yet
 /// brought to the disk. Where that fails the file stays as it was, as one does that may not be written.
+/// Where something was removed that stood at the name of the new file, its name is left in `removed`.
 pub(super) fn replace_file<R: Files<File = File>>(
     rt: &R,
     alloc: Global,
     claim: &Claim,
     bytes: &[u8],
+    removed: &mut Option<String>,
 ) -> io::Result<File> {
     claim.refuse_unwritable()?;
     let folder = fs::open(rt, folder_of(claim.path()))?;
     let new_path = new_name(alloc, claim.path())?;
-    let mut new_file = make_new(rt, claim, new_path.as_str())?;
+    let name = new_path.clone()?;
+    let made = make_new(rt, claim, new_path.as_str())?;
+    if made.is_instead {
+        *removed = Some(name);
+    }
+    let mut new_file = made.file;
     match fill_and_rename(rt, claim, &mut new_file, bytes, new_path.as_str()) {
         Ok(()) => Ok(folder),
-        Err(error) => Err(removed(rt, new_path.as_str(), error)),
+        Err(error) => Err(remove_new(rt, new_path.as_str(), error)),
     }
 }
 
@@ -42,17 +49,28 @@ pub(super) fn folder_of(path: &str) -> &str {
     }
 }
 
+/// A new file that is locked.
+#[derive(Drop)]
+struct Made {
+    file: File,
+    /// Whether something was removed that stood at its name.
+    is_instead: bool,
+}
+
 /// Makes the new file anew, and locks it. What stands at its name is removed first, and never written
 /// to; refused where that is a folder, or the new file of another program.
-fn make_new<R: Files<File = File>>(rt: &R, claim: &Claim, path: &str) -> io::Result<File> {
+fn make_new<R: Files<File = File>>(rt: &R, claim: &Claim, path: &str) -> io::Result<Made> {
     let mode = match claim.file() {
         Some(_) => PRIVATE_MODE,
         None => NEW_MODE,
     };
+    let mut is_instead = false;
     for _ in 0..MOST_TURNS {
-        remove_left(rt, path)?;
+        if remove_left(rt, path)? {
+            is_instead = true;
+        }
         if let Some(file) = make_once(rt, path, mode)? {
-            return Ok(file);
+            return Ok(Made { file, is_instead });
         }
     }
     Err(io::Error::from(ErrorKind::WouldBlock))
@@ -71,33 +89,35 @@ fn make_once<R: Files<File = File>>(rt: &R, path: &str, mode: u32) -> io::Result
         Ok(()) => {}
         // Another program has it already, which removes it.
         Err(TryLockError::WouldBlock) => return Ok(None),
-        Err(TryLockError::Error(error)) => return Err(removed(rt, path, error)),
+        Err(TryLockError::Error(error)) => return Err(remove_new(rt, path, error)),
     }
     match leads_to(rt, path, &file) {
         Ok(true) => Ok(Some(file)),
         Ok(false) => Ok(None),
-        Err(error) => Err(removed(rt, path, error)),
+        Err(error) => Err(remove_new(rt, path, error)),
     }
 }
 
 /// Removes the new file, for which an error came.
-fn removed<R: Files>(rt: &R, path: &str, error: io::Error) -> io::Error {
+fn remove_new<R: Files>(rt: &R, path: &str, error: io::Error) -> io::Error {
     let _ = fs::remove_file(rt, path);
     error
 }
 
-/// Removes what stands at the name of the new file, unless another program has it.
-fn remove_left<R: Files<File = File>>(rt: &R, path: &str) -> io::Result<()> {
+/// Removes what stands at the name of the new file, unless another program has it, and answers whether
+/// there was something.
+fn remove_left<R: Files<File = File>>(rt: &R, path: &str) -> io::Result<bool> {
     let left = open_left(rt, path);
     if let Some(file) = &left {
         file.try_lock()?;
         if !leads_to(rt, path, file)? {
-            return Ok(());
+            return Ok(false);
         }
     }
     match fs::remove_file(rt, path) {
-        Err(error) if error.kind() == ErrorKind::NotFound => Ok(()),
-        done => done,
+        Ok(()) => Ok(true),
+        Err(error) if error.kind() == ErrorKind::NotFound => Ok(false),
+        Err(error) => Err(error),
     }
 }
 

@@ -1,4 +1,5 @@
 use Rattle.std.proofs.Common.{inl, inr, refl}
+use Rattle.host_files.specs.Files.{ReadsBeside}
 use Rattle.create_jobs.proofs.CreationLemmas.{ungathered, created}
 use Rattle.create_jobs.proofs.creating.create_image.Goals as goal
 
@@ -13,7 +14,7 @@ returns-in-Err-clause-ends g c =
 
 pub returns-in-Ok-claim-clause-ends : goal.returns-in-Ok-claim-clause-ends
 returns-in-Ok-claim-clause-ends g c =
-    created c.args.creation.image c.args.creation.skip_links c.args.name.now (g.F.Sources.gathered c.args.files.now c.args.creation.folder.now c.args.name.now) c.root.result c.in-Ok.batch
+    created c.args.creation.image c.args.creation.skip_links c.args.name.now (ReadsBeside g.F.ImageFiles.claims g.F.ImageFiles.reads_source c.args.name.now) (g.F.Sources.gathered c.args.files.now c.args.creation.folder.now c.args.name.now) c.root.result c.in-Ok.batch
     (g.F.ImageFiles.held c.args.files.now) (g.F.ImageFiles.held c.claim.new.files) (g.F.ImageFiles.held c.make_image.new.files) c.make_image.result
     c.root.ensures c.claim.ensures.same c.in-Ok.ensures.ok c.in-Ok.ensures.others c.make_image.ensures.ends
 

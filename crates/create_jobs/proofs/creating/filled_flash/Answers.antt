@@ -2,6 +2,7 @@ use Rattle.std.proofs.Common.{◌≡◌, ◌∙◌, List, [], map, ap, inl, subs
 use Rattle.flash_model.specs.declared.geometry.Geometry.{Geometry}
 use Rattle.host_files.specs.declared.source.Source.{Source}
 use Rattle.std.proofs.lemmas.Result.{IfOk-weaker, IfErr-weaker}
+use Rattle.host_files.specs.Files.{readings_of}
 use Rattle.host_files.specs.Sources.{source_found}
 use Rattle.image_jobs.specs.Images.{FormatFailure}
 use Rattle.put_jobs.proofs.FlashLemmas.{puts_on, cause_on}
@@ -16,7 +17,7 @@ returns-in-Ok-clause-ok g c =
     let sizes : c.sizes_of-sizes.result ≡ sizes_of c.args.image all = c.sizes_of-sizes.ensures ∙ ap (λ (x : List Source). sizes_of c.args.image (map source_found x)) c.deref.ensures.value in
     let made = subst (λ (x : Geometry). IsMade x c.args.image.history c.in-Ok.flash) sizes c.in-Ok.ensures.ok in
     IfOk-weaker c.put_on_flash.result _ _
-    (λ end puts. (c.in-Ok.flash, puts_on there c.in-Ok.flash made [] (g.F.ImageFiles.held c.args.files.now) c.args.batch.now.base all c.in-Ok.flash end puts)) c.put_on_flash.ensures.ok
+    (λ end puts. (c.in-Ok.flash, puts_on there c.in-Ok.flash made [] (readings_of (g.F.ImageFiles.held c.args.files.now) (g.F.ImageFiles.reads_source c.args.files.now)) c.args.batch.now.base all c.in-Ok.flash end puts)) c.put_on_flash.ensures.ok
 
 pub returns-in-Ok-clause-err : goal.returns-in-Ok-clause-err
 returns-in-Ok-clause-err g c =
@@ -25,7 +26,7 @@ returns-in-Ok-clause-err g c =
     let sizes : c.sizes_of-sizes.result ≡ sizes_of c.args.image all = c.sizes_of-sizes.ensures ∙ ap (λ (x : List Source). sizes_of c.args.image (map source_found x)) c.deref.ensures.value in
     let made = subst (λ (x : Geometry). IsMade x c.args.image.history c.in-Ok.flash) sizes c.in-Ok.ensures.ok in
     IfErr-weaker c.put_on_flash.result _ _
-    (λ failure cause. cause_on there (FormatFailure (sizes_of c.args.image all) c.args.image.history) c.in-Ok.flash made [] (g.F.ImageFiles.held c.args.files.now) c.args.batch.now.base all failure cause) c.put_on_flash.ensures.err
+    (λ failure cause. cause_on there (FormatFailure (sizes_of c.args.image all) c.args.image.history) c.in-Ok.flash made [] (readings_of (g.F.ImageFiles.held c.args.files.now) (g.F.ImageFiles.reads_source c.args.files.now)) c.args.batch.now.base all failure cause) c.put_on_flash.ensures.err
 
 pub returns-in-Err-clause-err : goal.returns-in-Err-clause-err
 returns-in-Err-clause-err g c =

@@ -1,6 +1,6 @@
 use Rattle.std.proofs.Common.{◌∙◌, sym, subst}
 use Rattle.host_files.specs.Files.{ReadsClaimed}
-use Rattle.image_jobs.proofs.ImageLemmas.{front_same, run_saved, run_broken, run_untaken}
+use Rattle.image_jobs.proofs.ImageLemmas.{front_same, run_saved, run_broken, run_untaken, synced_since}
 use Rattle.image_jobs.proofs.images.run_image.Goals as goal
 
 pub save_changed-requires-clause-read : goal.save_changed-requires-clause-read
@@ -29,3 +29,8 @@ returns-clause-ends g c =
     (g.R.Read.remaining c.args.reader.now) (g.R.Read.remaining c.play.new.reader) c.in-Err-play.failure
     (g.W.Write.contents c.args.out.now) (g.W.Write.contents c.play.new.out)
     c.in-Ok.ensures.same front c.in-Err-play.ensures
+
+pub returns-in-Ok-play-clause-synced : goal.returns-in-Ok-play-clause-synced
+returns-in-Ok-play-clause-synced g c =
+    synced_since (g.F.ImageFiles.held c.args.files.now) (g.F.ImageFiles.held c.take_image.new.files) (g.F.ImageFiles.held c.save_changed.new.files) (g.F.ImageFiles.synced c.save_changed.new.files c.args.name.now) c.save_changed.result
+    c.in-Ok.ensures.same c.save_changed.ensures.synced

@@ -8,14 +8,14 @@ returns-in_err-image-clause-none c =
     rw c.from_residual-in_err-image.ensures (image_unsaid c.args.matches.now c.in_ok-name.name.now (rows_of (found_of c.in_ok-name.given.now)) c.in_ok-command.command c.in_ok-name.ensures.name c.in_ok-name.ensures.rows
     (sym c.task_asked.ensures ∙ c.in_ok-command.was) c.in_err-image.ensures.none)
 
-pub returns-in_err-page-clause-none : goal.returns-in_err-page-clause-none
-returns-in_err-page-clause-none c =
-    rw c.from_residual-in_err-page.ensures (none_said c.args.matches.now c.in_ok-name.name.now (rows_of (found_of c.in_ok-name.given.now)) c.in_ok-command.command c.in_ok-name.ensures.name c.in_ok-name.ensures.rows
-    (sym c.task_asked.ensures ∙ c.in_ok-command.was) c.in_err-page.ensures.none)
+pub returns-in_err-numbers-clause-none : goal.returns-in_err-numbers-clause-none
+returns-in_err-numbers-clause-none c =
+    rw c.from_residual-in_err-numbers.ensures (none_said c.args.matches.now c.in_ok-name.name.now (rows_of (found_of c.in_ok-name.given.now)) c.in_ok-command.command c.in_ok-name.ensures.name c.in_ok-name.ensures.rows
+    (sym c.task_asked.ensures ∙ c.in_ok-command.was) c.in_err-numbers.ensures.none)
 
 pub returns-clause-some : goal.returns-clause-some
 returns-clause-some c =
-    let numbers = c.in_ok-page.ensures.some in
+    let numbers = c.in_ok-numbers.ensures.some in
     job_said c.args.matches.now c.in_ok-name.name.now (rows_of (found_of c.in_ok-name.given.now)) _ c.in_ok-name.ensures.name c.in_ok-name.ensures.rows (record {
       command = sym c.task_asked.ensures ∙ c.in_ok-command.was;
       image = c.in_ok-image.ensures.some;
@@ -39,6 +39,8 @@ returns-clause-some c =
       file = c.word-7.ensures;
       view = c.word-8.ensures;
       other = c.word-9.ensures;
+      serial = c.word-10.ensures;
+      word = c.word-11.ensures;
       progress = c.has_flag-3.ensures;
       mirror = c.has_flag-4.ensures;
       skip_links = c.has_flag-5.ensures;

@@ -1,5 +1,5 @@
 use Rattle.std.proofs.Common.{inl, inr, refl, subst}
-use Rattle.host_files.specs.Files.{ReadsClaimed}
+use Rattle.host_files.specs.Files.{ReadsClaimed, ReadsBeside}
 use Rattle.put_jobs.proofs.BatchLemmas.{asked_ends}
 use Rattle.put_jobs.proofs.PutLemmas.{unspelled, unplaced}
 use Rattle.put_jobs.specs.Mirrors.{wants_folder}
@@ -29,5 +29,5 @@ returns-in-Err-gather-clause-ends g c =
 pub returns-clause-ends : goal.returns-clause-ends
 returns-clause-ends g c =
     let order = c.args.order in
-    asked_ends order.mirror order.skip_links c.args.name.now order.path.now (ReadsClaimed g.F.ImageFiles.claims g.F.ImageFiles.reads c.args.name.now) (g.F.Sources.gathered c.args.files.now order.file.now c.args.name.now) c.in-Ok.base
+    asked_ends order.mirror order.skip_links c.args.name.now order.path.now (ReadsClaimed g.F.ImageFiles.claims g.F.ImageFiles.reads c.args.name.now) (ReadsBeside g.F.ImageFiles.claims g.F.ImageFiles.reads_source c.args.name.now) (g.F.Sources.gathered c.args.files.now order.file.now c.args.name.now) c.in-Ok.base
     c.in-Ok-gather.batch (g.F.ImageFiles.held c.args.files.now) (g.F.ImageFiles.held c.put_sources.new.files) c.put_sources.result c.in-Ok.ensures.ok c.in-Ok-gather.ensures.ok c.in-Ok-gather.ensures.others c.put_sources.ensures.ends

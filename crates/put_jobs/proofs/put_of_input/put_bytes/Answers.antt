@@ -1,6 +1,6 @@
 use Rattle.std.proofs.Common.{◌∙◌, sym, subst}
 use Rattle.host_files.specs.Files.{ReadsClaimed}
-use Rattle.image_jobs.proofs.ImageLemmas.{front_same}
+use Rattle.image_jobs.proofs.ImageLemmas.{front_same, synced_since}
 use Rattle.put_jobs.specs.Inputs.{written}
 use Rattle.put_jobs.proofs.GroupLemmas.{events_untaken, events_undone, events_saved}
 use Rattle.put_jobs.proofs.put_of_input.put_bytes.Goals as goal
@@ -28,3 +28,8 @@ returns-clause-ends g c =
     let front = front_same (claimed c.args.name.now) c.in-Ok.image.items c.deref.result.now c.deref.ensures.value c.in-Ok.ensures.ok in
     events_undone c.args.name.now (ReadsClaimed g.F.ImageFiles.claims g.F.ImageFiles.reads c.args.name.now) (written c.args.path c.args.bytes) (g.F.ImageFiles.held c.args.files.now) claimed c.deref.result.now c.in-Err-write_on.failure
     c.in-Ok.ensures.same front c.in-Err-write_on.ensures.err
+
+pub returns-in-Ok-write_on-clause-synced : goal.returns-in-Ok-write_on-clause-synced
+returns-in-Ok-write_on-clause-synced g c =
+    synced_since (g.F.ImageFiles.held c.args.files.now) (g.F.ImageFiles.held c.take_image.new.files) (g.F.ImageFiles.held c.save_changed.new.files) (g.F.ImageFiles.synced c.save_changed.new.files c.args.name.now) c.save_changed.result
+    c.in-Ok.ensures.same c.save_changed.ensures.synced

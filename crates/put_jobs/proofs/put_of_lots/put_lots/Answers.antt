@@ -1,6 +1,6 @@
 use Rattle.std.proofs.Common.{◌∙◌, sym, subst}
 use Rattle.host_files.specs.Files.{ReadsClaimed}
-use Rattle.image_jobs.proofs.ImageLemmas.{front_same}
+use Rattle.image_jobs.proofs.ImageLemmas.{front_same, synced_since}
 use Rattle.std.specs.List.{flat_map}
 use Rattle.put_lots.specs.Things.{thing_events}
 use Rattle.put_jobs.proofs.GroupLemmas.{events_untaken, events_undone, events_saved}
@@ -29,3 +29,8 @@ returns-clause-ends g c =
     let front = front_same (claimed c.args.name.now) c.in-Ok.image.items c.deref.result.now c.deref.ensures.value c.in-Ok.ensures.ok in
     events_undone c.args.name.now (ReadsClaimed g.F.ImageFiles.claims g.F.ImageFiles.reads c.args.name.now) (flat_map thing_events c.args.lots.items) (g.F.ImageFiles.held c.args.files.now) claimed c.deref.result.now c.in-Err-put_lots_on.failure
     c.in-Ok.ensures.same front c.in-Err-put_lots_on.ensures.err
+
+pub returns-in-Ok-put_lots_on-clause-synced : goal.returns-in-Ok-put_lots_on-clause-synced
+returns-in-Ok-put_lots_on-clause-synced g c =
+    synced_since (g.F.ImageFiles.held c.args.files.now) (g.F.ImageFiles.held c.take_image.new.files) (g.F.ImageFiles.held c.save_changed.new.files) (g.F.ImageFiles.synced c.save_changed.new.files c.args.name.now) c.save_changed.result
+    c.in-Ok.ensures.same c.save_changed.ensures.synced

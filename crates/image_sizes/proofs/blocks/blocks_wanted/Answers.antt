@@ -2,7 +2,7 @@ use Rattle.std.proofs.Common.{◌≡◌, ◌+◌, ◌-◌, ◌*◌, ◌^◌, ◌
 use Rattle.host_files.specs.Sources.{source_found}
 use Rattle.image_sizes.specs.Blocks as spec
 use Rattle.image_sizes.proofs.Steps.{capped_times}
-use Rattle.image_sizes.proofs.blocks.blocks_for.Goals as goal
+use Rattle.image_sizes.proofs.blocks.blocks_wanted.Goals as goal
 
 -- twice what is told up to a greatest number, and more
 capped : (tree_told tree changes_told changes data_told told top : ℕ) → tree_told ≡ min tree top → changes_told ≡ min changes top

@@ -7,10 +7,12 @@ that are no UTF-8, links that come in between, and a full disk. docs/tests_of_th
 PROGRAM is crates/uffs/out/uffs, as `rt run` builds it there. Each case is a line `ok` or `WRONG` with its name
 and what was found; the status is the number of the wrong ones. All files stand in a new folder that is removed
 again. The full disk is a small file system in memory, for which the caller has to be the superuser; else that
-case is told as not tried. The cases of tools/host_cases.py see the calls to the host and make some fail, by a
-library that is built of tools/host_shim.c. Where there is no C compiler they are told as not tried.
+case is told as not tried. The cases of tools/host_cases.py and tools/host_between.py see the calls to the host,
+make some fail, and put something else in the place of what was looked at, by a library that is built of
+tools/host_shim.c. Where there is no C compiler they are told as not tried.
 """
 import os
+import random
 import resource
 import shutil
 import signal
@@ -20,6 +22,7 @@ import tempfile
 from concurrent import futures
 
 import check_kills
+import host_between
 import host_calls
 import host_cases
 from host_calls import Wrong
@@ -113,7 +116,8 @@ def unwritable(program, folder):
         kept.write(b"kept")
     script = b"mkdir /a\nundo\nls /\nredo\nls /\n"
     replies = b"ok\nok\nentries 0\nok\nentries 1 a/\n"
-    want(run(program, ["run", image], script), (1, replies, f"uffs: cannot write {image}\n".encode()))
+    told = f"uffs: cannot write {image}: {image}.new is in the way, remove it\n".encode()
+    want(run(program, ["run", image], script), (1, replies, told))
     want((read(image), read(beside)), (before, b"kept"))
 
 
@@ -124,7 +128,7 @@ def limited(program, folder):
     def limit():
         signal.signal(signal.SIGXFSZ, signal.SIG_IGN)
         resource.setrlimit(resource.RLIMIT_FSIZE, (100, 100))
-    told = f"uffs: cannot write {image}\n".encode()
+    told = f"uffs: cannot write {image}: it would be too large for the host\n".encode()
     want(run(program, ["run", image], SCRIPT, preexec_fn=limit, restore_signals=False), (1, b"ok\nok\n", told))
     want((read(image), os.listdir(folder)), (before, ["image"]))
 
@@ -140,7 +144,7 @@ def fifos(program, folder):
     fifo = os.path.join(folder, "fifo")
     os.mkfifo(fifo)
     for name in (fifo, "/dev/null", "/dev/zero"):
-        told = f"uffs: cannot write {name}\n".encode()
+        told = f"uffs: cannot write {name}: it is neither a folder nor a plain file\n".encode()
         want(run(program, ["run", name], SCRIPT), (1, b"", told))
         want(run(program, ["format", name]), (1, b"", told))
         told = f"uffs: cannot read {name}: it is neither a folder nor a plain file\n".encode()
@@ -154,7 +158,7 @@ def in_use(program, folder):
     first.stdin.write(SCRIPT)
     first.stdin.flush()
     want(first.stdout.readline() + first.stdout.readline(), b"ok\nok\n")
-    told = f"uffs: cannot write {image}\n".encode()
+    told = f"uffs: cannot write {image}: another program has it\n".encode()
     want(run(program, ["run", image], SCRIPT), (1, b"", told))
     want(run(program, ["format", image]), (1, b"", told))
     want(run(program, ["undo", image]), (1, b"", told))
@@ -180,7 +184,7 @@ def full_disk(program, folder):
                     rest.write(b"x" * 4096)
             except OSError:
                 pass
-        told = f"uffs: cannot write {image}\n".encode()
+        told = f"uffs: cannot write {image}: the disk is full\n".encode()
         want(run(program, ["run", image], SCRIPT), (1, b"ok\nok\n", told))
         want((read(image), sorted(os.listdir(disk))), (before, ["image", "rest"]))
     finally:
@@ -208,13 +212,15 @@ def dash(program, folder):
 
 
 def about(program, folder):
-    """`version` writes to the output what `--version` tells, and `help` what can be asked for."""
+    """`version` writes to the output what `--version` tells, `help` what can be asked for, and with a word what `--help` tells of it."""
     for word in ("help", "version"):
         status, out, told = run(program, ["--" + word])
         want((status, out), (2, b""))
         printed = run(program, [word])
         begin = told if word == "version" else told.split(b"\n")[0]
         want((printed[0], printed[1].startswith(begin), printed[2]), (0, True, b""))
+    for word in ("put", "goto", "help"):
+        want(run(program, ["help", word]), (0, run(program, [word, "--help"])[2], b""))
 
 
 def same_folder(program, folder):
@@ -237,10 +243,26 @@ def same_folder(program, folder):
     want([it == images[0] for it in images], [True] * 4)
 
 
+def large_folder(program, folder):
+    """A folder of 54,525,952 bytes becomes an image with no number of blocks worked out, and comes out as it was."""
+    source, image, got = (os.path.join(folder, name) for name in ("source", "image", "got"))
+    for number in range(4):
+        os.makedirs(os.path.join(source, "ab"[number % 2]), exist_ok=True)
+        with open(os.path.join(source, "ab"[number % 2], f"file{number}"), "wb") as file:
+            file.write(random.Random(number).randbytes(13 << 20))
+    told = b"uffs: 16384 blocks of 16 pages of 256 bytes\nuffs: room for 0 changes of the largest file, not for --history 8\n"
+    want(run(program, ["create", image, source]), (0, b"", told))
+    want(run(program, ["get", image, "/", got]), (0, b"", b""))
+    want(subprocess.run(["diff", "-r", source, got], check=False).returncode, 0)
+
+
 CASES = [
     closed_output, closed_errors, closed_input, all_closed, unwritable, limited, not_utf8, fifos, in_use, full_disk, full_output,
-    dash, about, same_folder,
+    dash, about, same_folder, large_folder,
 ]
+
+# Those in which the calls to the host are seen.
+WATCHED = host_cases.CASES + host_between.CASES
 
 
 def try_case(case, program):
@@ -259,7 +281,7 @@ def try_case(case, program):
 
 def try_all(program, names):
     """How many cases are wrong: those of these names, or all. Those that another program may be asked beside go side by side."""
-    alone, beside = ([it for it in cases if not names or it.__name__ in names] for cases in (CASES, host_cases.CASES))
+    alone, beside = ([it for it in cases if not names or it.__name__ in names] for cases in (CASES, WATCHED))
     if len(alone) + len(beside) < len(names):
         sys.exit(f"no such case among {' '.join(names)}")
     wrong = sum(not try_case(case, program) for case in alone)

@@ -106,6 +106,7 @@ def words_of(folder):
         ("get of a folder", ["get", image, "/old", out], b"", out),
         ("map --html", ["map", image, "--html", got], b"", got),
         ("undo", ["undo", image], b"", image),
+        ("goto", ["goto", image, "2"], b"", image),
         ("checkpoint", ["checkpoint", image, "kept"], b"", image),
         ("forget", ["forget", image, "1"], b"", image),
         ("to-part", ["to-part", image, part], b"", part),

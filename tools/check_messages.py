@@ -96,7 +96,7 @@ def wanted_lines():
     for path, text in sources().items():
         if re.search(r"/crates/\w+_tests/", path):
             yield text
-    for path in [*glob.glob(f"{TOP}/tools/check_*.py"), *glob.glob(f"{TOP}/tools/c/*.sh"), *glob.glob(f"{TOP}/tools/python/*.py")]:
+    for path in [*glob.glob(f"{TOP}/tools/check_*.py"), *glob.glob(f"{TOP}/tools/host_*.py"), *glob.glob(f"{TOP}/tools/c/*.sh"), *glob.glob(f"{TOP}/tools/python/*.py")]:
         if path != os.path.abspath(__file__):
             yield read(path)
 

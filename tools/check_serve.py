@@ -264,7 +264,7 @@ def a_part_in_use_is_refused(program):
         name = made(program, folder)
         child = PlacedChild(program, name)
         want(child.ask("mkdir /a"), "ok")
-        want(PlacedChild(program, name).end(), (1, f"uffs: cannot write {name}\n"))
+        want(PlacedChild(program, name).end(), (1, f"uffs: cannot write {name}: another program has it\n"))
         for words in [["format", "--part", name], ["from-part", name, name + ".image"]]:
             want(subprocess.run([program, *words], stderr=subprocess.DEVNULL).returncode, 1)
         want(child.ask("sync"), "ok")

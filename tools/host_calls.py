@@ -69,16 +69,17 @@ def new_log():
     return name
 
 
-def environment(plan, log):
-    """The environment of a program that is watched, with what the host does."""
-    return {**os.environ, "LD_PRELOAD": Shim.library, "HOST_SHIM_LOG": log, "HOST_SHIM_PLAN": plan}
+def environment(plan, log, swap=()):
+    """The environment of a program that is watched, with what the host does, and the two names that change places."""
+    return {**os.environ, "LD_PRELOAD": Shim.library, "HOST_SHIM_LOG": log, "HOST_SHIM_PLAN": plan, "HOST_SHIM_SWAP": " ".join(swap)}
 
 
-def watched(program, words, plan="", given=b"", **how):
-    """Runs a program to its end, with bytes or an open file on its input."""
+def watched(program, words, plan="", given=b"", swap=(), output=subprocess.PIPE, longest=LONGEST, **how):
+    """Runs a program to its end, with bytes or an open file on its input, and its output kept or written to an open file."""
     log = new_log()
     source = {"input": given} if isinstance(given, bytes) else {"stdin": given}
-    done = subprocess.run([program, *words], **source, env=environment(plan, log), capture_output=True, check=False, timeout=LONGEST, **how)
+    streams = {**source, "stdout": output, "stderr": subprocess.PIPE}
+    done = subprocess.run([program, *words], **streams, env=environment(plan, log, swap), check=False, timeout=longest, **how)
     return Done(done.returncode, done.stdout, done.stderr, log)
 
 

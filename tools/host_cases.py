@@ -13,6 +13,7 @@ CREATED, EXCLUSIVE = os.O_CREAT, os.O_EXCL
 # Of these words each call fails, of the others those that decide.
 THOROUGH = ["run", "get", "get of a folder", "create", "format --part"]
 CHANGING = ["open", "write", "pwrite", "fsync", "fdatasync", "fchmod", "flock", "rename", "mkdir", "unlink"]
+IN_USE = "another program has it"
 NO_OTHER_USER = "not tried: the superuser may become no other user"
 PART_HEAD, PAGE, PAGES, BLOCKS = 4096, 256, 16, 32
 FIRST_PAGE = PART_HEAD + 4096
@@ -164,7 +165,8 @@ def each_call_fails(program, folder):
             is_last = call.name == "fsync" and call.path == os.path.dirname(file)
             where = f"{name}, {plan}"
             want(done.status, 1, where)
-            told = [f"uffs: cannot {it} {file}".encode() for it in (["write", "read"] if call.name == "open" else ["write"])]
+            why = ": the disk is full" if "ENOSPC" in plan else ""
+            told = [f"uffs: cannot {it} {file}{why}".encode() for it in (["write", "read"] if call.name == "open" else ["write"])]
             holds(done.err.splitlines()[-1:] in [[it] for it in told], f"{where}: {done.err!r}")
             holds(check_kills.read(file) == (after if is_last else before), f"{where}: {file} is another one")
             want(os.path.lexists(file + ".new"), False, f"{where}: a new file is left")
@@ -217,7 +219,7 @@ def output_fails(program, folder):
 
 
 def reading_writes_nothing(program, folder):
-    """Words that only read an image open it for reading alone, take no lock and change nothing."""
+    """Words that only read an image make and empty no file, take no lock and write to none."""
     begin(program, folder)
     image = os.path.join(folder, "image")
     words = [["get", image, "/x/y", "-"], ["put", image, os.path.join(folder, "source"), "/old"], ["to-part", image, os.path.join(folder, "p")]]
@@ -227,7 +229,7 @@ def reading_writes_nothing(program, folder):
         calls = run(program, word).calls
         holds(any(call.name == "open" and call.path == image for call in calls), f"{word[0]}: it does not open the image")
         for call in calls:
-            is_look = call.name == "open" and flags(call) & (os.O_ACCMODE | CREATED | os.O_TRUNC) == os.O_RDONLY
+            is_look = call.name == "open" and flags(call) & (CREATED | os.O_TRUNC) == 0
             is_told = call.name == "write" and not call.path.startswith(folder)
             holds(is_look or is_told, f"{word[0]}: {call}")
 
@@ -396,14 +398,14 @@ def at_the_name_itself(program, folder):
     run(program, ["format", image, "--blocks", "64"])
     run(program, ["put", image, source, "/"])
     before = read(image)
-    told = f"uffs: cannot write {out}\n".encode()
-    for link in (out, out + ".new"):
+    for link, why in ((out, "something stands there"), (out + ".new", f"{out}.new is in the way, remove it")):
         os.symlink("nothing", link)
+        told = f"uffs: cannot write {out}: {why}\n".encode()
         want(watched(program, ["get", image, "/", out]).told(), (1, b"", told), f"{link} is a link")
         want((os.readlink(link), sorted(os.listdir(folder))), ("nothing", sorted(["image", "source", os.path.basename(link)])))
         os.remove(link)
     os.symlink("nothing", out + ".new")
-    want(watched(program, ["get", image, "/f", out]).told(), (0, b"", b""))
+    want(watched(program, ["get", image, "/f", out]).told(), (0, b"", f"uffs: removed {out}.new\n".encode()))
     want((read(out), sorted(os.listdir(folder))), (b"kept", ["image", "out", "source"]))
     for target in ("nothing", "f", "."):
         os.symlink(target, os.path.join(source, "link"))
@@ -426,7 +428,7 @@ def another_run_between(program, folder):
         run(program, ["run", image], "", b"mkdir /third\nsync\n")
         with open(image, "rb") as held:
             fcntl.flock(held, fcntl.LOCK_EX)
-            want(last.go_on().told(), (1, b"", f"uffs: cannot write {image}\n".encode()))
+            want(last.go_on().told(), (1, b"", f"uffs: cannot write {image}: {IN_USE}\n".encode()))
 
 
 def link_in_between(program, folder):
@@ -446,7 +448,7 @@ def link_in_between(program, folder):
 def file_in_between(program, folder):
     """A file or a link that another program makes while a new one is written is not replaced."""
     image = os.path.join(folder, "image")
-    told = (1, b"", f"uffs: cannot write {image}\n".encode())
+    told = (1, b"", f"uffs: cannot write {image}: something stands there\n".encode())
     with Stopped(program, ["format", image], f"write {image}.new 1 1") as made:
         write(image, b"another's")
         want(made.go_on().told(), told)
@@ -462,7 +464,7 @@ def two_make_one(program, folder):
     """While a program writes the new file of a name, another one is refused and leaves it."""
     image = os.path.join(folder, "image")
     with Stopped(program, ["format", image], f"fsync {image}.new 1 1") as first:
-        want(watched(program, ["format", image, "--blocks", "64"]).told(), (1, b"", f"uffs: cannot write {image}\n".encode()))
+        want(watched(program, ["format", image, "--blocks", "64"]).told(), (1, b"", f"uffs: cannot write {image}: {IN_USE}\n".encode()))
         want(first.go_on().told(), (0, b"", b""))
     want((os.path.getsize(image), os.listdir(folder)), (20 + 32 * 17 + 2 * 256, ["image"]))
 
@@ -475,7 +477,7 @@ def folder_in_between(program, folder):
     with Stopped(program, ["get", image, "/", out], f"fsync {out}.new 1 1") as got:
         os.mkdir(out)
         number = os.stat(out).st_ino
-        want(got.go_on().told(), (1, b"", f"uffs: cannot write {out}\n".encode()))
+        want(got.go_on().told(), (1, b"", f"uffs: cannot write {out}: something stands there\n".encode()))
     want((os.stat(out).st_ino, sorted(os.listdir(folder))), (number, ["image", "out"]))
 
 
@@ -584,13 +586,19 @@ def another_users_file(program, folder):
     run(program, ["format", image])
     run(program, ["run", image], "", b"write /f 6b657074\nsync\n")
     os.chmod(image, 0o644)
-    before, told = read(image), f"uffs: cannot write {image}\n".encode()
+    before, told = read(image), f"uffs: cannot write {image}: it may not be written\n".encode()
     for words, out in ((["format", image], b""), (["undo", image], b""), (["run", image], b"ok\nok\n"), (["put", image, "-", "/g"], b"")):
         want(watched(other, words, "", b"mkdir /a\nsync\n", **user).told(), (1, out, told), words[0])
         want((read(image), os.stat(image).st_uid, os.path.lexists(image + ".new")), (before, 0, False), words[0])
     want(watched(other, ["run", image], "", b"ls /\n", **user).told(), (0, b"entries 1 f\n", b""))
     want(watched(other, ["get", image, "/f", got], **user).told(), (0, b"", b""))
     want((read(got), os.stat(got).st_uid), (b"kept", 65534))
+    image = os.path.join(folder, "closed", "image")
+    os.mkdir(os.path.dirname(image), 0o755)
+    run(program, ["format", image])
+    os.chmod(image, 0o666)
+    before, told = read(image), f"uffs: cannot write {image}: its folder may not be written\n".encode()
+    want((watched(other, ["format", image], **user).told(), read(image) == before), ((1, b"", told), True))
     return None
 
 

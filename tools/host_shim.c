@@ -10,9 +10,12 @@
  *
  * A rule is CALL END FIRST LAST ACT. It holds of those calls of that name whose path ends with END, or of all for `*`,
  * counted from 1, from FIRST to LAST. The first rule that holds counts; rules of a wrong program come before others.
+ * A path below an open folder, as /proc/self/fd/5/a, is taken as below the name that the folder has, and none has a
+ * slash at its end.
  *
- * In a plan ACT is an error, as EIO, with which the call fails; `short`, where half of the bytes are moved; or `stop`,
- * where the process is stopped before the call until it is continued.
+ * In a plan ACT is an error, as EIO, with which the call fails; `short`, where half of the bytes are moved; `stop`,
+ * where the process is stopped before the call until it is continued; or `swap`, where the two names of HOST_SHIM_SWAP,
+ * with a space between them, change places before the call, which is told as a call of its own.
  * Of a wrong program ACT is one of these:
  *   lost           it does not make the call, and goes on
  *   deaf           it makes the call, and goes on as if all of it were done
@@ -22,6 +25,7 @@
  *   mode           it makes the file with the mode 0666
  *   follow         it follows a link where it looks at a name
  *   same           it knows of a name what the first look told
+ *   other          it takes what it looks at for another file
  *   hidden, bytes  it passes over the names in a folder that begin with a dot, or that have a byte over 127 */
 #define _GNU_SOURCE
 #include <dirent.h>
@@ -42,7 +46,7 @@
 
 enum { MOST_RULES = 32, MOST_TOLD = 1024, FIRST_OWN = 500 };
 
-enum act { NONE, FAIL, SHORT, STOP, LOST, DEAF, CUT, MAKE, EMPTY, WEAK, MODE, FOLLOW, SAME, HIDDEN, BYTES };
+enum act { NONE, FAIL, SHORT, STOP, SWAP, LOST, DEAF, CUT, MAKE, EMPTY, WEAK, MODE, FOLLOW, SAME, OTHER, HIDDEN, BYTES };
 
 struct rule {
     char call[16], end[256];
@@ -70,8 +74,8 @@ static const struct {
     const char *name;
     enum act act;
 } ACTS[] = {
-    {"short", SHORT}, {"stop", STOP}, {"lost", LOST}, {"deaf", DEAF}, {"make", MAKE}, {"empty", EMPTY}, {"weak", WEAK},
-    {"mode", MODE}, {"follow", FOLLOW}, {"same", SAME}, {"hidden", HIDDEN}, {"bytes", BYTES},
+    {"short", SHORT}, {"stop", STOP}, {"swap", SWAP}, {"lost", LOST}, {"deaf", DEAF}, {"make", MAKE}, {"empty", EMPTY},
+    {"weak", WEAK}, {"mode", MODE}, {"follow", FOLLOW}, {"same", SAME}, {"other", OTHER}, {"hidden", HIDDEN}, {"bytes", BYTES},
 };
 
 static const struct {
@@ -154,27 +158,6 @@ static const struct rule *find(struct rules *rules, const char *call, const char
     return found;
 }
 
-/* What happens in this call. It is where the process is stopped. */
-static struct ruling judge(const char *call, const char *path)
-{
-    struct ruling ruling = {NONE, NONE, 0, 0};
-    const struct rule *twin = find(&twins, call, path);
-    if (twin) {
-        ruling.twin = twin->act;
-        ruling.size = twin->number;
-        if (twin->act == LOST)
-            return ruling;
-    }
-    const struct rule *plan = find(&plans, call, path);
-    if (!plan)
-        return ruling;
-    ruling.plan = plan->act;
-    ruling.error = plan->act == FAIL ? (int)plan->number : 0;
-    if (plan->act == STOP)
-        raise(SIGSTOP);
-    return ruling;
-}
-
 /* The path of an open file. */
 static void name_of(int file, char path[PATH_MAX])
 {
@@ -184,9 +167,25 @@ static void name_of(int file, char path[PATH_MAX])
     path[has < 0 ? 0 : has] = '\0';
 }
 
+/* The path by the name of the open folder that it begins with, if it does with one, and with no slash at its end. */
+static const char *plain(const char *path, char room[2 * PATH_MAX])
+{
+    int file, end = 0;
+    room[0] = '\0';
+    if (sscanf(path, "/proc/self/fd/%d%n", &file, &end) == 1 && path[end] == '/')
+        name_of(file, room);
+    else
+        end = 0;
+    size_t has = strlen(room);
+    snprintf(room + has, 2 * PATH_MAX - has, "%s", path + end);
+    for (has = strlen(room); has > 1 && room[has - 1] == '/'; has--)
+        room[has - 1] = '\0';
+    return room;
+}
+
 __attribute__((format(printf, 1, 2))) static void tell(const char *form, ...)
 {
-    static char line[2 * PATH_MAX + 2 * MOST_TOLD + 100];
+    static char line[4 * PATH_MAX + 2 * MOST_TOLD + 100];
     int was = errno;
     va_list words;
     if (log_file < 0)
@@ -204,6 +203,40 @@ __attribute__((format(printf, 1, 2))) static void tell(const char *form, ...)
 static long told(long answer)
 {
     return answer < 0 ? -errno : answer;
+}
+
+/* Has the two names of HOST_SHIM_SWAP change places. One that is not there is told. */
+static void swap_names(void)
+{
+    char first[PATH_MAX], second[PATH_MAX];
+    const char *names = getenv("HOST_SHIM_SWAP");
+    if (!names || sscanf(names, "%4095s %4095s", first, second) != 2)
+        refuse("swap");
+    long done = syscall(SYS_renameat2, AT_FDCWD, first, AT_FDCWD, second, RENAME_EXCHANGE);
+    tell("swap %s %s %ld", first, second, told(done));
+}
+
+/* What happens in this call. It is where the process is stopped, and where names change places. */
+static struct ruling judge(const char *call, const char *path)
+{
+    struct ruling ruling = {NONE, NONE, 0, 0};
+    const struct rule *twin = find(&twins, call, path);
+    if (twin) {
+        ruling.twin = twin->act;
+        ruling.size = twin->number;
+        if (twin->act == LOST)
+            return ruling;
+    }
+    const struct rule *plan = find(&plans, call, path);
+    if (!plan)
+        return ruling;
+    ruling.plan = plan->act;
+    ruling.error = plan->act == FAIL ? (int)plan->number : 0;
+    if (plan->act == STOP)
+        raise(SIGSTOP);
+    if (plan->act == SWAP)
+        swap_names();
+    return ruling;
 }
 
 /* Tells a call that failed, and no other. */
@@ -358,8 +391,10 @@ int rename(const char *path, const char *other)
 
 int mkdir(const char *path, mode_t mode)
 {
-    struct ruling ruling = judge("mkdir", path);
-    ENDED(ruling, syscall(SYS_mkdirat, AT_FDCWD, path, mode), "mkdir %s %o", path, mode);
+    char room[2 * PATH_MAX];
+    const char *name = plain(path, room);
+    struct ruling ruling = judge("mkdir", name);
+    ENDED(ruling, syscall(SYS_mkdirat, AT_FDCWD, path, mode), "mkdir %s %o", name, mode);
 }
 
 int unlink(const char *path)
@@ -380,7 +415,9 @@ int unlinkat(int folder, const char *path, int how)
 
 static int opened(int folder, const char *path, int how, mode_t mode)
 {
-    struct ruling ruling = judge("open", path);
+    char room[2 * PATH_MAX];
+    const char *name = plain(path, room);
+    struct ruling ruling = judge("open", name);
     if (ruling.twin == MAKE)
         how |= O_CREAT, mode = 0666;
     if (ruling.twin == EMPTY)
@@ -391,7 +428,7 @@ static int opened(int folder, const char *path, int how, mode_t mode)
         mode = 0666;
     errno = ruling.error;
     long file = ruling.error ? -1 : syscall(SYS_openat, folder, path, how, mode);
-    tell("open %s %x %o %ld", path, (unsigned)how, mode, told(file));
+    tell("open %s %x %o %ld", name, (unsigned)how, mode, told(file));
     return (int)file;
 }
 
@@ -435,15 +472,17 @@ static int looked_as_first(struct statx *found)
 
 int statx(int folder, const char *restrict path, int how, unsigned mask, struct statx *restrict found)
 {
-    char opened[PATH_MAX];
+    char opened[PATH_MAX], room[2 * PATH_MAX];
     name_of(folder, opened);
-    struct ruling ruling = judge("statx", *path ? path : opened);
+    struct ruling ruling = judge("statx", *path ? plain(path, room) : opened);
     if (ruling.twin == SAME && first_look.is_known)
         return looked_as_first(found);
     if (ruling.twin == FOLLOW)
         how &= ~AT_SYMLINK_NOFOLLOW;
     errno = ruling.error;
     int answer = ruling.error ? -1 : (int)syscall(SYS_statx, folder, path, how, mask, found);
+    if (ruling.twin == OTHER)
+        found->stx_ino = ~found->stx_ino;
     if (ruling.twin == SAME) {
         first_look.is_known = true;
         first_look.error = answer < 0 ? errno : 0;

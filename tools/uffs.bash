@@ -1,8 +1,13 @@
 # What bash completes after `uffs`. Written by tools/write_manual.py from the texts of the help.
 _uffs() {
     local word="${COMP_WORDS[COMP_CWORD]}"
+    local words="cat check checkpoint copy create df diff explain forget format from-part from-raw get goto help log map memory put raw redo rmcheckpoint rollback run serve tar to-part tree trim undo untar update version versions"
     if [ "$COMP_CWORD" -eq 1 ]; then
-        COMPREPLY=($(compgen -W "cat check checkpoint copy create df diff explain forget format from-part from-raw get help log map memory put raw redo rmcheckpoint rollback run serve tar to-part tree trim undo untar update version versions --help --version" -- "$word"))
+        COMPREPLY=($(compgen -W "$words --help --version" -- "$word"))
+        return
+    fi
+    if [ "$COMP_CWORD" -eq 2 ] && [ "${COMP_WORDS[1]}" = help ]; then
+        COMPREPLY=($(compgen -W "$words --help" -- "$word"))
         return
     fi
     local options="--help"
@@ -12,7 +17,7 @@ _uffs() {
         diff) options="--exit-code --help" ;;
         forget) options="--free --help" ;;
         format) options="--part --page --pages --blocks --history --help" ;;
-        from-raw) options="--page --pages --help" ;;
+        from-raw) options="--page --pages --blocks --help" ;;
         map) options="--html --help" ;;
         put) options="--progress --mirror --skip-links --help" ;;
         run) options="--stop --help" ;;

@@ -15,7 +15,7 @@ FAULTS = {
     "a sum that the gate does not have": ("README.md", "in 18,974 runs", "in 18,975 runs", "not as the gate has it"),
     "another version": ("CHANGELOG.md", "## 0.1.0", "## 0.1.1", "not as the gate has it"),
     "a count beside littlefs": ("docs/speed.md", "| 8 | 3.06 |", "| 8 | 3.05 |", "not as the counts come to"),
-    "a count of long functions": ("CONTRIBUTING.md", "5 functions have 40 lines", "4 functions have 40 lines", "not as the gate has it"),
+    "a count of long functions": ("CONTRIBUTING.md", "functions have 40 lines", "functions have 41 lines", "not as the gate has it"),
     "a count of edits": ("docs/gate.md", f"and {EDITS} edits", f"and {EDITS - 1} edits", "not as the gate has it"),
     "a table with a column of no program": ("docs/speed.md", "| What grows | page | reads |", "| What grows | page | read |", "a table with columns that no program prints"),
     "a row that is left out": ("docs/speed.md", "| mkdir and rmdir among 10 | 256 | 0 | 3 | 3 |\n", "", "in no table: mkdir and rmdir among 10"),

@@ -96,24 +96,54 @@ try_ensures() {
     try_ensures_of_chip
 }
 
-# Edits of the code, a bound dropped, and a call for each `requires` that breaks it.
-try_edits() {
-    copy_crates
+# Adds calls of tests/refused, each of which breaks a `requires` of a C function, to a file of a crate in the copy.
+add_calls() { cat "tests/refused/$1.in" >> "$made/copy/crates/$2/src/$3.rt"; }
+
+# Of functions of a file, by its name with the crate: that each was refused.
+are_refused() {
+    local within=$1 name
+    shift
+    for name in "$@"; do is_refused "$name of ${within##*::} is refused" "$within::$name"; done
+}
+
+try_edits_of_flash() {
     edit page_out_of_range_is_asked c_flash c_flash.rt 's/state(unsafe { c_flash_read(self, page, buffer) })/state(unsafe { c_flash_read(self, page | 1, buffer) })/'
     edit reply_is_cut_short c_flash requests.rt 's/c_requests_answer(self, 0, line)/c_requests_answer(self, 0, \&line[..line.len() \/ 2])/'
     edit bytes_are_told_as_words c_flash requests.rt 's/c_requests_answer(self, 1, bytes)/c_requests_answer(self, 0, bytes)/'
-    cat tests/refused/requests.in >> "$made/copy/crates/c_flash/src/requests.rt"
-    cat tests/refused/calls.in >> "$made/copy/crates/c_flash/src/c_flash.rt"
+    add_calls requests c_flash requests
+    add_calls flash c_flash c_flash
     check c_flash
     tell "c_flash with edits is refused" $(($? == 0))
     is_refused "page_out_of_range_is_asked is refused" c_flash::c_flash::CFlashFlash::read
     is_refused "reply_is_cut_short is refused" c_flash::requests::CRequests::answer_in_words
     is_refused "bytes_are_told_as_words is refused" c_flash::requests::CRequests::answer_in_bytes
-    for name in read_in_no_range read_of_any_length program_in_no_range program_of_any_length program_of_what_is_there erase_in_no_range; do
-        is_refused "$name is refused" "c_flash::c_flash::$name"
-    done
-    is_refused "take_of_any_length is refused" c_flash::requests::take_of_any_length
+    are_refused c_flash::c_flash read_in_no_range read_of_any_length program_in_no_range program_of_any_length program_of_what_is_there erase_in_no_range
+    are_refused c_flash::requests take_of_any_length
     is_proved "and a call as it has to be is proved" c_flash::c_flash::program_as_it_has_to_be
+}
+
+try_edits_of_nor() {
+    add_calls nor c_nor c_nor
+    check c_nor
+    tell "c_nor with calls out of bounds is refused" $(($? == 0))
+    are_refused c_nor::c_nor read_in_no_range read_of_any_length program_in_no_range program_of_any_length erase_in_no_range
+    is_proved "and a call as it has to be is proved" c_nor::c_nor::erase_as_it_has_to_be
+}
+
+try_edits_of_chip() {
+    add_calls chip c_chip c_chip
+    check c_chip
+    tell "c_chip with calls out of bounds is refused" $(($? == 0))
+    are_refused c_chip::c_chip read_in_no_range read_of_any_length program_in_no_range program_of_any_length program_of_what_is_there erase_in_no_range plan_at_no_moment
+    is_proved "and a call as it has to be is proved" c_chip::c_chip::plan_as_it_has_to_be
+}
+
+# Edits of the code, and a call for each `requires` that breaks it.
+try_edits() {
+    copy_crates
+    try_edits_of_flash
+    try_edits_of_nor
+    try_edits_of_chip
     edit unreadable_is_told_as_data c_answers lib.rt 's/2 => Ok(PageState::Unreadable)/2 => Ok(PageState::Data)/'
     check c_answers
     is_refused "unreadable_is_told_as_data is refused" c_answers::state

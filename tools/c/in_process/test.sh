@@ -126,36 +126,54 @@ END
 
 # ---- the example ----
 
+# Whether a program that was built goes as the example's session tells.
+goes_as_told() {
+    local line
+    rm -f "$made/disk.part"
+    sed -n 's/^\$ trial disk.part //p' example/session > "$made/lines"
+    while read -r line; do
+        echo "\$ trial disk.part $line"
+        # shellcheck disable=SC2086
+        run 60 "$1" "$made/disk.part" $line || echo "status $?"
+    done < "$made/lines" | diff example/session -
+}
+
 try_example() {
+    local turns
     for turns in turns_context turns_thread; do
-        TURNS=$turns.c build trial "$sanitizers" ../flat_file.c example/trial.c
-        rm -f "$made/disk.part"
-        sed -n 's/^\$ trial disk.part //p' example/session > "$made/lines"
-        while read -r line; do
-            echo "\$ trial disk.part $line"
-            # shellcheck disable=SC2086
-            run 60 trial "$made/disk.part" $line || echo "status $?"
-        done < "$made/lines" | diff example/session -
+        TURNS=$turns.c build trial "$sanitizers" ../flat_file.c example/trial.c && goes_as_told trial
         tell "the example over $turns goes as its session tells" $?
     done
+    sed 's/want(undofs_rollback(fs, "good"), "rollback");/want(undofs_unlink(fs, "\/trial"), "unlink");/' example/trial.c > "$made/trial.c"
+    build wrong_trial "$sanitizers -Iexample" ../flat_file.c "$made/trial.c" && ! goes_as_told wrong_trial > /dev/null
+    tell "an update that is not taken back is seen" $?
 }
 
 # ---- the same session in process and over a child ----
+
+# Whether a program that was built leaves the same part and answers as one over a child: the program, the seed, and the sizes.
+are_alike() {
+    rm -f "$made/one.part" "$made/other.part"
+    # shellcheck disable=SC2086
+    run 120 "$1" "$made/one.part" "$2" $3 > "$made/one" && run 120 sessions_child "$made/other.part" "$2" $3 "$program" > "$made/other" &&
+        cmp "$made/one.part" "$made/other.part" && cmp "$made/one" "$made/other"
+}
 
 try_sessions() {
     local differs=0 count=0 sizes seed
     build sessions "" ../flat_file.c tests/calls.c tests/sessions.c && build_child sessions_child ../flat_file.c tests/calls.c tests/sessions.c
     for sizes in "256 16 64" "512 8 128" "4096 1 256" "2048 64 32"; do
         for seed in 1 2 3 4 5; do
-            rm -f "$made/one.part" "$made/other.part"
-            # shellcheck disable=SC2086
-            run 120 sessions "$made/one.part" $seed $sizes > "$made/one" && run 120 sessions_child "$made/other.part" $seed $sizes "$program" > "$made/other" &&
-                cmp "$made/one.part" "$made/other.part" && cmp "$made/one" "$made/other" || differs=$((differs + 1))
+            are_alike sessions $seed "$sizes" || differs=$((differs + 1))
             count=$((count + 1))
         done
     done
     echo "      the last: $(cat "$made/one")"
     tell "$count sessions of 300 calls leave the same part and answers in process and over a child" $differs
+    sed 's/f->handle.history = history;/f->handle.history = history + 1;/' in_process.c > "$made/in_process.c"
+    SYSTEM=${of_flash/in_process.c/$made/in_process.c} build wrong_sessions "" ../flat_file.c tests/calls.c tests/sessions.c
+    run 120 wrong_sessions "$made/wrong.part" 1 256 16 64 > /dev/null && ! are_alike wrong_sessions 1 "256 16 64" > /dev/null
+    tell "another history is seen" $?
 }
 
 # ---- handles, pages, liars, memory ----
@@ -194,10 +212,12 @@ try_liars() {
     done
 }
 
+wraps="-Wl,--wrap=malloc,--wrap=calloc,--wrap=realloc"
+
 try_memory() {
-    local wrap="-Wl,--wrap=malloc,--wrap=calloc,--wrap=realloc" flags
+    local flags
     for flags in "" "$sanitizers"; do
-        build memory "$flags $wrap" tests/ram_part.c tests/memory.c
+        build memory "$flags $wraps" tests/ram_part.c tests/memory.c
         [ "$(run 1200 memory 0 $requests)" = "$requests requests, $requests met, 0 ended badly" ]
         tell "memory fails at each of the first $requests requests ($([ -n "$flags" ] && echo sanitized || echo plain))" $?
     done
@@ -259,6 +279,7 @@ wrong_handles() { wrong_flash "$1" handles; }
 wrong_bytes() { wrong_flash "$1" bytes; }
 wrong_pages() { wrong_flash "$1" pages; }
 wrong_liars() { wrong_flash "$1" liars; }
+wrong_memory() { SYSTEM=${of_flash/$1/$made/$1} build wrong "$wraps" tests/ram_part.c tests/memory.c; }
 wrong_nor() { SYSTEM=${of_nor/$1/$made/$1} build_nor wrong "" tests/nor_memory.c tests/calls.c tests/nor.c; }
 # shellcheck disable=SC2086
 wrong_checks() { build_checks wrong "" "$made/$1" $nand tests/checks.c; }
@@ -273,6 +294,7 @@ try_wrong() {
     wrong a_handle_is_live_after_its_end service.c 's/^    leave(u);$//' handles
     wrong pieces_lie_over_one_another service.c 's/^        data += count;$//' bytes
     wrong bytes_are_in_no_reply service.c 's/form == C_REQUESTS_BYTES/form > C_REQUESTS_BYTES/' bytes
+    wrong a_request_left_out_comes_again service.c 's/    u->lines = measure(u->lines, u->lines_end, &next);/    (void)measure(u->lines, u->lines_end, \&next);/' memory 0 "$requests"
     wrong changed_page_is_shown shown_pages.c 's/(shown == NOT_SEEN || shown == now)/(shown == now || shown != now)/' liars 0 40 256 16 128
     wrong half_of_a_page_is_summed shown_pages.c 's/sum_of(bytes, count)/sum_of(bytes, count \/ 2)/' pages
     wrong what_a_cut_left_is_not_settled shown_pages.c 's/is_sure(shown, now) ? now : SEEN_UNREADABLE/is_sure(shown, now) ? now : now/' pages

@@ -82,10 +82,37 @@ take_files() {
     done
 }
 
-# Builds a crate of this folder, where it is proved: a library for the crates above it, or one for C.
+# What a crate of this folder is made from: its files, the libraries below it, the toolchain, and how it is built.
+sum_of_crate() {
+    local name
+    {
+        (cd "$room/crates/$1" && find src specs proofs -type f -exec sha256sum {} + 2> /dev/null | sort)
+        for name in $(names_below "$room/crates.txt" "$1"); do
+            [ "$name" = "$1" ] || (cd "$room/crates/$name/out/rlib" && find . -path '*.rlib/*' -type f -exec sha256sum {} + | sort)
+        done
+        "$rt" version
+        grep -E "^$1( [^:]*)?:" "$here/crates.txt.in"
+        cat "$here/build.sh" "$here/rattle.sh"
+    } | sha256sum
+}
+
+# The sums of what was made of it, and of what was said.
+sum_of_made() { (cd "$room" && find "lib$1.a" "crates/$1/out/rlib/$1.rlib" "$1.said" -type f -exec sha256sum {} + 2> /dev/null | sort); }
+
+# Builds a crate of this folder, where it is proved: a library for the crates above it, or one for C. One that was built here from the
+# same before stays.
 build_crate() {
-    local links=() name
+    local made_from
+    made_from=$(sum_of_crate "$1")
+    [ "$made_from $(sum_of_made "$1")" != "$(cat "$room/$1.made" 2> /dev/null)" ] || return 0
+    rm -rf "${room:?}/$1.made" "$room/lib$1.a" "$room/crates/$1/out/rlib"
     mkdir -p "$room/crates/$1/out/rlib"
+    prove_crate "$1" > "$room/$1.said" 2>&1 || { cat "$room/$1.said"; return 1; }
+    echo "$made_from $(sum_of_made "$1")" > "$room/$1.made"
+}
+
+prove_crate() {
+    local links=() name
     if grep -q "^$1 staticlib:" "$here/crates.txt.in"; then
         for name in $(names_below "$room/crates.txt" "$1"); do
             case " $of_c " in *" $name "*) links+=(--links "$name=c") ;; esac
@@ -93,7 +120,7 @@ build_crate() {
         rattle "$room" "$1" build --empty-contracts --list-axioms "${links[@]}" --crate-type staticlib --toolchain "$kit/toolchain" --backend llvm -o "$room/lib$1.a"
     else
         rattle "$room" "$1" build --empty-contracts --list-axioms -o "out/rlib/$1.rlib"
-    fi > "$room/$1.said" 2>&1 || { cat "$room/$1.said"; return 1; }
+    fi
 }
 
 own=$(sed 's/[ :].*//' "$here/crates.txt.in")

@@ -214,8 +214,8 @@ try_verdicts() {
 
 try_proofs() {
     try_sources
-    try_verdicts
     try_ensures
     try_edits
     try_above
+    try_verdicts
 }

@@ -1,6 +1,7 @@
 //! The used blocks of a flash, and the order in which free ones are taken.
 ghost use Rattle.std.specs.Prelude.{◌≡◌, ℕ, ◌+◌, ◌≤◌, true, false, not, find, IfOk, IfErr, IfSome, IfNone};
 ghost use Rattle.std.specs.FinSet as set;
+ghost use Rattle.std.specs.Ordering.{nat_cmp};
 ghost use Rattle.allocator.specs.Ring.{IsDataBlock, is_busy, free_count as free_blocks, ring_order, next_free, IsFirstFree, IsTaken};
 
 use crate::block_set::BlockSet;
@@ -144,11 +145,20 @@ impl Ring {
         ensures none { IfNone result (self.new ≡ self.old) }
     {
         let next = self.next_free(bad)?;
+        self.take_at(next);
+        Some(next)
+    }
+
+    /// Takes the block that `next_free` found with a list of bad blocks, as `take` with that list, and
+    /// looks for none.
+    pub fn take_at(&mut self, next: u32)
+        requires { (bad : set.FinSet nat_cmp) × (next_free self.old bad ≡ Some next) }
+        ensures { (bad : set.FinSet nat_cmp) → next_free self.old bad ≡ Some next → IsTaken self.old bad next self.new }
+    {
         self.used.insert(next);
         self.note.insert(next);
         self.last = next;
         self.takes = self.takes.more();
-        Some(next)
     }
 
     // The first free block in ring order after `last`.

@@ -1,7 +1,7 @@
 //! Adding a node to the flash: blocks are taken and tried until one holds it.
 ghost use Rattle.std.specs.Prelude.{◌≡◌, ◌≢◌, ℕ, ◌+◌, ◌≤◌, ◌<◌, false, length, vec_len, true, Some, None, Ok, IfOk, IfErr, MatchResult};
 ghost use Rattle.std.specs.FinSet as set;
-ghost use Rattle.allocator.specs.Ring.{next_free, free_count, IsTaken};
+ghost use Rattle.allocator.specs.Ring.{next_free, free_count};
 ghost use Rattle.flash_model.specs.Device.{block_of};
 ghost use Rattle.flash_model.specs.Geometry.{IsGeometry, block_bytes};
 ghost use Rattle.node_cache.specs.Cache.{node_in};
@@ -29,14 +29,6 @@ fn next_block(ring: &Ring, bad: &BadBlocks) -> Result<u32, Fault>
         Some(block) => Ok(block),
         None => Err(Fault::FlashFull),
     }
-}
-
-/// Takes the block that is next.
-fn take_block(ring: &mut Ring, bad: &BadBlocks, block: u32)
-    requires { next_free ring.old bad.now ≡ Some block }
-    ensures { IsTaken ring.old bad.now block ring.new }
-{
-    let _ = ring.take(bad);
 }
 
 /// Puts a block into the bad list, which has room for it. Refused with `ReadOnly` where the list is
@@ -81,7 +73,7 @@ fn try_block<F: Flash>(
     ensures others { (p : ℕ) → block_of (F.device flash.old) p ≢ block → (F.device flash.new).pages p ≡ (F.device flash.old).pages p }
     ensures page { vec_len page.new ≡ vec_len page.old }
 {
-    take_block(ring, bad, block);
+    ring.take_at(block);
     match write_block(flash, block, page, bytes) {
         Ok(()) => Ok(Some(block)),
         Err(DevFault::PowerCut) => Err(Fault::PowerCut),

@@ -1,7 +1,7 @@
 use Rattle.std.proofs.Common.{◌≡◌, ℕ, ◌+◌, ◌*◌, ◌<◌, ◌≤◌, Err, length, refl, ap, sym, subst, arith}
 use Rattle.std.proofs.lemmas.Result.{err_from_is_err_and}
 use Rattle.flash_model.specs.declared.flash.DevFault.TheVariants.{Failed}
-use Rattle.allocator.specs.Ring.{Ring, free_count}
+use Rattle.allocator.specs.Ring.{Ring, IsTaken, free_count}
 use Rattle.nodes.specs.PageCounts.{pages_for}
 use Rattle.node_store.specs.Writing.{WritesBlock}
 use Rattle.node_store.specs.Storage.{storage, Evolved, PassesBad, Pays}
@@ -16,62 +16,65 @@ spends_once old new takes later each one few = subst (λ (n : ℕ). new + takes 
 
 -- the block of the failed write, and the list with it
 module _ (g : Over) (c : After-list_block g) where
+  taken : IsTaken c.args.ring.now c.args.bad.now c.args.block c.take_at.new.self
+  taken = c.take_at.ensures c.args.bad.now c.requires.next
+
   writes : WritesBlock (g.F.Flash.device c.args.flash.now) c.args.block c.args.bytes.now (g.F.Flash.device c.write_block.new.flash) (Err Failed)
   writes = rw c.in-Err-Failed.field-0-is at c.in-Err-Failed.ensures.writes
 
   evolved : Evolved (storage (g.F.Flash.device c.args.flash.now) c.args.bad.now c.args.ring.now)
-      (storage (g.F.Flash.device c.write_block.new.flash) c.list_block.new.bad c.take_block.new.ring)
+      (storage (g.F.Flash.device c.write_block.new.flash) c.list_block.new.bad c.take_at.new.self)
   evolved =
       let old = storage (g.F.Flash.device c.args.flash.now) c.args.bad.now c.args.ring.now in
-      subst (λ bads. Evolved old (storage (g.F.Flash.device c.write_block.new.flash) bads c.take_block.new.ring)) (sym c.list_block.ensures.listed)
-      (took_bad old c.args.block c.take_block.new.ring c.args.bytes.now (g.F.Flash.device c.write_block.new.flash) c.take_block.ensures writes)
+      subst (λ bads. Evolved old (storage (g.F.Flash.device c.write_block.new.flash) bads c.take_at.new.self)) (sym c.list_block.ensures.listed)
+      (took_bad old c.args.block c.take_at.new.self c.args.bytes.now (g.F.Flash.device c.write_block.new.flash) taken writes)
 
   pays : Pays (storage (g.F.Flash.device c.args.flash.now) c.args.bad.now c.args.ring.now)
-      (storage (g.F.Flash.device c.write_block.new.flash) c.list_block.new.bad c.take_block.new.ring) 0
+      (storage (g.F.Flash.device c.write_block.new.flash) c.list_block.new.bad c.take_at.new.self) 0
   pays =
       let old = storage (g.F.Flash.device c.args.flash.now) c.args.bad.now c.args.ring.now in
-      subst (λ bads. Pays old (storage (g.F.Flash.device c.write_block.new.flash) bads c.take_block.new.ring) 0) (sym c.list_block.ensures.listed)
-      (pays_bad old c.args.block c.take_block.new.ring (g.F.Flash.device c.write_block.new.flash) c.take_block.ensures)
+      subst (λ bads. Pays old (storage (g.F.Flash.device c.write_block.new.flash) bads c.take_at.new.self) 0) (sym c.list_block.ensures.listed)
+      (pays_bad old c.args.block c.take_at.new.self (g.F.Flash.device c.write_block.new.flash) taken)
 
   passes : PassesBad (storage (g.F.Flash.device c.args.flash.now) c.args.bad.now c.args.ring.now)
-      (storage (g.F.Flash.device c.write_block.new.flash) c.list_block.new.bad c.take_block.new.ring)
+      (storage (g.F.Flash.device c.write_block.new.flash) c.list_block.new.bad c.take_at.new.self)
   passes =
       let old = storage (g.F.Flash.device c.args.flash.now) c.args.bad.now c.args.ring.now in
-      subst (λ bads. PassesBad old (storage (g.F.Flash.device c.write_block.new.flash) bads c.take_block.new.ring)) (sym c.list_block.ensures.listed)
-      (took_passed old c.args.block c.take_block.new.ring (g.F.Flash.device c.write_block.new.flash) c.take_block.ensures)
+      subst (λ bads. PassesBad old (storage (g.F.Flash.device c.write_block.new.flash) bads c.take_at.new.self)) (sym c.list_block.ensures.listed)
+      (took_passed old c.args.block c.take_at.new.self (g.F.Flash.device c.write_block.new.flash) taken)
 
-  less : free_count c.take_block.new.ring c.list_block.new.bad < free_count c.args.ring.now c.args.bad.now
+  less : free_count c.take_at.new.self c.list_block.new.bad < free_count c.args.ring.now c.args.bad.now
   less =
       let old = storage (g.F.Flash.device c.args.flash.now) c.args.bad.now c.args.ring.now in
-      subst (λ bads. free_count c.take_block.new.ring bads < free_count c.args.ring.now c.args.bad.now) (sym c.list_block.ensures.listed)
-      (less_free old c.args.block c.take_block.new.ring c.take_block.ensures)
+      subst (λ bads. free_count c.take_at.new.self bads < free_count c.args.ring.now c.args.bad.now) (sym c.list_block.ensures.listed)
+      (less_free old c.args.block c.take_at.new.self taken)
 
 pub returns-in-Ok-clause-attempt : goal.returns-in-Ok-clause-attempt
-returns-in-Ok-clause-attempt g c = record {
+returns-in-Ok-clause-attempt g c = let taken = c.take_at.ensures c.args.bad.now c.requires.next in record {
   tries =
-      took_added (storage (g.F.Flash.device c.args.flash.now) c.args.bad.now c.args.ring.now) c.args.block c.take_block.new.ring
+      took_added (storage (g.F.Flash.device c.args.flash.now) c.args.bad.now c.args.ring.now) c.args.block c.take_at.new.self
       c.args.bytes.now (g.F.Flash.device c.write_block.new.flash) c.in-Ok.field-0 c.requires.lawful c.requires.ring_blocks c.requires.node c.requires.room
-      c.take_block.ensures c.in-Ok.ensures.writes;
+      taken c.in-Ok.ensures.writes;
   evolved =
-      took_good (storage (g.F.Flash.device c.args.flash.now) c.args.bad.now c.args.ring.now) c.args.block c.take_block.new.ring
-      c.args.bytes.now (g.F.Flash.device c.write_block.new.flash) _ c.requires.node c.take_block.ensures c.in-Ok.ensures.writes refl;
-  pays = pays_good (storage (g.F.Flash.device c.args.flash.now) c.args.bad.now c.args.ring.now) c.args.block c.take_block.new.ring (g.F.Flash.device c.write_block.new.flash) c.take_block.ensures;
-  next = record { next = c.take_block.ensures.next; last = ap (λ (r : Ring). r.last) c.take_block.ensures.ring };
+      took_good (storage (g.F.Flash.device c.args.flash.now) c.args.bad.now c.args.ring.now) c.args.block c.take_at.new.self
+      c.args.bytes.now (g.F.Flash.device c.write_block.new.flash) _ c.requires.node taken c.in-Ok.ensures.writes refl;
+  pays = pays_good (storage (g.F.Flash.device c.args.flash.now) c.args.bad.now c.args.ring.now) c.args.block c.take_at.new.self (g.F.Flash.device c.write_block.new.flash) taken;
+  next = record { next = taken.next; last = ap (λ (r : Ring). r.last) taken.ring };
   operations =
-      spends_once (g.F.Flash.device c.args.flash.now).operations (g.F.Flash.device c.write_block.new.flash).operations c.args.ring.now.takes c.take_block.new.ring.takes (1 + pages_for (g.F.Flash.device c.args.flash.now).geometry.page (length c.args.bytes.now)) (ap (λ (r : Ring). r.takes) c.take_block.ensures.ring) c.write_block.ensures.operations;
+      spends_once (g.F.Flash.device c.args.flash.now).operations (g.F.Flash.device c.write_block.new.flash).operations c.args.ring.now.takes c.take_at.new.self.takes (1 + pages_for (g.F.Flash.device c.args.flash.now).geometry.page (length c.args.bytes.now)) (ap (λ (r : Ring). r.takes) taken.ring) c.write_block.ensures.operations;
 }
 
 pub returns-in-Err-PowerCut-clause-attempt : goal.returns-in-Err-PowerCut-clause-attempt
-returns-in-Err-PowerCut-clause-attempt g c = record {
+returns-in-Err-PowerCut-clause-attempt g c = let taken = c.take_at.ensures c.args.bad.now c.requires.next in record {
   tries =
       let writes = rw c.in-Err-PowerCut.field-0-is at c.in-Err-PowerCut.ensures.writes in (writes.ends, c.requires.room);
   evolved =
-      took_good (storage (g.F.Flash.device c.args.flash.now) c.args.bad.now c.args.ring.now) c.args.block c.take_block.new.ring
-      c.args.bytes.now (g.F.Flash.device c.write_block.new.flash) _ c.requires.node c.take_block.ensures (rw c.in-Err-PowerCut.field-0-is at c.in-Err-PowerCut.ensures.writes) refl;
-  pays = pays_good (storage (g.F.Flash.device c.args.flash.now) c.args.bad.now c.args.ring.now) c.args.block c.take_block.new.ring (g.F.Flash.device c.write_block.new.flash) c.take_block.ensures;
+      took_good (storage (g.F.Flash.device c.args.flash.now) c.args.bad.now c.args.ring.now) c.args.block c.take_at.new.self
+      c.args.bytes.now (g.F.Flash.device c.write_block.new.flash) _ c.requires.node taken (rw c.in-Err-PowerCut.field-0-is at c.in-Err-PowerCut.ensures.writes) refl;
+  pays = pays_good (storage (g.F.Flash.device c.args.flash.now) c.args.bad.now c.args.ring.now) c.args.block c.take_at.new.self (g.F.Flash.device c.write_block.new.flash) taken;
   next = tt;
   operations =
-      spends_once (g.F.Flash.device c.args.flash.now).operations (g.F.Flash.device c.write_block.new.flash).operations c.args.ring.now.takes c.take_block.new.ring.takes (1 + pages_for (g.F.Flash.device c.args.flash.now).geometry.page (length c.args.bytes.now)) (ap (λ (r : Ring). r.takes) c.take_block.ensures.ring) c.write_block.ensures.operations;
+      spends_once (g.F.Flash.device c.args.flash.now).operations (g.F.Flash.device c.write_block.new.flash).operations c.args.ring.now.takes c.take_at.new.self.takes (1 + pages_for (g.F.Flash.device c.args.flash.now).geometry.page (length c.args.bytes.now)) (ap (λ (r : Ring). r.takes) taken.ring) c.write_block.ensures.operations;
 }
 
 pub returns-in_err-list_block-in-Err-Failed-clause-attempt : goal.returns-in_err-list_block-in-Err-Failed-clause-attempt
@@ -88,7 +91,7 @@ returns-in_err-list_block-in-Err-Failed-clause-attempt g c = record {
       (pays g (goal.at.returns-in_err-list_block-in-Err-Failed-clause-attempt g c).After-list_block);
   next = rw (err_from_is_err_and c.from_residual.result c.from_residual.ensures.1).1 tt;
   operations =
-      spends_once (g.F.Flash.device c.args.flash.now).operations (g.F.Flash.device c.write_block.new.flash).operations c.args.ring.now.takes c.take_block.new.ring.takes (1 + pages_for (g.F.Flash.device c.args.flash.now).geometry.page (length c.args.bytes.now)) (ap (λ (r : Ring). r.takes) c.take_block.ensures.ring) c.write_block.ensures.operations;
+      spends_once (g.F.Flash.device c.args.flash.now).operations (g.F.Flash.device c.write_block.new.flash).operations c.args.ring.now.takes c.take_at.new.self.takes (1 + pages_for (g.F.Flash.device c.args.flash.now).geometry.page (length c.args.bytes.now)) (ap (λ (r : Ring). r.takes) (c.take_at.ensures c.args.bad.now c.requires.next).ring) c.write_block.ensures.operations;
 }
 
 pub returns-in_ok-list_block-in-Err-Failed-clause-attempt : goal.returns-in_ok-list_block-in-Err-Failed-clause-attempt
@@ -102,17 +105,17 @@ returns-in_ok-list_block-in-Err-Failed-clause-attempt g c = record {
   next =
       passes g (goal.at.returns-in_ok-list_block-in-Err-Failed-clause-attempt g c).After-list_block;
   operations =
-      spends_once (g.F.Flash.device c.args.flash.now).operations (g.F.Flash.device c.write_block.new.flash).operations c.args.ring.now.takes c.take_block.new.ring.takes (1 + pages_for (g.F.Flash.device c.args.flash.now).geometry.page (length c.args.bytes.now)) (ap (λ (r : Ring). r.takes) c.take_block.ensures.ring) c.write_block.ensures.operations;
+      spends_once (g.F.Flash.device c.args.flash.now).operations (g.F.Flash.device c.write_block.new.flash).operations c.args.ring.now.takes c.take_at.new.self.takes (1 + pages_for (g.F.Flash.device c.args.flash.now).geometry.page (length c.args.bytes.now)) (ap (λ (r : Ring). r.takes) (c.take_at.ensures c.args.bad.now c.requires.next).ring) c.write_block.ensures.operations;
 }
 
 pub returns-in-Ok-clause-page : goal.returns-in-Ok-clause-page
 returns-in-Ok-clause-page g c = c.write_block.ensures.page
 
 pub returns-in-Ok-clause-taken : goal.returns-in-Ok-clause-taken
-returns-in-Ok-clause-taken g c = ap (λ (r : Ring). r.used) c.take_block.ensures.ring
+returns-in-Ok-clause-taken g c = ap (λ (r : Ring). r.used) (c.take_at.ensures c.args.bad.now c.requires.next).ring
 
 pub returns-in-Ok-clause-fresh : goal.returns-in-Ok-clause-fresh
-returns-in-Ok-clause-fresh g c = c.take_block.ensures.fresh
+returns-in-Ok-clause-fresh g c = (c.take_at.ensures c.args.bad.now c.requires.next).fresh
 
 pub returns-in-Ok-clause-others : goal.returns-in-Ok-clause-others
 returns-in-Ok-clause-others g c = c.write_block.ensures.writes.others
@@ -121,10 +124,10 @@ pub returns-in-Err-PowerCut-clause-page : goal.returns-in-Err-PowerCut-clause-pa
 returns-in-Err-PowerCut-clause-page g c = c.write_block.ensures.page
 
 pub returns-in-Err-PowerCut-clause-taken : goal.returns-in-Err-PowerCut-clause-taken
-returns-in-Err-PowerCut-clause-taken g c = ap (λ (r : Ring). r.used) c.take_block.ensures.ring
+returns-in-Err-PowerCut-clause-taken g c = ap (λ (r : Ring). r.used) (c.take_at.ensures c.args.bad.now c.requires.next).ring
 
 pub returns-in-Err-PowerCut-clause-fresh : goal.returns-in-Err-PowerCut-clause-fresh
-returns-in-Err-PowerCut-clause-fresh g c = c.take_block.ensures.fresh
+returns-in-Err-PowerCut-clause-fresh g c = (c.take_at.ensures c.args.bad.now c.requires.next).fresh
 
 pub returns-in-Err-PowerCut-clause-others : goal.returns-in-Err-PowerCut-clause-others
 returns-in-Err-PowerCut-clause-others g c = c.write_block.ensures.writes.others
@@ -133,10 +136,10 @@ pub returns-in_err-list_block-in-Err-Failed-clause-page : goal.returns-in_err-li
 returns-in_err-list_block-in-Err-Failed-clause-page g c = c.write_block.ensures.page
 
 pub returns-in_err-list_block-in-Err-Failed-clause-taken : goal.returns-in_err-list_block-in-Err-Failed-clause-taken
-returns-in_err-list_block-in-Err-Failed-clause-taken g c = ap (λ (r : Ring). r.used) c.take_block.ensures.ring
+returns-in_err-list_block-in-Err-Failed-clause-taken g c = ap (λ (r : Ring). r.used) (c.take_at.ensures c.args.bad.now c.requires.next).ring
 
 pub returns-in_err-list_block-in-Err-Failed-clause-fresh : goal.returns-in_err-list_block-in-Err-Failed-clause-fresh
-returns-in_err-list_block-in-Err-Failed-clause-fresh g c = c.take_block.ensures.fresh
+returns-in_err-list_block-in-Err-Failed-clause-fresh g c = (c.take_at.ensures c.args.bad.now c.requires.next).fresh
 
 pub returns-in_err-list_block-in-Err-Failed-clause-others : goal.returns-in_err-list_block-in-Err-Failed-clause-others
 returns-in_err-list_block-in-Err-Failed-clause-others g c = c.write_block.ensures.writes.others
@@ -145,10 +148,10 @@ pub returns-in_ok-list_block-in-Err-Failed-clause-page : goal.returns-in_ok-list
 returns-in_ok-list_block-in-Err-Failed-clause-page g c = c.write_block.ensures.page
 
 pub returns-in_ok-list_block-in-Err-Failed-clause-taken : goal.returns-in_ok-list_block-in-Err-Failed-clause-taken
-returns-in_ok-list_block-in-Err-Failed-clause-taken g c = ap (λ (r : Ring). r.used) c.take_block.ensures.ring
+returns-in_ok-list_block-in-Err-Failed-clause-taken g c = ap (λ (r : Ring). r.used) (c.take_at.ensures c.args.bad.now c.requires.next).ring
 
 pub returns-in_ok-list_block-in-Err-Failed-clause-fresh : goal.returns-in_ok-list_block-in-Err-Failed-clause-fresh
-returns-in_ok-list_block-in-Err-Failed-clause-fresh g c = c.take_block.ensures.fresh
+returns-in_ok-list_block-in-Err-Failed-clause-fresh g c = (c.take_at.ensures c.args.bad.now c.requires.next).fresh
 
 pub returns-in_ok-list_block-in-Err-Failed-clause-others : goal.returns-in_ok-list_block-in-Err-Failed-clause-others
 returns-in_ok-list_block-in-Err-Failed-clause-others g c = c.write_block.ensures.writes.others
@@ -159,11 +162,11 @@ write_block-requires-clause-lawful g c = c.requires.lawful
 pub write_block-requires-clause-whole : goal.write_block-requires-clause-whole
 write_block-requires-clause-whole g c = c.requires.whole
 
-pub take_block-requires : goal.take_block-requires
-take_block-requires g c = c.requires.next
+pub take_at-requires : goal.take_at-requires
+take_at-requires g c = (c.args.bad.now, c.requires.next)
 
 pub list_block-requires-clause-good : goal.list_block-requires-clause-good
-list_block-requires-clause-good g c = c.take_block.ensures.good
+list_block-requires-clause-good g c = (c.take_at.ensures c.args.bad.now c.requires.next).good
 
 pub list_block-requires-clause-room : goal.list_block-requires-clause-room
 list_block-requires-clause-room g c = c.requires.room

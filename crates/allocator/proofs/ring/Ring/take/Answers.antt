@@ -1,29 +1,5 @@
-use Rattle.std.proofs.Common.{ap, subst, arith}
-use Rattle.allocator.specs.Ring.{Ring, IsDataBlock}
-use Rattle.allocator.proofs.RingOrder.{IsRing-insert, IsNote-insert, next_found, after_take, is_taken}
+use Rattle.std.proofs.Common.{sym, ◌∙◌}
 use Rattle.allocator.proofs.ring.Ring.take.Goals as goal
 
-pub insert-requires : goal.insert-requires
-insert-requires c =
-    let next = next_found _ _ _ _ _ c.self.view_is c.self.invariant.0 c.next_free.ensures.next c.in_ok-next.was in
-    omega (arith, ap (λ (r : Ring). r.blocks) c.self.view_is, next.data_block.1)
-
-pub insert-requires-2 : goal.insert-requires-2
-insert-requires-2 c =
-    let next = next_found _ _ _ _ _ c.self.view_is c.self.invariant.0 c.next_free.ensures.next c.in_ok-next.was in
-    omega (arith, ap (λ (r : Ring). r.blocks) c.self.view_is, c.self.invariant.1.same_blocks, next.data_block.1)
-
-pub invariant_of-self : goal.invariant_of-self
-invariant_of-self c =
-    let next = next_found _ _ _ _ _ c.self.view_is c.self.invariant.0 c.next_free.ensures.next c.in_ok-next.was in
-    rw (c.insert.ensures, c.insert-2.ensures) (
-      IsRing-insert _ _ _ _ _ c.self.invariant.0 (next.data_block.0, omega (arith, ap (λ (r : Ring). r.blocks) c.self.view_is, next.data_block.1))
-          (next.data_block.0, omega (arith, ap (λ (r : Ring). r.blocks) c.self.view_is, next.data_block.1)),
-      IsNote-insert _ _ _ c.self.invariant.1 (next.data_block.0, omega (arith, ap (λ (r : Ring). r.blocks) c.self.view_is, next.data_block.1)),
-    )
-
-pub returns-clause-taken : goal.returns-clause-taken
-returns-clause-taken c =
-    let next = next_found _ _ _ _ _ c.self.view_is c.self.invariant.0 c.next_free.ensures.next c.in_ok-next.was in
-    rw (c.insert.ensures, c.insert-2.ensures, c.more-self-inside.ensures)
-    (is_taken _ _ _ _ (ap (λ (r : Ring). after_take r c.in_ok-next.next) c.self.view_is) (subst (λ (r : Ring). IsDataBlock r.blocks r.last) c.self.view_is c.self.invariant.0.last_block) next)
+pub take_at-requires : goal.take_at-requires
+take_at-requires c = (c.args.bad.now, sym c.next_free.ensures.next ∙ c.in_ok-next.was)

@@ -52,7 +52,7 @@ NOT_SHOWN = {
     "pwrite of a byte into an empty file", "pwrite of 2 bytes, second of three nodes", "ls of a directory, depth 16",
     "stat of a directory, depth 16", "ls of a directory, depth 4", "ls at depth 4 after a pread of 1 MiB",
     "pread of 1 MiB, a second time", "begin", "end of a group with four changes", "abandon of a group with four changes",
-    "sync of a record of two pages", "format", "mkdir and rmdir at depth 8, page 2048", "a byte at 64 places of 1 MiB, page 2048",
+    "sync of a record of two pages", "format", "mkdir and rmdir at depth 8, page 2048",
     "4,096 bytes of 1 MiB, in turn, page 2048", "512 bytes of 1 MiB, in turn, page 2048",
     "pread of 1 byte at 64 places, page 2048", "pread of 512 bytes at 64 places, page 2048",
 }

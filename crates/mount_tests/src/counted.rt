@@ -95,6 +95,10 @@ impl<N: Nodes> Nodes for Counted<N> {
         self.nodes.supersede(block);
     }
 
+    fn staying_count(&self) -> usize {
+        self.nodes.staying_count()
+    }
+
     fn write(&mut self, bytes: &[u8]) -> Result<u32, Fault> {
         self.nodes.write(bytes)
     }

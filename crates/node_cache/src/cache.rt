@@ -55,6 +55,13 @@ impl NodeCache {
         self.nodes.len()
     }
 
+    /// How many blocks there is room for.
+    pub fn room(&self) -> usize
+        ensures { result ≡ self.now.room }
+    {
+        self.nodes.cap().get()
+    }
+
     /// The bytes of the node that is listed first; none where no block is listed.
     pub fn first(&self) -> &[u8]
         ensures { result.now ≡ first_bytes self.now.entries }

@@ -6,7 +6,7 @@ use crate::node_parts::bring_part;
 use crate::storage::Storage;
 use counts::Count;
 use flash_model::Flash;
-use fs_types::Fault;
+use fs_types::{Fault, MAX_NAMES};
 use nodes::Nodes;
 
 /// Keeps nodes in the data blocks of a lent flash. The kept blocks are those that the ring has as
@@ -54,7 +54,7 @@ impl<'a, F: Flash> Store<'a, F> {
 }
 
 impl<F: Flash> Nodes for Store<'_, F> {
-    ghost use Rattle.std.specs.Prelude.{◌≡◌, ◌≢◌, ℕ, ◌+◌, ◌≤◌, List, length, Some, None, OnOk, IfErr, IsErrOf};
+    ghost use Rattle.std.specs.Prelude.{◌≡◌, ◌≢◌, ℕ, ◌+◌, ◌-◌, ◌≤◌, max, List, length, Some, None, OnOk, IfErr, IsErrOf};
     ghost use Rattle.node_store.specs.Caching.{Fetches};
     ghost use Rattle.nodes.specs.Faults.{IsReadFault};
     ghost use Rattle.nodes.specs.Frames.{OnlyLooks};
@@ -194,6 +194,14 @@ impl<F: Flash> Nodes for Store<'_, F> {
         ensures partly { self.new.storage.now.partly ≡ self.old.storage.now.partly }
     {
         self.storage.cache.forget(block);
+    }
+
+    fn staying_count(&self) -> usize
+        ensures { result ≡ max 1 (self.now.storage.now.cache.room - (MAX_NAMES + 2)) }
+    {
+        let room = self.storage.cache.room();
+        // The rest is for the directories of the longest path, a new node and an old one.
+        room.saturating_sub(MAX_NAMES + 2).max(1)
     }
 
     fn write(&mut self, bytes: &[u8]) -> Result<u32, Fault> {

@@ -152,6 +152,9 @@ pub trait Nodes {
         ensures reads { reads self.new ≡ reads self.old }
         ensures asks { asked self.new ≡ asked self.old };
 
+    /// How many new nodes of a file stay in memory where it is written, from its last one back.
+    fn staying_count(&self) -> usize;
+
     /// Writes a node to a block that was not kept, and answers the block.
     fn write(&mut self, bytes: &[u8]) -> Result<u32, Fault>
         requires sound { is_sound self.old }

@@ -3,7 +3,7 @@
 //! and programmed page by page. Of the erases it tells how many are of blocks that were blank, of which a
 //! driver may answer the erase at once. Reads are told cold, with no node in memory, and warm, with the eight
 //! that the calls before used last. Then what calls one after the other ask on the average, on such a
-//! flash and on one of large pages and blocks.
+//! flash and on one of large pages and blocks, and at the end some of them with 64 nodes in memory.
 #![tactic(auto)]
 
 mod error;
@@ -14,9 +14,11 @@ mod texts;
 mod watched;
 
 use anyhow::{Context, Result};
+use fs_types::MOUNTED_NODES;
 use measures::{Asked, MEASURES, asked_by, asked_by_format};
 use mount::{MOUNTS, asked_by_mount};
-use series::{SERIES, Series, asked_by_each};
+use node_cache::MAX_CACHED_NODES;
+use series::{SERIES, SERIES_WITH_64_NODES, Series, asked_by_each};
 use watched::Counts;
 
 fn main(rt: HostRuntime) -> Result<()> {
@@ -44,8 +46,14 @@ fn tell_series<R: AllocGlobal + Print>(rt: &R) -> Result<()> {
     println!(rt;
         "\ncalls one after the other          page   block  calls   reads  programs  erases   blank"
     )?;
-    for row in SERIES {
-        let asked = asked_by_each(rt.alloc(), row).context(row.name)?;
+    tell_rows(rt, SERIES, MOUNTED_NODES)?;
+    tell_rows(rt, SERIES_WITH_64_NODES, MAX_CACHED_NODES)
+}
+
+/// Tells what the calls of these rows ask with so many nodes in memory.
+fn tell_rows<R: AllocGlobal + Print>(rt: &R, rows: &[Series], nodes: usize) -> Result<()> {
+    for row in rows {
+        let asked = asked_by_each(rt.alloc(), row, nodes).context(row.name)?;
         tell_each(rt, row, asked)?;
     }
     Ok(())

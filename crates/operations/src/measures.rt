@@ -3,6 +3,7 @@ use crate::error::MeasureError;
 use crate::texts::{HISTORY, SMALL_BLOCKS, counts_after, formatted};
 use crate::watched::Counts;
 use flash_model::Geometry;
+use fs_types::MOUNTED_NODES;
 use std::alloc::{AllocError, Global};
 
 /// A call that is measured: what is called before, the call, and the nodes that it may write.
@@ -23,7 +24,7 @@ pub struct Asked {
 
 /// What a call asks of the flash.
 pub fn asked_by(alloc: Global, row: &Measure) -> Result<Asked, MeasureError> {
-    let before = counts_of(alloc, SMALL_BLOCKS, row.before)?;
+    let before = counts_of(alloc, SMALL_BLOCKS, MOUNTED_NODES, row.before)?;
     Ok(Asked {
         cold: asked_after(alloc, row, &["cold"], before)?,
         warm: asked_after(alloc, row, &[], before)?,
@@ -39,7 +40,7 @@ fn asked_after(
     before: Counts,
 ) -> Result<Counts, MeasureError> {
     let lines = lines_of(alloc, row, still)?;
-    let after = counts_of(alloc, SMALL_BLOCKS, &lines)?;
+    let after = counts_of(alloc, SMALL_BLOCKS, MOUNTED_NODES, &lines)?;
     Ok(after.beyond(before))
 }
 
@@ -56,10 +57,15 @@ fn lines_of(
     Ok(lines)
 }
 
-/// What a format, a mount and these lines ask of a flash of these sizes.
-pub fn counts_of(alloc: Global, sizes: Geometry, lines: &[&str]) -> Result<Counts, MeasureError> {
+/// What a format, a mount with so many nodes in memory and these lines ask of a flash of these sizes.
+pub fn counts_of(
+    alloc: Global,
+    sizes: Geometry,
+    nodes: usize,
+    lines: &[&str],
+) -> Result<Counts, MeasureError> {
     let mut flash = formatted(alloc, sizes, HISTORY)?;
-    counts_after(alloc, &mut flash, lines)
+    counts_after(alloc, &mut flash, nodes, lines)
 }
 
 /// What format asks of an erased flash.

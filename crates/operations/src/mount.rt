@@ -3,6 +3,7 @@ use crate::error::MeasureError;
 use crate::texts::{BLOCKS_OF_A_PAGE, HISTORY, MANY_BLOCKS, SMALL_BLOCKS, counts_after, formatted};
 use crate::watched::{Counts, Watched};
 use flash_model::Geometry;
+use fs_types::MOUNTED_NODES;
 use std::alloc::Global;
 
 /// A mount that is measured: the sizes of the flash, how many versions are kept, and what is called
@@ -27,8 +28,8 @@ fn asked_by_second_mount(
     flash: &mut Watched,
     lines: &[&str],
 ) -> Result<Counts, MeasureError> {
-    let before = counts_after(alloc, flash, lines)?;
-    let after = counts_after(alloc, flash, &[])?;
+    let before = counts_after(alloc, flash, MOUNTED_NODES, lines)?;
+    let after = counts_after(alloc, flash, MOUNTED_NODES, &[])?;
     Ok(after.beyond(before))
 }
 

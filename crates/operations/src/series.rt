@@ -17,10 +17,11 @@ pub struct Series {
     pub calls: u64,
 }
 
-/// What the calls ask of the flash, each on the average, where a part counts as a whole.
-pub fn asked_by_each(alloc: Global, series: &Series) -> Result<Counts, MeasureError> {
-    let before = counts_of(alloc, series.sizes, series.before)?;
-    let after = counts_of(alloc, series.sizes, series.after)?;
+/// What the calls ask of the flash with so many nodes in memory, each on the average, where a part counts
+/// as a whole.
+pub fn asked_by_each(alloc: Global, series: &Series, nodes: usize) -> Result<Counts, MeasureError> {
+    let before = counts_of(alloc, series.sizes, nodes, series.before)?;
+    let after = counts_of(alloc, series.sizes, nodes, series.after)?;
     Ok(after.beyond(before).each_of(series.calls))
 }
 
@@ -204,5 +205,23 @@ pub const SERIES: &[Series] = &[
         before: FILE,
         after: FILE_TOLD,
         calls: 1,
+    },
+];
+
+/// The calls that are measured with the most nodes in memory that there may be.
+pub const SERIES_WITH_64_NODES: &[Series] = &[
+    Series {
+        name: "a byte at 16 places, 64 nodes",
+        sizes: SMALL_BLOCKS,
+        before: QUARTER,
+        after: QUARTER_WRITTEN,
+        calls: 16,
+    },
+    Series {
+        name: "a byte at 64 places, 64 nodes",
+        sizes: LARGE_BLOCKS,
+        before: FILE,
+        after: FILE_WRITTEN,
+        calls: 64,
     },
 ];

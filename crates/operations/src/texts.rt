@@ -50,8 +50,8 @@ pub fn formatted(alloc: Global, sizes: Geometry, history: u32) -> Result<Watched
     Ok(flash)
 }
 
-/// Mounts what is on a flash, carries out the calls of a text, and answers what was asked of the
-/// flash since it was made.
+/// Mounts what is on a flash with so many nodes in memory, carries out the calls of a text, and answers
+/// what was asked of the flash since it was made.
 ///
 /// A line is a call or a step of a script, or `fill N`, which writes N bytes at the start of descriptor
 /// 0, `whole N`, which writes a whole file `/a/f` of N bytes, `many N`, which writes N files of 1,000
@@ -65,9 +65,10 @@ pub fn formatted(alloc: Global, sizes: Geometry, history: u32) -> Result<Watched
 pub fn counts_after(
     alloc: Global,
     flash: &mut Watched,
+    nodes: usize,
     lines: &[&str],
 ) -> Result<Counts, MeasureError> {
-    let mut system = Fs::mount(alloc, flash)?;
+    let mut system = Fs::mount_with(alloc, flash, nodes)?;
     carry_out_lines(alloc, &mut system, lines)?;
     Ok(system.into_flash().counts())
 }

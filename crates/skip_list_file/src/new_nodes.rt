@@ -96,8 +96,8 @@ fn edited_node<N: Nodes>(
     Ok(node)
 }
 
-/// Writes a node, and answers its block. It stays in memory where it is the last one of its body.
-fn write_new<N: Nodes>(nodes: &mut N, node: Vec<u8>, is_last: bool) -> Result<u32, Fault>
+/// Writes a node, and answers its block. It stays in memory, or leaves it at once.
+fn write_new<N: Nodes>(nodes: &mut N, node: Vec<u8>, stays: bool) -> Result<u32, Fault>
     requires sound { N.is_sound nodes.old }
     requires whole { IsNode (N.limit nodes.old) node.items }
 
@@ -112,7 +112,7 @@ fn write_new<N: Nodes>(nodes: &mut N, node: Vec<u8>, is_last: bool) -> Result<u3
     ensures writes { N.writes nodes.new ≡ N.writes nodes.old + 1 }
 {
     let block = nodes.write_owned(node)?;
-    if !is_last {
+    if !stays {
         nodes.supersede(block);
     }
     Ok(block)
@@ -126,7 +126,7 @@ fn append<N: Nodes>(
     head: u32,
     index: u32,
     node: Vec<u8>,
-    is_last: bool,
+    stays: bool,
 ) -> Result<u32, Fault>
     // The nodes before the index.
     requires sound { N.is_sound nodes.old }
@@ -145,13 +145,13 @@ fn append<N: Nodes>(
     ensures reads { N.reads nodes.new ≡ N.reads nodes.old }
     ensures written { OnOk result (N.writes nodes.new ≡ N.writes nodes.old + 1) }
 {
-    let block = write_new(nodes, node, is_last)?;
+    let block = write_new(nodes, node, stays)?;
     table.move_on(index, block);
     Ok(block)
 }
 
 /// Writes the node of an index of a body that is changed, after the nodes before it, and answers its
-/// block. It stays in memory where it is the last one. `old` are the listed blocks of the old body.
+/// block. It stays in memory where it is one of the last. `old` are the listed blocks of the old body.
 pub(crate) fn write_node<N: Nodes>(
     alloc: Global,
     nodes: &mut N,
@@ -178,6 +178,7 @@ pub(crate) fn write_node<N: Nodes>(
     ensures calls { WorksAlong N.Nodes (head_index change.capacity change.body.length) (λ digits. 1 + 2 * digits) 1 nodes.old result nodes.new }
 {
     let node = edited_node(alloc, nodes, change, bytes, old, &table.blocks, index)?;
-    let is_last = change.size - index * change.capacity <= change.capacity;
-    append(nodes, table, head, index, node, is_last)
+    let rest = (change.size - index * change.capacity).div_ceil(change.capacity);
+    let stays = rest as usize <= nodes.staying_count();
+    append(nodes, table, head, index, node, stays)
 }

@@ -1,5 +1,5 @@
 -- What the newest record means, at the place that was found.
-use Rattle.std.proofs.Common.{◌≡◌, ◌≢◌, ◌⊎◌, ℕ, Bool, true, false, cond, List, Option, Some, None, Result, Err, refl, sym, ap, subst, ◌∙◌, inl, inr}
+use Rattle.std.proofs.Common.{◌≡◌, ◌≢◌, ◌⊎◌, ℕ, Bool, true, false, cond, List, Option, Some, None, Result, Err, IsSome, refl, sym, ap, subst, ◌∙◌, inl, inr}
 use Rattle.std.specs.Option.{option_map, ok_or}
 use Rattle.fs_types.specs.declared.fault.Fault.{Fault}
 use Rattle.fs_types.specs.declared.fault.Fault.TheVariants.{NoMemory, Damaged, BadGeometry}
@@ -15,7 +15,7 @@ use Rattle.commit_pair.specs.declared.best.Found.{Found}
 use Rattle.commit_pair.specs.declared.best.Best.{Best}
 use Rattle.commit_pair.specs.Parts.{RecordBytes, parts_on, best_on, newest_at, newest_on, payload_of}
 use Rattle.commit_pair.specs.Laws.{HasNone, HasTie}
-use Rattle.commit_pair.specs.Newest.{committed_on, IsNewestRecord, NewestCause}
+use Rattle.commit_pair.specs.Newest.{committed_on, IsNewestRecord, NewestCause, RecordCause}
 use Rattle.commit_pair.specs.Reading.{PageReadCause}
 use Rattle.std.proofs.Common.{arith}
 use Rattle.fs_types.specs.declared.fault.Fault.TheVariants.{ReadFailed, PowerCut}
@@ -59,9 +59,13 @@ payload_refused g sequence bytes fault e =
     from false false false None e = inl (refused_is Damaged fault e)
     from false false false (Some r) e = absurd cc
 
+-- what the newest record means is there, whatever it means
+pub is_committed : (old : Device) (meaning : Result Record Fault) → committed_on old ≡ Some meaning → IsSome (committed_on old)
+is_committed old meaning is = let There : Option (Result Record Fault) → Type 0 = λ o. IsSome o in subst There (sym is) refl
+
 pub payload_cause : (old new : Device) (g : Geometry) (sequence : ℕ) (bytes : List ℕ) (fault : Fault) → committed_on old ≡ Some (payload_at g sequence bytes)
-    → (fault ≢ NoMemory → payload_at g sequence bytes ≡ Err fault) → NewestCause old new fault
-payload_cause old new g sequence bytes NoMemory is refuses = tt
+    → (fault ≢ NoMemory → payload_at g sequence bytes ≡ Err fault) → RecordCause old new fault
+payload_cause old new g sequence bytes NoMemory is refuses = is_committed old (payload_at g sequence bytes) is
 payload_cause old new g sequence bytes Damaged is refuses = inr (is ∙ ap (λ (r : Result Record Fault). Some r) (refuses (λ e. cc)))
 payload_cause old new g sequence bytes BadGeometry is refuses = is ∙ ap (λ (r : Result Record Fault). Some r) (refuses (λ e. cc))
 payload_cause old new g sequence bytes fault is refuses = absurd (elim (payload_refused g sequence bytes fault (refuses (λ e. cc))) [ inl damaged ↦ cc | inr other ↦ cc ])
@@ -88,13 +92,13 @@ pub newest_stays : (old new : Device) (newest : Option Record) → OnlyReads old
 newest_stays old new None reads is = none_stays old new reads is
 newest_stays old new (Some r) reads is = sym (committed_stays old new reads) ∙ is
 
-pub cause_stays : (old mid new : Device) (fault : Fault) → OnlyReads old mid → NewestCause mid new fault → NewestCause old new fault
+pub cause_stays : (old mid new : Device) (fault : Fault) → OnlyReads old mid → RecordCause mid new fault → NewestCause old new fault
 cause_stays old mid new Damaged reads cause = elim cause [ inl tie ↦ inl (tie_stays old mid reads tie) | inr damaged ↦ inr (sym (committed_stays old mid reads) ∙ damaged) ]
 cause_stays old mid new BadGeometry reads cause = sym (committed_stays old mid reads) ∙ cause
 cause_stays old mid new ReadFailed reads cause = let h = reads.failed_reads in omega arith
 cause_stays old mid new PowerCut reads cause = cause
-cause_stays old mid new NoMemory reads cause = tt
-cause_stays old mid new _ reads cause = cause
+cause_stays old mid new NoMemory reads cause = let There : Option (Result Record Fault) → Type 0 = λ o. IsSome o in inr (subst There (committed_stays old mid reads) cause)
+cause_stays old mid new _ reads cause = absurd cause
 
 -- where no place is found, no record is the newest
 pub none_committed : (d : Device) (g : Geometry) (found : Option Found) (newest : Option Record) → d.geometry ≡ g → found ≡ newest_at g (parts_on g d.pages) → found ≡ None → IsNewestRecord d newest → newest ≡ None
@@ -107,7 +111,12 @@ none_committed d g found (Some r) same at none is =
     cc
 
 -- a read that was refused
-pub read_cause : (old new : Device) (fault : Fault) → PageReadCause old new fault → NewestCause old new fault
+pub read_cause : (old new : Device) (fault : Fault) → PageReadCause old new fault → RecordCause old new fault
 read_cause old new ReadFailed cause = cause
 read_cause old new PowerCut cause = cause
 read_cause old new _ cause = absurd cause
+
+pub first_cause : (old new : Device) (fault : Fault) → PageReadCause old new fault → NewestCause old new fault
+first_cause old new ReadFailed cause = cause
+first_cause old new PowerCut cause = cause
+first_cause old new _ cause = absurd cause

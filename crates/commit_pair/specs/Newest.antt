@@ -1,5 +1,5 @@
 -- The newest record of a flash, and why it may not be told.
-use Rattle.std.specs.Prelude.{◌≡◌, ◌⊎◌, ◌/◌, ◌<◌, true, false, Option, Some, None, Result, Ok, Err}
+use Rattle.std.specs.Prelude.{◌≡◌, ◌⊎◌, ◌/◌, ◌<◌, true, false, Option, Some, None, Result, Ok, Err, IsSome}
 use Rattle.std.specs.Option.{option_map}
 use Rattle.fs_types.specs.declared.fault.Fault.{Fault}
 use Rattle.fs_types.specs.declared.fault.Fault.TheVariants.{ReadFailed, PowerCut, NoMemory, Damaged, BadGeometry}
@@ -37,11 +37,17 @@ abbrev pub IsNewestRecord : Device → Option Record → Type 0
 IsNewestRecord d None = HasNone d.geometry (parts_on d.geometry d.pages)
 IsNewestRecord d (Some newest) = committed_on d ≡ Some (Ok newest)
 
--- two records share the greatest sequence, or the payload of the newest means none
+-- why a record that is there is not told: two share the greatest sequence, or the payload of the newest means none.
+-- Memory is wanted for what a newest record holds alone
+abbrev pub RecordCause : Device → Device → Fault → Type 0
+RecordCause old new Damaged = HasTie old.geometry (parts_on old.geometry old.pages) ⊎ (committed_on old ≡ Some (Err Damaged))
+RecordCause old new BadGeometry = committed_on old ≡ Some (Err BadGeometry)
+RecordCause old new ReadFailed = old.failed_reads < new.failed_reads
+RecordCause old new PowerCut = new.powered ≡ false
+RecordCause old new NoMemory = IsSome (committed_on old)
+RecordCause old new _ = ⊥
+
+-- the same where memory is also wanted before anything is asked of the device
 abbrev pub NewestCause : Device → Device → Fault → Type 0
-NewestCause old new Damaged = HasTie old.geometry (parts_on old.geometry old.pages) ⊎ (committed_on old ≡ Some (Err Damaged))
-NewestCause old new BadGeometry = committed_on old ≡ Some (Err BadGeometry)
-NewestCause old new ReadFailed = old.failed_reads < new.failed_reads
-NewestCause old new PowerCut = new.powered ≡ false
-NewestCause old new NoMemory = Unit {0}
-NewestCause old new _ = ⊥
+NewestCause old new NoMemory = (new ≡ old) ⊎ RecordCause old new NoMemory
+NewestCause old new fault = RecordCause old new fault

@@ -53,7 +53,8 @@ impl Anchors {
     ///
     /// `Damaged` where two valid records have the greatest sequence; `Damaged` or `BadGeometry`
     /// where the payload of the newest is no record of a flash of these sizes; `ReadFailed` and
-    /// `PowerCut` by the device; `NoMemory` where memory could not be had. Nothing is written.
+    /// `PowerCut` by the device; `NoMemory` where memory could not be had, before any read or for a
+    /// newest record. Nothing is written.
     pub fn newest<F: Flash>(
         &mut self,
         alloc: Global,

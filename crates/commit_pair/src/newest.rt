@@ -6,7 +6,7 @@ ghost use Rattle.commit_pair.specs.Reading.{MayRead, PageReadCause};
 ghost use Rattle.std.specs.Bool.{OnTrue, OnFalse};
 ghost use Rattle.record_format.specs.Payloads.{payload_at};
 ghost use Rattle.commit_pair.specs.Payloads.{IsLongFront};
-ghost use Rattle.commit_pair.specs.Newest.{IsNewestRecord, NewestCause};
+ghost use Rattle.commit_pair.specs.Newest.{IsNewestRecord, RecordCause};
 ghost use Rattle.commit_pair.specs.Parts as spec;
 
 use crate::best::{Best, Found};
@@ -95,7 +95,7 @@ pub(crate) fn read_best<F: Flash>(
     ensures found { OnOk result (best.found ≡ spec.newest_at geometry (spec.parts_on geometry (F.device flash.old).pages)) }
     ensures only_reads { OnlyReads (F.device flash.old) (F.device flash.new) }
     ensures operations { (F.device flash.new).operations ≤ (F.device flash.old).operations + spec.pages_of (spec.newest_at geometry (spec.parts_on geometry (F.device flash.old).pages)) }
-    ensures why { IfErr result (NewestCause (F.device flash.old) (F.device flash.new)) }
+    ensures why { IfErr result (RecordCause (F.device flash.old) (F.device flash.new)) }
 {
     if best.twice {
         return Err(Fault::Damaged);

@@ -14,7 +14,7 @@ use Rattle.commit_pair.specs.Parts.{parts_on, best_on, newest_at}
 use Rattle.commit_pair.specs.Reading.{IsEnd}
 use Rattle.commit_pair.specs.Remembering.{MayCommit}
 use Rattle.commit_pair.proofs.Beginning.{remembers_at, knows_end_at, ready_at}
-use Rattle.commit_pair.proofs.Committed.{newest_stays, none_committed, read_cause, cause_stays}
+use Rattle.commit_pair.proofs.Committed.{newest_stays, none_committed, first_cause, cause_stays}
 use Rattle.commit_pair.proofs.ScanLaws.{newest_asks}
 use Rattle.commit_pair.proofs.anchors.Anchors.newest.Goals as goal
 
@@ -105,7 +105,7 @@ returns-in_err-best-clause-operations g c =
 pub returns-in_err-best-clause-why : goal.returns-in_err-best-clause-why
 returns-in_err-best-clause-why g c =
     let p = err_from_is_err_and c.from_residual-in_err-best.result c.from_residual-in_err-best.ensures.1 in
-    rw (p.1, p.2) (read_cause (g.F.Flash.device c.args.flash.now) (g.F.Flash.device c.find_best.new.flash) c.in_err-best.field-0.0 c.in_err-best.ensures.reads.why)
+    rw (p.1, p.2) (first_cause (g.F.Flash.device c.args.flash.now) (g.F.Flash.device c.find_best.new.flash) c.in_err-best.field-0.0 c.in_err-best.ensures.reads.why)
 
 pub returns-in_err-newest-clause-only_reads : goal.returns-in_err-newest-clause-only_reads
 returns-in_err-newest-clause-only_reads g c = OnlyReads_on (g.F.Flash.device c.args.flash.now) (g.F.Flash.device c.find_best.new.flash) (g.F.Flash.device c.read_best.new.flash) c.in_ok-best.ensures.reads.only_reads c.in_err-newest.ensures.only_reads

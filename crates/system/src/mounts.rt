@@ -57,7 +57,7 @@ fn mount_cached<F: Flash>(alloc: Global, flash: &mut F, cache: NodeCache) -> Res
 /// it has no tree of linked bodies, or where it has format 1 and one of these trees has a directory
 /// that is a chain. `BadGeometry` where the sizes are out of range, before any read, or where the
 /// newest record tells others; `ReadFailed` and `PowerCut` by the device; `NoMemory` where memory
-/// could not be had.
+/// could not be had, before any read or for a newest record.
 pub fn mount_with<F: Flash>(alloc: Global, flash: &mut F, nodes: usize) -> Result<System, Fault>
 
     // The system.

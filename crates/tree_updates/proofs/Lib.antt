@@ -1,4 +1,6 @@
 pub mod Assigned
+pub mod Edited
+pub mod Editing
 pub mod Leading
 pub mod Listed
 pub mod Pieces

@@ -16,7 +16,7 @@ use Rattle.plain_trees.specs.Contents.{Entry, Contents, overwritten, resized}
 use Rattle.plain_trees.specs.Trees.{Tree, bytes_of, bytes_of_file}
 use Rattle.plain_trees.proofs.Edits.{get-put}
 use Rattle.plain_trees.proofs.Beneath.{None≢Some}
-use Rattle.history_machine.specs.Descriptors.{Descriptors, none_open, truncates}
+use Rattle.history_machine.specs.Descriptors.{Descriptor, Descriptors, none_open, opened_at_least, truncates}
 use Rattle.history_machine.specs.History.{Past, IsLawful, changed, group_with}
 use Rattle.history_machine.specs.Laws.{anew}
 use Rattle.history_machine.specs.Machine.{Machine, machine_with, open_changes, refusal, machine_of, next, after}
@@ -29,7 +29,7 @@ use Rattle.tree_updates.proofs.Assigned.{set_at}
 use Rattle.tree_updates.proofs.Leading.{group_of, within, opened_anew, Leads, leads-refl, leads-trans, after-append, accepted-parts, never, set_there, maybe_made, undue_made, write_leads}
 
 -- what was put at a path is put over
-set_twice : (c : Contents) (p : Path) (x y : Option Entry) → set_at p y (set_at p x c) ≡ set_at p y c
+pub set_twice : (c : Contents) (p : Path) (x y : Option Entry) → set_at p y (set_at p x c) ≡ set_at p y c
 set_twice c p x y i q = go (same_path q p) i
   where
     go : (b : Bool) → cond b y (cond b x (c q)) ≡ cond b y (c q)
@@ -89,7 +89,7 @@ no_bytes [] e = refl
 no_bytes (b ∷ bytes) e = absurd (let l : length (b ∷ bytes) ≡ 0 = eqb-true (length (b ∷ bytes)) 0 e in omega arith)
 
 -- the machine after a call that makes none where a test holds
-either_made : (h : Past Tree) (t u : Tree) (due b : Bool) (ds : Descriptors)
+pub either_made : (h : Past Tree) (t u : Tree) (due b : Bool) (ds : Descriptors)
     → machine_with (option_map_or (changed h) (option_and_then (λ (v : Tree). let r : Option Tree = None in r) (cond b None (Some u))) h) (option_map_or (group_with (Some (group_of t due))) (cond b None (Some u)) (Some (group_of t due))) ds
     ≡ within h (cond (not b) u t) (cond (not b) true due) ds
 either_made h t u due true ds = refl
@@ -128,7 +128,7 @@ piece_leads h t due p old bytes offset there is ok = record {
 
 -- ---- all pieces
 
-stands_then : (c : Contents) (p : Path) (x : Option Entry) → set_at p x c p ≡ x
+pub stands_then : (c : Contents) (p : Path) (x : Option Entry) → set_at p x c p ≡ x
 stands_then c p x = ap (λ b. cond b x (c p)) (same_path-own p)
 
 -- pieces from one place on, of which each begins within the bytes
@@ -154,8 +154,8 @@ pieces_lead h t due p bytes i (suc k) there starts each =
     let sum : i + 1 + k ≡ i + suc k = omega arith in
     subst (Leads h t due (opened_anew p) _) (set_twice (get t) p (Some (Entry.File (old ++ more))) x ∙ ap (λ (n : ℕ). set_at p (Some (Entry.File (take (n * PIECE_BYTES) bytes))) (get t)) sum) all
 
-close_leads : (h : Past Tree) (t : Tree) (due : Bool) (p : Path) → Leads h t due none_open (next (within h t due (opened_anew p)) (Call.Close 0)) (get t)
-close_leads h t due p = record { tree = t; is_due = due; is = refl; at = refl; undue = λ e. (e, refl) }
+pub close_leads : (h : Past Tree) (t : Tree) (due : Bool) (d : Descriptor) → Leads h t due none_open (next (within h t due (opened_at_least none_open d)) (Call.Close 0)) (get t)
+close_leads h t due d = record { tree = t; is_due = due; is = refl; at = refl; undue = λ e. (e, refl) }
 
 -- a file gets bytes
 pub writing_leads : (h : Past Tree) (t : Tree) (due : Bool) (p : Path) (bytes : List ℕ) → IsLawful h → EachAccepted (within h t due none_open) (writing p bytes)
@@ -180,7 +180,7 @@ writing_leads h t due p bytes lawful = go (nat_le (length bytes) PIECE_BYTES)
         let parts = accepted-parts (within h first.tree first.is_due (opened_anew p)) pieces (Call.Close 0 ∷ []) (subst (λ k. EachAccepted k (pieces ++ Call.Close 0 ∷ [])) first.is each.1) in
         let here : get first.tree p ≡ Some (Entry.File (take (0 * PIECE_BYTES) bytes)) = ap (λ (c : Contents). c p) first.at ∙ stands_then (get t) p (Some (Entry.File [])) in
         let middle = pieces_lead h first.tree first.is_due p bytes 0 count here (λ j below. (let low : j < count = omega arith in omega (arith, bounds, low))) parts.0 in
-        let last = close_leads h middle.tree middle.is_due p in
+        let last = close_leads h middle.tree middle.is_due (record { path = p; flags = anew }) in
         let whole : take ((0 + count) * PIECE_BYTES) bytes ≡ bytes = take_all ((0 + count) * PIECE_BYTES) bytes (omega (arith, bounds)) in
         let x : Option Entry = Some (Entry.File (take ((0 + count) * PIECE_BYTES) bytes)) in
         let later = leads-trans h first.tree first.is_due (opened_anew p) none_open _ (Call.Close 0 ∷ []) (set_at p x (get first.tree)) (λ c. c) middle last in

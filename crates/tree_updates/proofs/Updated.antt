@@ -1,4 +1,5 @@
 -- What the calls of an update leave.
+use Rattle.std.proofs.lemmas.Bool.{true≢false}
 use Rattle.std.proofs.Common.{◌≡◌, ◌≢◌, ◌∙◌, ◌⊎◌, inl, inr, ℕ, Bool, true, false, cond, Option, Some, None, IsSome, List, [], ◌∷◌, ◌++◌, refl, sym, ap, ap₂, subst}
 use Rattle.std.specs.Prelude.{reverse, unwrap_or, if◌then◌else◌}
 use Rattle.std.specs.List.{flat_map}
@@ -23,27 +24,52 @@ use Rattle.tree_updates.proofs.Assigned.{assigned, all_assigned, all_miss, all_h
 use Rattle.tree_updates.proofs.Leading.{within, Leads, leads-refl, leads-trans, after-append, accepted-parts, mkdir_leads, unlink_leads, rmdir_leads}
 use Rattle.tree_updates.proofs.Pieces.{writing_leads}
 
+-- ---- what stands at a path of two trees is the same, or it is not
+
+pub same_or_other : (o there : Option Entry) → (o ≡ there) ⊎ (o ≢ there)
+same_or_other None None = inl refl
+same_or_other None (Some entry) = inr (λ e. absurd cc)
+same_or_other (Some entry) None = inr (λ e. absurd cc)
+same_or_other (Some Entry.Dir) (Some Entry.Dir) = inl refl
+same_or_other (Some Entry.Dir) (Some (Entry.File bytes)) = inr (λ e. absurd cc)
+same_or_other (Some (Entry.File bytes)) (Some Entry.Dir) = inr (λ e. absurd cc)
+same_or_other (Some (Entry.File bytes)) (Some (Entry.File others)) = go (same_bytes bytes others) refl
+  where
+    bytes_in : Option Entry → List ℕ
+    bytes_in (Some (Entry.File bs)) = bs
+    bytes_in _ = []
+
+    go : (b : Bool) → same_bytes bytes others ≡ b → (Some (Entry.File bytes) ≡ Some (Entry.File others)) ⊎ (Some (Entry.File bytes) ≢ Some (Entry.File others))
+    go true same = inl (ap (λ (bs : List ℕ). Some (Entry.File bs)) (same_name-is bytes others same))
+    go false other = inr (λ e. true≢false (sym (same_name-own bytes) ∙ ap (same_bytes bytes) (ap bytes_in e) ∙ other))
+
 -- ---- many paths
 
-many_lead : (f : Path → List Call) (x : Path → Option (Option Entry)) (h : Past Tree)
-    → ((p : Path) (t : Tree) (due : Bool) → EachAccepted (within h t due none_open) (f p) → Leads h t due none_open (after (within h t due none_open) (f p)) (assigned (x p) p (get t)))
-    → (ps : List Path) (t : Tree) (due : Bool) → EachAccepted (within h t due none_open) (flat_map f ps) → Leads h t due none_open (after (within h t due none_open) (flat_map f ps)) (all_assigned x ps (get t))
-many_lead f x h one [] t due each = leads-refl h t due none_open
-many_lead f x h one (p ∷ ps) t due each =
+many_lead : (P : Contents → Type 0) (f : Path → List Call) (x : Path → Option (Option Entry)) (h : Past Tree) → ((p : Path) (c : Contents) → P c → P (assigned (x p) p c))
+    → ((p : Path) (t : Tree) (due : Bool) → P (get t) → EachAccepted (within h t due none_open) (f p) → Leads h t due none_open (after (within h t due none_open) (f p)) (assigned (x p) p (get t)))
+    → (ps : List Path) (t : Tree) (due : Bool) → P (get t) → EachAccepted (within h t due none_open) (flat_map f ps) → Leads h t due none_open (after (within h t due none_open) (flat_map f ps)) (all_assigned x ps (get t))
+many_lead P f x h keeps one [] t due holds each = leads-refl h t due none_open
+many_lead P f x h keeps one (p ∷ ps) t due holds each =
     let n = within h t due none_open in
     let parts = accepted-parts n (f p) (flat_map f ps) each in
-    let first = one p t due parts.0 in
-    let rest = many_lead f x h one ps first.tree first.is_due (subst (λ k. EachAccepted k (flat_map f ps)) first.is parts.1) in
+    let first = one p t due holds parts.0 in
+    let still : P (get first.tree) = subst P (sym first.at) (keeps p (get t) holds) in
+    let rest = many_lead P f x h keeps one ps first.tree first.is_due still (subst (λ k. EachAccepted k (flat_map f ps)) first.is parts.1) in
     subst (λ k. Leads h t due none_open k (all_assigned x (p ∷ ps) (get t))) (sym (after-append n (f p) (flat_map f ps)))
     (leads-trans h t due none_open none_open (after n (f p)) (flat_map f ps) (assigned (x p) p (get t)) (all_assigned x ps) first rest)
+
+-- it goes on holding for paths in order
+many_keep : (P : Contents → Type 0) (x : Path → Option (Option Entry)) → ((p : Path) (c : Contents) → P c → P (assigned (x p) p c)) → (ps : List Path) (c : Contents) → P c → P (all_assigned x ps c)
+many_keep P x keeps [] c holds = holds
+many_keep P x keeps (p ∷ ps) c holds = many_keep P x keeps ps (assigned (x p) p c) (keeps p c holds)
 
 module _ (old new : Tree) where
   -- ---- what goes
 
-  abbrev gone : Option Entry → Option Entry → Option (Option Entry)
+  abbrev pub gone : Option Entry → Option Entry → Option (Option Entry)
   gone o there = if goes o there then Some None else None
 
-  abbrev gone_at : Path → Option (Option Entry)
+  abbrev pub gone_at : Path → Option (Option Entry)
   gone_at p = gone (get old p) (get new p)
 
   removal_leads : (h : Past Tree) (p : Path) (t : Tree) (due : Bool) → EachAccepted (within h t due none_open) (removal_at old new p) → Leads h t due none_open (after (within h t due none_open) (removal_at old new p)) (assigned (gone_at p) p (get t))
@@ -63,16 +89,16 @@ module _ (old new : Tree) where
 
   -- ---- what comes or changes
 
-  abbrev come : Option Entry → Option Entry → Option (Option Entry)
+  abbrev pub come : Option Entry → Option Entry → Option (Option Entry)
   come there None = None
   come (Some Entry.Dir) (Some Entry.Dir) = None
   come (Some (Entry.File bytes)) (Some (Entry.File others)) = if same_bytes bytes others then None else Some (Some (Entry.File others))
   come there (Some entry) = Some (Some entry)
 
-  abbrev come_at : Path → Option (Option Entry)
+  abbrev pub come_at : Path → Option (Option Entry)
   come_at p = come (get old p) (get new p)
 
-  making_leads : (h : Past Tree) → IsLawful h → (p : Path) (t : Tree) (due : Bool) → EachAccepted (within h t due none_open) (making_at old new p)
+  pub making_leads : (h : Past Tree) → IsLawful h → (p : Path) (t : Tree) (due : Bool) → EachAccepted (within h t due none_open) (making_at old new p)
       → Leads h t due none_open (after (within h t due none_open) (making_at old new p)) (assigned (come_at p) p (get t))
   making_leads h lawful p t due = go (get old p) (get new p)
     where
@@ -95,20 +121,24 @@ module _ (old new : Tree) where
 
   -- ---- all of it
 
-  abbrev left : List Path → List Path → Contents → Contents
+  abbrev pub left : List Path → List Path → Contents → Contents
   left olds news c = all_assigned come_at news (all_assigned gone_at (reverse olds) c)
 
-  changes_lead : (h : Past Tree) → IsLawful h → (t : Tree) (due : Bool) → EachAccepted (within h t due none_open) (update_changes old new)
-      → Leads h t due none_open (after (within h t due none_open) (update_changes old new)) (left (paths_of old) (paths_of new) (get t))
-  changes_lead h lawful t due each =
+  pub changes_lead : (P : Contents → Type 0) (make : Path → List Call) → ((p : Path) (c : Contents) → P c → P (assigned (gone_at p) p c)) → ((p : Path) (c : Contents) → P c → P (assigned (come_at p) p c))
+      → (h : Past Tree)
+      → ((p : Path) (t : Tree) (due : Bool) → P (get t) → EachAccepted (within h t due none_open) (make p) → Leads h t due none_open (after (within h t due none_open) (make p)) (assigned (come_at p) p (get t)))
+      → (t : Tree) (due : Bool) → P (get t) → EachAccepted (within h t due none_open) (flat_map (removal_at old new) (reverse (paths_of old)) ++ flat_map make (paths_of new))
+      → Leads h t due none_open (after (within h t due none_open) (flat_map (removal_at old new) (reverse (paths_of old)) ++ flat_map make (paths_of new))) (left (paths_of old) (paths_of new) (get t))
+  changes_lead P make keeps_gone keeps_come h makes t due holds each =
       let n = within h t due none_open in
       let olds = paths_of old in
       let news = paths_of new in
       let removals = flat_map (removal_at old new) (reverse olds) in
-      let makings = flat_map (making_at old new) news in
+      let makings = flat_map make news in
       let parts = accepted-parts n removals makings each in
-      let first = many_lead (removal_at old new) gone_at h (removal_leads h) (reverse olds) t due parts.0 in
-      let rest = many_lead (making_at old new) come_at h (making_leads h lawful) news first.tree first.is_due (subst (λ k. EachAccepted k makings) first.is parts.1) in
+      let first = many_lead P (removal_at old new) gone_at h keeps_gone (λ p u d still. removal_leads h p u d) (reverse olds) t due holds parts.0 in
+      let still : P (get first.tree) = subst P (sym first.at) (many_keep P gone_at keeps_gone (reverse olds) (get t) holds) in
+      let rest = many_lead P make come_at h keeps_come makes news first.tree first.is_due still (subst (λ k. EachAccepted k makings) first.is parts.1) in
       subst (λ k. Leads h t due none_open k (left (paths_of old) (paths_of new) (get t))) (sym (after-append n removals makings))
       (leads-trans h t due none_open none_open (after n removals) makings (all_assigned gone_at (reverse olds) (get t)) (all_assigned come_at news) first rest)
 
@@ -143,7 +173,7 @@ module _ (old new : Tree) where
     not_root : (q : Path) → get old q ≢ get new q → q ≢ []
     not_root q differs root = differs (ap (get old) root ∙ lawful.shape.root ∙ sym lawful'.shape.root ∙ ap (get new) (sym root))
 
-    at_other : (q : Path) → get old q ≡ get new q → left olds news c q ≡ c q
+    pub at_other : (q : Path) → get old q ≡ get new q → left olds news c q ≡ c q
     at_other q same =
         let none = stays_none q same in
         all_miss come_at q news (all_assigned gone_at (reverse olds) c) none.1 ∙ all_miss gone_at q (reverse olds) c none.0
@@ -152,7 +182,7 @@ module _ (old new : Tree) where
     some_listed q t None is some = absurd (some refl)
     some_listed q t (Some entry) is some = some-is (get t q) entry is
 
-    at_differing : (q : Path) → get old q ≢ get new q → left olds news c q ≡ get new q
+    pub at_differing : (q : Path) → get old q ≢ get new q → left olds news c q ≡ get new q
     at_differing q differs = go (get new q) refl
       where
         go : (o : Option Entry) → get new q ≡ o → left olds news c q ≡ get new q
@@ -172,8 +202,10 @@ module _ (old new : Tree) where
 
   -- ---- where the two are one
 
-  pub same_changes : old ≡ new → update_changes old new ≡ []
-  same_changes same = ap₂ (λ (xs ys : List Call). xs ++ ys) (none (removal_at old new) (reverse (paths_of old)) (λ p. no_removal p)) (none (making_at old new) (paths_of new) (λ p. no_making p))
+  pub no_changes : (make : Path → Option Entry → Option Entry → List Call) → ((p : Path) (o : Option Entry) → make p o o ≡ []) → old ≡ new
+      → flat_map (removal_at old new) (reverse (paths_of old)) ++ flat_map (λ p. make p (get old p) (get new p)) (paths_of new) ≡ []
+  no_changes make idle same =
+      ap₂ (λ (xs ys : List Call). xs ++ ys) (none (removal_at old new) (reverse (paths_of old)) (λ p. no_removal p)) (none (λ p. make p (get old p) (get new p)) (paths_of new) (λ p. no_making p))
     where
       none : (f : Path → List Call) (ps : List Path) → ((p : Path) → f p ≡ []) → flat_map f ps ≡ []
       none f [] each = refl
@@ -187,13 +219,16 @@ module _ (old new : Tree) where
           go (Some Entry.Dir) = refl
           go (Some (Entry.File bytes)) = refl
 
-      no_making : (p : Path) → making_at old new p ≡ []
-      no_making p = subst (λ (u : Tree). making_at old u p ≡ []) same (go (get old p))
-        where
-          go : (o : Option Entry) → making p o o ≡ []
-          go None = refl
-          go (Some Entry.Dir) = refl
-          go (Some (Entry.File bytes)) = ap (λ (b : Bool). if b then [] else writing p bytes) (same_name-own bytes)
+      no_making : (p : Path) → make p (get old p) (get new p) ≡ []
+      no_making p = subst (λ (u : Tree). make p (get old p) (get u p) ≡ []) same (idle p (get old p))
+
+  pub same_changes : old ≡ new → update_changes old new ≡ []
+  same_changes = no_changes making no_making
+    where
+      no_making : (p : Path) (o : Option Entry) → making p o o ≡ []
+      no_making p None = refl
+      no_making p (Some Entry.Dir) = refl
+      no_making p (Some (Entry.File bytes)) = ap (λ (b : Bool). if b then [] else writing p bytes) (same_name-own bytes)
 
 -- ---- the group ends, and is brought to the flash
 
@@ -244,7 +279,7 @@ update_law old new m lawful lawful' is each = record {
     parts = accepted-parts n calls (Call.End ∷ Call.Sync ∷ []) (subst (λ k. EachAccepted k (calls ++ Call.End ∷ Call.Sync ∷ [])) begun each.1)
 
     l : Leads m.history was false none_open (after n calls) (left old new olds news (get was))
-    l = changes_lead old new m.history is.lawful was false parts.0
+    l = changes_lead old new (λ c. Unit {0}) (making_at old new) (λ p c still. tt) (λ p c still. tt) m.history (λ p t due still. making_leads old new m.history is.lawful p t due) was false tt parts.0
 
     end : after m (update_calls old new) ≡ machine_with (cond l.is_due (changed m.history l.tree) m.history) None none_open
     end =

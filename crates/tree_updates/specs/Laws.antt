@@ -1,12 +1,14 @@
 -- The law of updates.
-use Rattle.std.specs.Prelude.{◌≡◌, ◌≢◌, ◌⊎◌, None, List, [], ◌∷◌}
+use Rattle.std.specs.Prelude.{◌≡◌, ◌≢◌, ◌⊎◌, Bool, true, Some, None, List, [], ◌∷◌}
 use Rattle.std.specs.FinMap.{get}
 use Rattle.fs_types.specs.Names.{Path}
 use Rattle.fs_types.specs.declared.call.Call.{Call}
+use Rattle.fs_types.specs.declared.call.Group.{Group}
 use Rattle.plain_trees.specs.Trees.{Tree, IsFileTree}
-use Rattle.history_machine.specs.History.{changed}
-use Rattle.history_machine.specs.Machine.{Machine, IsMachine, mounted, present_tree, refusal, next, after}
-use Rattle.tree_updates.specs.Updates.{update_calls}
+use Rattle.history_machine.specs.Descriptors.{none_open}
+use Rattle.history_machine.specs.History.{Past, IsLawful, changed}
+use Rattle.history_machine.specs.Machine.{Machine, IsMachine, machine_with, mounted, present_tree, refusal, next, after}
+use Rattle.tree_updates.specs.Updates.{edit_changes, update_calls}
 
 -- each call is accepted, one after the other
 abbrev pub EachAccepted : Machine → List Call → Type 0
@@ -30,3 +32,20 @@ pub record Updates (old new : Tree) (m n : Machine) : Type 0 where
 abbrev pub UpdateLaw : Type 0
 UpdateLaw = (old new : Tree) (m : Machine) → IsFileTree old → IsFileTree new → IsMachine m
     → EachAccepted m (update_calls old new) → Updates old new m (after m (update_calls old new))
+
+-- a history with a change group that has a tree, where no file is open
+abbrev pub grouped : Past Tree → Tree → Bool → Machine
+grouped h t due = machine_with h (Some (record { root = t; is_due = due })) none_open
+
+-- whether a version is due after calls, each of which changes something
+abbrev pub due_after : List Call → Bool → Bool
+due_after [] due = due
+due_after (call ∷ calls) due = true
+
+-- calls that bring a tree to another one: where a change group has the first and each is accepted, it has the second then
+pub record Brings (old new : Tree) (calls : List Call) : Type 0 where
+  pub leads : (h : Past Tree) (due : Bool) → IsLawful h → EachAccepted (grouped h old due) calls → after (grouped h old due) calls ≡ grouped h new (due_after calls due)
+
+-- the changes that keep of each file what they can bring the one tree to the other
+abbrev pub EditLaw : Type 0
+EditLaw = (old new : Tree) → IsFileTree old → IsFileTree new → Brings old new (edit_changes old new)

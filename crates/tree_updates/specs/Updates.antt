@@ -1,11 +1,12 @@
 -- The calls that bring one tree to another.
-use Rattle.std.specs.Prelude.{ℕ, zero, suc, ◌*◌, nat_le, Bool, true, false, Option, Some, None, List, [], ◌∷◌, ◌++◌, length, take, drop, map, reverse, if◌then◌else◌}
+use Rattle.std.specs.Prelude.{ℕ, zero, suc, ◌*◌, ◌==◌, min, nat_le, Bool, true, false, Option, Some, None, List, [], ◌∷◌, ◌++◌, length, take, drop, map, reverse, if◌then◌else◌}
 use Rattle.std.specs.Int.{div_ceil}
 use Rattle.std.specs.List.{flat_map, range_with_len}
 use Rattle.std.specs.FinMap.{get}
 use Rattle.fs_types.specs.Names.{Path}
 use Rattle.fs_types.specs.declared.call.Call.{Call}
 use Rattle.fs_types.specs.declared.limits.TheConstants.{MAX_NAMES}
+use Rattle.fs_types.specs.declared.open_flags.OpenFlags.{OpenFlags}
 use Rattle.plain_trees.specs.Contents.{Entry, same_bytes}
 use Rattle.plain_trees.specs.Trees.{Tree, children}
 use Rattle.history_machine.specs.Laws.{anew}
@@ -51,6 +52,29 @@ making path there (Some (Entry.File others)) = writing path others
 abbrev pub making_at : Tree → Tree → Path → List Call
 making_at old new path = making path (get old path) (get new path)
 
+-- how many bytes two files have in common at their beginning
+abbrev pub common_length : List ℕ → List ℕ → ℕ
+common_length [] others = 0
+common_length (byte ∷ bytes) [] = 0
+common_length (byte ∷ bytes) (other ∷ others) = if byte == other then suc (common_length bytes others) else 0
+
+-- the flag of an open for writing, which leaves the file as it is
+abbrev pub for_writing : OpenFlags
+for_writing = record { 0 = 2 }
+
+-- a file that has some bytes gets others: it is cut where it has more, and written from the first byte on that differs
+abbrev pub editing : Path → List ℕ → List ℕ → List Call
+editing path bytes others = Call.Open path for_writing ∷ Call.Ftruncate 0 (min (length bytes) (length others))
+    ∷ Call.Pwrite 0 (common_length bytes others) (drop (common_length bytes others) others) ∷ Call.Close 0 ∷ []
+
+-- the same as `making`, but that a file in the place of a file keeps what the two have in common
+abbrev pub adapting : Path → Option Entry → Option Entry → List Call
+adapting path (Some (Entry.File bytes)) (Some (Entry.File others)) = if same_bytes bytes others then [] else editing path bytes others
+adapting path there entry = making path there entry
+
+abbrev pub adapting_at : Tree → Tree → Path → List Call
+adapting_at old new path = adapting path (get old path) (get new path)
+
 -- the paths of what stands below a directory, in so many levels: a directory's before those of what stands in it, and names in byte
 -- order
 unfoldable pub paths_below : Tree → ℕ → Path → List Path
@@ -64,6 +88,10 @@ paths_of t = paths_below t MAX_NAMES []
 -- the changes: what goes is removed first, what stands in a directory before that; then what came or changed is made
 abbrev pub update_changes : Tree → Tree → List Call
 update_changes old new = flat_map (removal_at old new) (reverse (paths_of old)) ++ flat_map (making_at old new) (paths_of new)
+
+-- the same, where each file of both trees keeps what it can
+abbrev pub edit_changes : Tree → Tree → List Call
+edit_changes old new = flat_map (removal_at old new) (reverse (paths_of old)) ++ flat_map (adapting_at old new) (paths_of new)
 
 -- all of it in one change group, which is brought to the flash
 abbrev pub update_calls : Tree → Tree → List Call

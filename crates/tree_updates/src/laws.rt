@@ -1,11 +1,13 @@
-//! The law of updates. The function does nothing: its contract is the law.
-ghost use Rattle.tree_updates.specs.Laws.{UpdateLaw};
+//! The laws of updates. The function does nothing: its contract is the laws.
+ghost use Rattle.tree_updates.specs.Laws.{EditLaw, UpdateLaw};
 
 /// The bytes that a line of a script names at most, here: with the longest path it has room for as many.
 pub const PIECE_BYTES: u32 = 30_000;
 
 /// What the calls of an update leave: at each path at which the two trees differ what the second has, and
-/// elsewhere what was there before; and one version at most.
+/// elsewhere what was there before; and one version at most. And the changes that write of each file only what
+/// differs bring a tree to the other one.
 pub fn update_laws()
-    ensures { UpdateLaw }
+    ensures updates { UpdateLaw }
+    ensures edits { EditLaw }
 {}

@@ -372,7 +372,7 @@ next_fresh f p t block pass told left at = on (set.contains t.links.members bloc
         absurd (pass.distinct seen.0 p.next seen.1 left (seen.2 ∙ at))
 
 -- nothing was read
-pub heads_none : (capacity : ℕ) (f : Blocks) (p : Pass) (t : Table) → p.next ≡ 0 → ((b : ℕ) → t.links.blocks ≤ b → f b ≡ None) → t.links.members ≡ set.empty → t.read.members ≡ set.empty → ((b : ℕ) → slice_index t.words.items b ≡ 0)
+pub heads_none : (capacity : ℕ) (f : Blocks) (p : Pass) (t : Table) → p.next ≡ 0 → ((b : ℕ) → t.links.blocks ≤ b → f b ≡ None) → t.links.members ≡ set.empty → t.read.members ≡ set.empty → ((b : ℕ) → slice_index t.words b ≡ 0)
     → HeadsAreTold capacity f p t
 heads_none capacity f p t none high links read words = record {
   beyond = λ b past. elim (cases_lt b t.links.blocks) [

@@ -85,7 +85,7 @@ file_fits capacity most head (suc n) some is = is
 fits_some : (capacity size : ℕ) → 0 < size → fits capacity size 0 ≡ true → ⊥
 fits_some capacity size some is = omega (arith, some, (fits_parts capacity size 0 is).0)
 
-pub kept_file : (capacity : ℕ) (t : Table) (head size : ℕ) → 0 < size → head < t.links.blocks → set.contains t.links.members head ≡ false → fits capacity size (slice_index t.words.items head) ≡ true
+pub kept_file : (capacity : ℕ) (t : Table) (head size : ℕ) → 0 < size → head < t.links.blocks → set.contains t.links.members head ≡ false → fits capacity size (slice_index t.words head) ≡ true
     → IsKept capacity t (File head size)
 kept_file capacity t head zero some below lacks is = absurd (omega (arith, some))
 kept_file capacity t head (suc n) some below lacks is = (below, lacks, is)
@@ -105,7 +105,7 @@ module _ (capacity : ℕ) (most : ℕ → ℕ) (seen : List ℕ) (told : List Pl
       | inl before ↦ keeps.kept at before
       | inr same ↦ subst (IsKept capacity t) same own
     ];
-    from = λ b links read some. Contains-append_left told (place ∷ []) (File b (slice_index t.words.items b)) (keeps.from b links read some);
+    from = λ b links read some. Contains-append_left told (place ∷ []) (File b (slice_index t.words b)) (keeps.from b links read some);
   }
 
   -- an entry that is last of those that fit
@@ -115,21 +115,21 @@ module _ (capacity : ℕ) (most : ℕ → ℕ) (seen : List ℕ) (told : List Pl
   pub none_fits : (head size : ℕ) → 0 < size → most head ≡ 0 → FitHeads capacity most (told ++ File head size ∷ []) → ⊥
   none_fits head size some none fit = fits_some capacity size some (ap (fits capacity size) (sym none) ∙ last_fits head size some fit)
 
-  pub read_fits : (head size : ℕ) → 0 < size → set.contains t.links.members head ≡ false → set.contains t.read.members head ≡ true → fits capacity size (slice_index t.words.items head) ≡ false
+  pub read_fits : (head size : ℕ) → 0 < size → set.contains t.links.members head ≡ false → set.contains t.read.members head ≡ true → fits capacity size (slice_index t.words head) ≡ false
       → FitHeads capacity most (told ++ File head size ∷ []) → ⊥
   read_fits head size some links read fails fit = true≢false (sym (last_fits head size some fit) ∙ ap (fits capacity size) (sym (keeps.read head read links)) ∙ fails)
 
   -- neither of two lengths has room for the other
-  pub others_fit : (head size : ℕ) → 0 < size → set.contains t.links.members head ≡ false → set.contains t.read.members head ≡ false → slice_index t.words.items head ≢ 0
-      → fits capacity (slice_index t.words.items head) size ≡ false → fits capacity size (slice_index t.words.items head) ≡ false → FitHeads capacity most (told ++ File head size ∷ []) → ⊥
+  pub others_fit : (head size : ℕ) → 0 < size → set.contains t.links.members head ≡ false → set.contains t.read.members head ≡ false → slice_index t.words head ≢ 0
+      → fits capacity (slice_index t.words head) size ≡ false → fits capacity size (slice_index t.words head) ≡ false → FitHeads capacity most (told ++ File head size ∷ []) → ⊥
   others_fit head size some links read word fails neither fit =
-      let w = slice_index t.words.items head in
+      let w = slice_index t.words head in
       let own = file_fits capacity most head w (some_of w word) (fit (File head w) (Contains-append_left told (File head size ∷ []) (File head w) (keeps.from head links read word))) in
       true≢false (sym (fits_either capacity w size (most head) own (last_fits head size some fit) fails) ∙ neither)
 
   -- the word of a head becomes a length that has room for it
-  pub head_set : (u : Table) (head size : ℕ) → 0 < size → u.links ≡ t.links → u.read ≡ t.read → u.words.items ≡ slice_set t.words.items head size → head < t.links.blocks → head < length t.words.items
-      → set.contains t.links.members head ≡ false → set.contains t.read.members head ≡ false → (slice_index t.words.items head ≡ 0) ⊎ (fits capacity (slice_index t.words.items head) size ≡ true)
+  pub head_set : (u : Table) (head size : ℕ) → 0 < size → u.links ≡ t.links → u.read ≡ t.read → u.words ≡ slice_set t.words head size → head < t.links.blocks → head < length t.words
+      → set.contains t.links.members head ≡ false → set.contains t.read.members head ≡ false → (slice_index t.words head ≡ 0) ⊎ (fits capacity (slice_index t.words head) size ≡ true)
       → KeepsHeads capacity most seen (told ++ File head size ∷ []) u
   head_set u head size some same_links same_read words below inside links read room = record {
     beyond = λ b past. keeps.beyond b (λ less. past (subst (λ l. b < l.blocks) (sym same_links) less));
@@ -143,23 +143,23 @@ module _ (capacity : ℕ) (most : ℕ → ℕ) (seen : List ℕ) (told : List Pl
       | inl before ↦ stays at (keeps.kept at before)
       | inr same ↦ subst (IsKept capacity u) same (kept_file capacity u head size some (subst (λ l. head < l.blocks) (sym same_links) below) (ap (λ l. set.contains l.members head) same_links ∙ links) (ap (fits capacity size) word_here ∙ fits_itself capacity size))
     ];
-    from = λ b lacks unread word. by_same (Contains (told ++ File head size ∷ []) (File b (slice_index u.words.items b))) b head
-        (λ same. subst (λ (c : ℕ). Contains (told ++ File head size ∷ []) (File c (slice_index u.words.items c))) (sym same)
+    from = λ b lacks unread word. by_same (Contains (told ++ File head size ∷ []) (File b (slice_index u.words b))) b head
+        (λ same. subst (λ (c : ℕ). Contains (told ++ File head size ∷ []) (File c (slice_index u.words c))) (sym same)
         (subst (λ (w : ℕ). Contains (told ++ File head size ∷ []) (File head w)) (sym word_here) (Contains-push told (File head size))))
         (λ other. subst (λ (w : ℕ). Contains (told ++ File head size ∷ []) (File b w)) (sym (word_other b other))
-        (Contains-append_left told (File head size ∷ []) (File b (slice_index t.words.items b)) (keeps.from b (ap (λ l. set.contains l.members b) (sym same_links) ∙ lacks) (ap (λ l. set.contains l.members b) (sym same_read) ∙ unread) (λ none. word (word_other b other ∙ none)))));
+        (Contains-append_left told (File head size ∷ []) (File b (slice_index t.words b)) (keeps.from b (ap (λ l. set.contains l.members b) (sym same_links) ∙ lacks) (ap (λ l. set.contains l.members b) (sym same_read) ∙ unread) (λ none. word (word_other b other ∙ none)))));
   }
     where
-      word_here : slice_index u.words.items head ≡ size
-      word_here = ap (λ (xs : List ℕ). slice_index xs head) words ∙ get_or-set_same t.words.items head size 0 inside
+      word_here : slice_index u.words head ≡ size
+      word_here = ap (λ (xs : List ℕ). slice_index xs head) words ∙ get_or-set_same t.words head size 0 inside
 
-      word_other : (b : ℕ) → b ≢ head → slice_index u.words.items b ≡ slice_index t.words.items b
-      word_other b other = ap (λ (xs : List ℕ). slice_index xs b) words ∙ get_or-set_other t.words.items head b size 0 other
+      word_other : (b : ℕ) → b ≢ head → slice_index u.words b ≡ slice_index t.words b
+      word_other b other = ap (λ (xs : List ℕ). slice_index xs b) words ∙ get_or-set_other t.words head b size 0 other
 
-      grown : (n : ℕ) → fits capacity (suc n) (slice_index t.words.items head) ≡ true → fits capacity (suc n) size ≡ true
+      grown : (n : ℕ) → fits capacity (suc n) (slice_index t.words head) ≡ true → fits capacity (suc n) size ≡ true
       grown n is = elim room [
         | inl none ↦ absurd (fits_none capacity n (ap (fits capacity (suc n)) (sym none) ∙ is))
-        | inr more ↦ fits_on capacity (suc n) (slice_index t.words.items head) size is more
+        | inr more ↦ fits_on capacity (suc n) (slice_index t.words head) size is more
       ]
 
       stays : (at : Place) → IsKept capacity t at → IsKept capacity u at
@@ -168,27 +168,27 @@ module _ (capacity : ℕ) (most : ℕ → ℕ) (seen : List ℕ) (told : List Pl
       stays (File b (suc n)) (lt, lacks, is) = (
         subst (λ l. b < l.blocks) (sym same_links) lt,
         ap (λ l. set.contains l.members b) same_links ∙ lacks,
-        by_same (fits capacity (suc n) (slice_index u.words.items b) ≡ true) b head
-            (λ same. ap (λ (c : ℕ). fits capacity (suc n) (slice_index u.words.items c)) same ∙ ap (fits capacity (suc n)) word_here ∙ grown n (ap (λ (c : ℕ). fits capacity (suc n) (slice_index t.words.items c)) (sym same) ∙ is))
+        by_same (fits capacity (suc n) (slice_index u.words b) ≡ true) b head
+            (λ same. ap (λ (c : ℕ). fits capacity (suc n) (slice_index u.words c)) same ∙ ap (fits capacity (suc n)) word_here ∙ grown n (ap (λ (c : ℕ). fits capacity (suc n) (slice_index t.words c)) (sym same) ∙ is))
             (λ other. ap (fits capacity (suc n)) (word_other b other) ∙ is),
       )
 
   -- ---- a node that was read
 
   -- an entry told of a file that its head has fails room for
-  pub longest_bad : (block allowed : ℕ) → most block ≡ allowed → set.contains t.links.members block ≡ false → slice_index t.words.items block ≢ 0 → fits capacity (slice_index t.words.items block) allowed ≡ false
+  pub longest_bad : (block allowed : ℕ) → most block ≡ allowed → set.contains t.links.members block ≡ false → slice_index t.words block ≢ 0 → fits capacity (slice_index t.words block) allowed ≡ false
       → FitHeads capacity most told → ⊥
   longest_bad block allowed allows fresh word fails fit = by_bool ⊥ (set.contains t.read.members block)
       (λ read. true≢false (sym (fits_itself capacity w) ∙ ap (fits capacity w) (keeps.read block read fresh ∙ allows) ∙ fails))
       (λ unread. true≢false (sym (file_fits capacity most block w (some_of w word) (fit (File block w) (keeps.from block fresh unread word))) ∙ ap (fits capacity w) allows ∙ fails))
     where
       w : ℕ
-      w = slice_index t.words.items block
+      w = slice_index t.words block
 
   module _ (u : Table) (block allowed : ℕ) (linked : Bool) (allows : most block ≡ allowed) (link : linked ≡ true → most block ≡ 0) (fresh : set.contains t.links.members block ≡ false)
-      (room : (slice_index t.words.items block ≡ 0) ⊎ (fits capacity (slice_index t.words.items block) allowed ≡ true)) (size : u.links.blocks ≡ t.links.blocks)
+      (room : (slice_index t.words block ≡ 0) ⊎ (fits capacity (slice_index t.words block) allowed ≡ true)) (size : u.links.blocks ≡ t.links.blocks)
       (links : u.links.members ≡ cond linked (set.insert t.links.members block) t.links.members) (read : u.read.members ≡ set.insert t.read.members block)
-      (others : (b : ℕ) → b ≢ block → slice_index u.words.items b ≡ slice_index t.words.items b) (own : linked ≡ false → slice_index u.words.items block ≡ allowed) where
+      (others : (b : ℕ) → b ≢ block → slice_index u.words b ≡ slice_index t.words b) (own : linked ≡ false → slice_index u.words block ≡ allowed) where
     had : (b : ℕ) → b ≢ block → set.contains u.links.members b ≡ true → set.contains t.links.members b ≡ true
     had b other has = on linked (ap (λ s. set.contains s b) (sym links) ∙ has)
       where
@@ -217,10 +217,10 @@ module _ (capacity : ℕ) (most : ℕ → ℕ) (seen : List ℕ) (told : List Pl
     was_read : (b : ℕ) → b ≢ block → set.contains u.read.members b ≡ true → set.contains t.read.members b ≡ true
     was_read b other has = contains_other t.read.members block b other (ap (λ s. set.contains s b) (sym read) ∙ has)
 
-    grown : (n : ℕ) → fits capacity (suc n) (slice_index t.words.items block) ≡ true → fits capacity (suc n) allowed ≡ true
+    grown : (n : ℕ) → fits capacity (suc n) (slice_index t.words block) ≡ true → fits capacity (suc n) allowed ≡ true
     grown n is = elim room [
       | inl none ↦ absurd (fits_none capacity n (ap (fits capacity (suc n)) (sym none) ∙ is))
-      | inr more ↦ fits_on capacity (suc n) (slice_index t.words.items block) allowed is more
+      | inr more ↦ fits_on capacity (suc n) (slice_index t.words block) allowed is more
     ]
 
     stays : (at : Place) → IsKept capacity t at → IsKept capacity u at
@@ -228,13 +228,13 @@ module _ (capacity : ℕ) (most : ℕ → ℕ) (seen : List ℕ) (told : List Pl
     stays (File b zero) own = own
     stays (File b (suc n)) (lt, lacks, is) = by_same (IsKept capacity u (File b (suc n))) b block
         (λ same.
-        let here : fits capacity (suc n) allowed ≡ true = grown n (ap (λ (c : ℕ). fits capacity (suc n) (slice_index t.words.items c)) (sym same) ∙ is) in
+        let here : fits capacity (suc n) allowed ≡ true = grown n (ap (λ (c : ℕ). fits capacity (suc n) (slice_index t.words c)) (sym same) ∙ is) in
         by_bool (IsKept capacity u (File b (suc n))) linked
         (λ yes_. absurd (fits_none capacity n (ap (fits capacity (suc n)) (sym (link yes_) ∙ allows) ∙ here)))
         (λ fails. (
           omega (arith, lt, size),
           ap (λ s. set.contains s b) links ∙ ap (λ l. set.contains (cond l (set.insert t.links.members block) t.links.members) b) fails ∙ lacks,
-          ap (λ (c : ℕ). fits capacity (suc n) (slice_index u.words.items c)) same ∙ ap (fits capacity (suc n)) (own fails) ∙ here,
+          ap (λ (c : ℕ). fits capacity (suc n) (slice_index u.words c)) same ∙ ap (fits capacity (suc n)) (own fails) ∙ here,
         )))
         (λ other. (omega (arith, lt, size), lacks_links b other lacks, ap (fits capacity (suc n)) (others b other) ∙ is))
 
@@ -248,11 +248,11 @@ module _ (capacity : ℕ) (most : ℕ → ℕ) (seen : List ℕ) (told : List Pl
         | inl before ↦ contains-kept t.read.members block b (keeps.all b before)
         | inr same ↦ subst (λ (c : ℕ). set.contains (set.insert t.read.members block) c ≡ true) same (contains-insert_same t.read.members block)
       ];
-      read = λ b has lacks. by_same (slice_index u.words.items b ≡ most b) b block
-          (λ same. ap (slice_index u.words.items) same ∙ own (unlinked (ap (set.contains u.links.members) (sym same) ∙ lacks)) ∙ sym allows ∙ ap most (sym same))
+      read = λ b has lacks. by_same (slice_index u.words b ≡ most b) b block
+          (λ same. ap (slice_index u.words) same ∙ own (unlinked (ap (set.contains u.links.members) (sym same) ∙ lacks)) ∙ sym allows ∙ ap most (sym same))
           (λ other. others b other ∙ keeps.read b (was_read b other has) (lacked_links b lacks));
       kept = λ at has. stays at (keeps.kept at has);
-      from = λ b lacks unread word. by_same (Contains told (File b (slice_index u.words.items b))) b block
+      from = λ b lacks unread word. by_same (Contains told (File b (slice_index u.words b))) b block
           (λ same. absurd (true≢false (sym (contains-insert_same t.read.members block) ∙ ap (set.contains (set.insert t.read.members block)) (sym same) ∙ ap (λ s. set.contains s b) (sym read) ∙ unread)))
           (λ other. subst (λ (w : ℕ). Contains told (File b w)) (sym (others b other))
           (keeps.from b (lacked_links b lacks) (lacked t.read.members block b (ap (λ s. set.contains s b) (sym read) ∙ unread)) (λ none. word (others b other ∙ none))));
@@ -338,10 +338,10 @@ some_mapped : (edge : Option Edge) → is_some (option_map (λ (e : Edge). e.nex
 some_mapped None = refl
 some_mapped (Some e) = refl
 
-module _ (t t1 t2 t3 : Table) (block allowed : ℕ) (edge : Option Edge) (next : Option ℕ) (next_is : next ≡ option_map (λ (e : Edge). e.next) edge) (within : block < length t.words.items)
-    (first : t1.words.items ≡ slice_set t.words.items block allowed) (same : t1 ≡ record t { words = t1.words; read = t1.read }) (read : t1.read ≡ record t.read { members = set.insert t.read.members block })
+module _ (t t1 t2 t3 : Table) (block allowed : ℕ) (edge : Option Edge) (next : Option ℕ) (next_is : next ≡ option_map (λ (e : Edge). e.next) edge) (within : block < length t.words)
+    (first : t1.words ≡ slice_set t.words block allowed) (same : t1 ≡ record t { words = t1.words; read = t1.read }) (read : t1.read ≡ record t.read { members = set.insert t.read.members block })
     (sized : IsSized t1.links.blocks t2) (links : t2.links.members ≡ cond (is_some next) (set.insert t1.links.members block) t1.links.members)
-    (second : t2.words.items ≡ option_map_or (λ n. slice_set t1.words.items block n) next t1.words.items) (read2 : t2.read ≡ t1.read) (keeps : KeepsLinks t2 t3) where
+    (second : t2.words ≡ option_map_or (λ n. slice_set t1.words block n) next t1.words) (read2 : t2.read ≡ t1.read) (keeps : KeepsLinks t2 t3) where
   some_next : is_some next ≡ is_some edge
   some_next = ap is_some next_is ∙ some_mapped edge
 
@@ -351,32 +351,32 @@ module _ (t t1 t2 t3 : Table) (block allowed : ℕ) (edge : Option Edge) (next :
   pub all_links : t2.links.members ≡ cond (is_some edge) (set.insert t.links.members block) t.links.members
   all_links = links ∙ ap (λ l. cond (is_some next) (set.insert l.members block) l.members) same_links ∙ ap (λ (s : Bool). cond s (set.insert t.links.members block) t.links.members) some_next
 
-  both : t2.words.items ≡ option_map_or (λ n. slice_set (slice_set t.words.items block allowed) block n) next (slice_set t.words.items block allowed)
+  both : t2.words ≡ option_map_or (λ n. slice_set (slice_set t.words block allowed) block n) next (slice_set t.words block allowed)
   both = second ∙ ap (λ (xs : List ℕ). option_map_or (λ n. slice_set xs block n) next xs) first
 
-  other_word : (b : ℕ) → b ≢ block → slice_index t2.words.items b ≡ slice_index t.words.items b
+  other_word : (b : ℕ) → b ≢ block → slice_index t2.words b ≡ slice_index t.words b
   other_word b other = ap (λ (xs : List ℕ). slice_index xs b) both ∙ on next
     where
-      here : slice_index (slice_set t.words.items block allowed) b ≡ slice_index t.words.items b
-      here = get_or-set_other t.words.items block b allowed 0 other
+      here : slice_index (slice_set t.words block allowed) b ≡ slice_index t.words b
+      here = get_or-set_other t.words block b allowed 0 other
 
-      on : (o : Option ℕ) → slice_index (option_map_or (λ n. slice_set (slice_set t.words.items block allowed) block n) o (slice_set t.words.items block allowed)) b ≡ slice_index t.words.items b
+      on : (o : Option ℕ) → slice_index (option_map_or (λ n. slice_set (slice_set t.words block allowed) block n) o (slice_set t.words block allowed)) b ≡ slice_index t.words b
       on None = here
-      on (Some n) = get_or-set_other (slice_set t.words.items block allowed) block b n 0 other ∙ here
+      on (Some n) = get_or-set_other (slice_set t.words block allowed) block b n 0 other ∙ here
 
-  own_word : is_some edge ≡ false → slice_index t2.words.items block ≡ allowed
+  own_word : is_some edge ≡ false → slice_index t2.words block ≡ allowed
   own_word none = ap (λ (xs : List ℕ). slice_index xs block) both ∙ on next (some_next ∙ none)
     where
-      on : (o : Option ℕ) → is_some o ≡ false → slice_index (option_map_or (λ n. slice_set (slice_set t.words.items block allowed) block n) o (slice_set t.words.items block allowed)) block ≡ allowed
-      on None is = get_or-set_same t.words.items block allowed 0 within
+      on : (o : Option ℕ) → is_some o ≡ false → slice_index (option_map_or (λ n. slice_set (slice_set t.words block allowed) block n) o (slice_set t.words block allowed)) block ≡ allowed
+      on None is = get_or-set_same t.words block allowed 0 within
       on (Some n) is = absurd (true≢false is)
 
-  next_word : (n : ℕ) → next ≡ Some n → slice_index t2.words.items block ≡ n
+  next_word : (n : ℕ) → next ≡ Some n → slice_index t2.words block ≡ n
   next_word n is =
-      ap (λ (xs : List ℕ). slice_index xs block) (both ∙ ap (λ (o : Option ℕ). option_map_or (λ n. slice_set (slice_set t.words.items block allowed) block n) o (slice_set t.words.items block allowed)) is)
-      ∙ get_or-set_same (slice_set t.words.items block allowed) block n 0 (omega (arith, within, length-set t.words.items block allowed))
+      ap (λ (xs : List ℕ). slice_index xs block) (both ∙ ap (λ (o : Option ℕ). option_map_or (λ n. slice_set (slice_set t.words block allowed) block n) o (slice_set t.words block allowed)) is)
+      ∙ get_or-set_same (slice_set t.words block allowed) block n 0 (omega (arith, within, length-set t.words block allowed))
 
-  taken_next : (n : ℕ) → option_map (λ (e : Edge). e.next) edge ≡ Some n → slice_index t3.words.items block ≡ n
+  taken_next : (n : ℕ) → option_map (λ (e : Edge). e.next) edge ≡ Some n → slice_index t3.words block ≡ n
   taken_next n is =
       keeps.stay block (ap (λ s. set.contains s block) all_links ∙ ap (λ (s : Bool). set.contains (cond s (set.insert t.links.members block) t.links.members) block) linked ∙ contains-insert_same t.links.members block)
       ∙ next_word n (next_is ∙ is)
@@ -384,7 +384,7 @@ module _ (t t1 t2 t3 : Table) (block allowed : ℕ) (edge : Option Edge) (next :
       linked : is_some edge ≡ true
       linked = sym (some_mapped edge) ∙ ap is_some is
 
-  taken_stay : (b : ℕ) → b ≢ block → set.contains t.links.members b ≡ true → slice_index t3.words.items b ≡ slice_index t.words.items b
+  taken_stay : (b : ℕ) → b ≢ block → set.contains t.links.members b ≡ true → slice_index t3.words b ≡ slice_index t.words b
   taken_stay b other has = keeps.stay b (ap (λ s. set.contains s b) all_links ∙ on (is_some edge)) ∙ other_word b other
     where
       on : (s : Bool) → set.contains (cond s (set.insert t.links.members block) t.links.members) b ≡ true
@@ -404,7 +404,7 @@ module _ (t t1 t2 t3 : Table) (block allowed : ℕ) (edge : Option Edge) (next :
   }
 
   pub taken_node : (capacity : ℕ) (most : ℕ → ℕ) (seen : List ℕ) (told : List Place) (parts : Parts) → KeepsHeads capacity most seen told t → IsNew capacity most parts block t → parts.edge ≡ edge
-      → allowed ≡ longest_by capacity parts.index parts.used → (slice_index t.words.items block ≡ 0) ⊎ (fits capacity (slice_index t.words.items block) allowed ≡ true) → KeepsHeads capacity most (seen ++ block ∷ []) told t2
+      → allowed ≡ longest_by capacity parts.index parts.used → (slice_index t.words block ≡ 0) ⊎ (fits capacity (slice_index t.words block) allowed ≡ true) → KeepsHeads capacity most (seen ++ block ∷ []) told t2
   taken_node capacity most seen told parts kept new same_edge is room =
       node_on capacity most seen told t kept t2 block allowed (is_some edge) (new.allows ∙ sym is) (λ some. new.link (ap is_some same_edge ∙ some)) new.fresh room
       (sized.links ∙ ap (λ l. l.blocks) same_links) all_links (ap (λ r. r.members) (read2 ∙ read)) other_word own_word

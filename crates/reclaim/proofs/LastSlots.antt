@@ -13,32 +13,32 @@ use Rattle.reclaim.proofs.Heads.{by_same, by_bool, contains_other, lacked}
 use Rattle.reclaim.proofs.Steps.{steps_below-none, steps_below-has, steps_below-lacks, steps_within}
 
 abbrev IsTopKept : Tops → ℕ × ℕ → Type 0
-IsTopKept t one = (one.1 ≢ 0) × (slice_index t.words.items one.0 ≡ one.1)
+IsTopKept t one = (one.1 ≢ 0) × (slice_index t.words one.0 ≡ one.1)
 
 -- one word was set
-module _ (t u : Tops) (block own : ℕ) (within : block < length t.words.items) (words : u.words.items ≡ slice_set t.words.items block own) where
-  here : slice_index u.words.items block ≡ own
-  here = ap (λ (xs : List ℕ). slice_index xs block) words ∙ get_or-set_same t.words.items block own 0 within
+module _ (t u : Tops) (block own : ℕ) (within : block < length t.words) (words : u.words ≡ slice_set t.words block own) where
+  here : slice_index u.words block ≡ own
+  here = ap (λ (xs : List ℕ). slice_index xs block) words ∙ get_or-set_same t.words block own 0 within
 
-  others : (b : ℕ) → b ≢ block → slice_index u.words.items b ≡ slice_index t.words.items b
-  others b other = ap (λ (xs : List ℕ). slice_index xs b) words ∙ get_or-set_other t.words.items block b own 0 other
+  others : (b : ℕ) → b ≢ block → slice_index u.words b ≡ slice_index t.words b
+  others b other = ap (λ (xs : List ℕ). slice_index xs b) words ∙ get_or-set_other t.words block b own 0 other
 
-  same_length : length u.words.items ≡ length t.words.items
-  same_length = ap length words ∙ length-set t.words.items block own
+  same_length : length u.words ≡ length t.words
+  same_length = ap length words ∙ length-set t.words block own
 
 module _ (top : ℕ → ℕ) (seen : List ℕ) (told : List (ℕ × ℕ)) (t : Tops) (keeps : KeepsTops top seen told t) where
   -- the node in a block was read
-  module _ (u : Tops) (block own : ℕ) (allows : top block ≡ own) (room : (slice_index t.words.items block ≡ 0) ⊎ (slice_index t.words.items block ≡ own)) (within : block < length t.words.items)
-      (words : u.words.items ≡ slice_set t.words.items block own) (read : u.read.members ≡ set.insert t.read.members block) where
+  module _ (u : Tops) (block own : ℕ) (allows : top block ≡ own) (room : (slice_index t.words block ≡ 0) ⊎ (slice_index t.words block ≡ own)) (within : block < length t.words)
+      (words : u.words ≡ slice_set t.words block own) (read : u.read.members ≡ set.insert t.read.members block) where
     read_kept : (one : ℕ × ℕ) → IsTopKept t one → IsTopKept u one
     read_kept one kept = (
       kept.0,
-      by_same (slice_index u.words.items one.0 ≡ one.1) one.0 block
+      by_same (slice_index u.words one.0 ≡ one.1) one.0 block
           (λ same.
-          let was : slice_index t.words.items block ≡ one.1 = ap (slice_index t.words.items) (sym same) ∙ kept.1 in
+          let was : slice_index t.words block ≡ one.1 = ap (slice_index t.words) (sym same) ∙ kept.1 in
           elim room [
             | inl none ↦ absurd (kept.0 (sym was ∙ none))
-            | inr is ↦ ap (slice_index u.words.items) same ∙ here t u block own within words ∙ sym is ∙ was
+            | inr is ↦ ap (slice_index u.words) same ∙ here t u block own within words ∙ sym is ∙ was
           ])
           (λ other. others t u block own within words one.0 other ∙ kept.1),
     )
@@ -50,25 +50,25 @@ module _ (top : ℕ → ℕ) (seen : List ℕ) (told : List (ℕ × ℕ)) (t : T
         | inl before ↦ contains-kept t.read.members block b (keeps.all b before)
         | inr same ↦ subst (λ (c : ℕ). set.contains (set.insert t.read.members block) c ≡ true) same (contains-insert_same t.read.members block)
       ];
-      read = λ b has. by_same (slice_index u.words.items b ≡ top b) b block
-          (λ same. ap (slice_index u.words.items) same ∙ here t u block own within words ∙ sym allows ∙ ap top (sym same))
+      read = λ b has. by_same (slice_index u.words b ≡ top b) b block
+          (λ same. ap (slice_index u.words) same ∙ here t u block own within words ∙ sym allows ∙ ap top (sym same))
           (λ other. others t u block own within words b other ∙ keeps.read b (contains_other t.read.members block b other (ap (λ s. set.contains s b) (sym read) ∙ has)));
       kept = λ one has. read_kept one (keeps.kept one has);
-      from = λ b unread word. by_same (Contains told (b, slice_index u.words.items b)) b block
+      from = λ b unread word. by_same (Contains told (b, slice_index u.words b)) b block
           (λ same. absurd (true≢false (sym (contains-insert_same t.read.members block) ∙ ap (set.contains (set.insert t.read.members block)) (sym same) ∙ ap (λ s. set.contains s b) (sym read) ∙ unread)))
           (λ other. subst (λ (w : ℕ). Contains told (b, w)) (sym (others t u block own within words b other))
           (keeps.from b (lacked t.read.members block b (ap (λ s. set.contains s b) (sym read) ∙ unread)) (λ none. word (others t u block own within words b other ∙ none))));
     }
 
   -- another block was told of its last slot
-  pub top_not : (block own : ℕ) → top block ≡ own → slice_index t.words.items block ≢ 0 → slice_index t.words.items block ≢ own → FitTops top told → ⊥
+  pub top_not : (block own : ℕ) → top block ≡ own → slice_index t.words block ≢ 0 → slice_index t.words block ≢ own → FitTops top told → ⊥
   top_not block own allows some other fit =
       by_bool ⊥ (set.contains t.read.members block)
       (λ has. other (keeps.read block has ∙ allows))
-      (λ lacks. other (sym (fit (block, slice_index t.words.items block) (keeps.from block lacks some)).1 ∙ allows))
+      (λ lacks. other (sym (fit (block, slice_index t.words block) (keeps.from block lacks some)).1 ∙ allows))
 
   -- what is told is so by what is kept
-  pub step_kept : (block next : ℕ) → next ≢ 0 → slice_index t.words.items block ≡ next → KeepsTops top seen (told ++ (block, next) ∷ []) t
+  pub step_kept : (block next : ℕ) → next ≢ 0 → slice_index t.words block ≡ next → KeepsTops top seen (told ++ (block, next) ∷ []) t
   step_kept block next some is = record {
     beyond = keeps.beyond;
     all = keeps.all;
@@ -77,7 +77,7 @@ module _ (top : ℕ → ℕ) (seen : List ℕ) (told : List (ℕ × ℕ)) (t : T
       | inl before ↦ keeps.kept one before
       | inr same ↦ subst (IsTopKept t) same (some, is)
     ];
-    from = λ b unread word. Contains-append_left told ((block, next) ∷ []) (b, slice_index t.words.items b) (keeps.from b unread word);
+    from = λ b unread word. Contains-append_left told ((block, next) ∷ []) (b, slice_index t.words b) (keeps.from b unread word);
   }
 
   last_fits : (block next : ℕ) → FitTops top (told ++ (block, next) ∷ []) → FitsTop top (block, next)
@@ -86,19 +86,19 @@ module _ (top : ℕ → ℕ) (seen : List ℕ) (told : List (ℕ × ℕ)) (t : T
   pub step_none : (block next : ℕ) → next ≡ 0 → FitTops top (told ++ (block, next) ∷ []) → ⊥
   step_none block next none fit = (last_fits block next fit).0 none
 
-  pub step_beyond : (block next : ℕ) → length t.words.items ≤ block → FitTops top (told ++ (block, next) ∷ []) → ⊥
+  pub step_beyond : (block next : ℕ) → length t.words ≤ block → FitTops top (told ++ (block, next) ∷ []) → ⊥
   step_beyond block next past fit = let own = last_fits block next fit in own.0 (sym own.1 ∙ keeps.beyond block past)
 
-  pub step_read : (block next : ℕ) → set.contains t.read.members block ≡ true → slice_index t.words.items block ≢ next → FitTops top (told ++ (block, next) ∷ []) → ⊥
+  pub step_read : (block next : ℕ) → set.contains t.read.members block ≡ true → slice_index t.words block ≢ next → FitTops top (told ++ (block, next) ∷ []) → ⊥
   step_read block next has other fit = other (keeps.read block has ∙ (last_fits block next fit).1)
 
-  pub step_other : (block next : ℕ) → set.contains t.read.members block ≡ false → slice_index t.words.items block ≢ 0 → slice_index t.words.items block ≢ next → FitTops top (told ++ (block, next) ∷ []) → ⊥
+  pub step_other : (block next : ℕ) → set.contains t.read.members block ≡ false → slice_index t.words block ≢ 0 → slice_index t.words block ≢ next → FitTops top (told ++ (block, next) ∷ []) → ⊥
   step_other block next lacks some other fit =
-      let word = slice_index t.words.items block in
+      let word = slice_index t.words block in
       other (sym (fit (block, word) (Contains-append_left told ((block, next) ∷ []) (block, word) (keeps.from block lacks some))).1 ∙ (last_fits block next fit).1)
 
   -- nothing was told of a block that was not read
-  pub step_set : (u : Tops) (block next : ℕ) → next ≢ 0 → block < length t.words.items → set.contains t.read.members block ≡ false → slice_index t.words.items block ≡ 0 → u.words.items ≡ slice_set t.words.items block next
+  pub step_set : (u : Tops) (block next : ℕ) → next ≢ 0 → block < length t.words → set.contains t.read.members block ≡ false → slice_index t.words block ≡ 0 → u.words ≡ slice_set t.words block next
       → u.read.members ≡ t.read.members → KeepsTops top seen (told ++ (block, next) ∷ []) u
   step_set u block next some within lacks none words same_read = record {
     beyond = λ b past. keeps.beyond b (omega (arith, past, same_length t u block next within words));
@@ -110,19 +110,19 @@ module _ (top : ℕ → ℕ) (seen : List ℕ) (told : List (ℕ × ℕ)) (t : T
       | inl before ↦ stays one (keeps.kept one before)
       | inr same ↦ subst (IsTopKept u) same (some, here t u block next within words)
     ];
-    from = λ b unread word. by_same (Contains (told ++ (block, next) ∷ []) (b, slice_index u.words.items b)) b block
-        (λ same. subst (λ (c : ℕ). Contains (told ++ (block, next) ∷ []) (c, slice_index u.words.items c)) (sym same)
+    from = λ b unread word. by_same (Contains (told ++ (block, next) ∷ []) (b, slice_index u.words b)) b block
+        (λ same. subst (λ (c : ℕ). Contains (told ++ (block, next) ∷ []) (c, slice_index u.words c)) (sym same)
         (subst (λ (w : ℕ). Contains (told ++ (block, next) ∷ []) (block, w)) (sym (here t u block next within words)) (Contains-push told (block, next))))
         (λ other. subst (λ (w : ℕ). Contains (told ++ (block, next) ∷ []) (b, w)) (sym (others t u block next within words b other))
-        (Contains-append_left told ((block, next) ∷ []) (b, slice_index t.words.items b)
+        (Contains-append_left told ((block, next) ∷ []) (b, slice_index t.words b)
         (keeps.from b (ap (λ s. set.contains s b) (sym same_read) ∙ unread) (λ zero_is. word (others t u block next within words b other ∙ zero_is)))));
   }
     where
       stays : (one : ℕ × ℕ) → IsTopKept t one → IsTopKept u one
       stays one kept = (
         kept.0,
-        by_same (slice_index u.words.items one.0 ≡ one.1) one.0 block
-            (λ same. absurd (kept.0 (sym kept.1 ∙ ap (slice_index t.words.items) same ∙ none)))
+        by_same (slice_index u.words one.0 ≡ one.1) one.0 block
+            (λ same. absurd (kept.0 (sym kept.1 ∙ ap (slice_index t.words) same ∙ none)))
             (λ other. others t u block next within words one.0 other ∙ kept.1),
       )
 

@@ -66,7 +66,7 @@ module _ (capacity : ℕ) (f : Blocks) (plain : Bool) (p : Pass) (t : Table) (pa
   parts_of : (b : ℕ) → has_link t b ≡ true → (nat_lt b t.links.blocks ≡ true) × (set.contains t.links.members b ≡ true)
   parts_of b has = and_parts (nat_lt b t.links.blocks) (set.contains t.links.members b) has
 
-  tells : (b : ℕ) → has_link t b ≡ true → HoldsLink f b × (slice_index t.words.items b ≡ next_of (f b))
+  tells : (b : ℕ) → has_link t b ≡ true → HoldsLink f b × (slice_index t.words b ≡ next_of (f b))
   tells b has = let own = told.held b (parts_of b has).1 in (own.0, own.1)
 
   ends : (b : ℕ) → has_link t b ≡ true → ends_after t b ≡ true
@@ -83,8 +83,8 @@ module _ (capacity : ℕ) (f : Blocks) (plain : Bool) (p : Pass) (t : Table) (pa
   next_holds : (b : ℕ) → HasSeen p b → NextHoldsLink f (f b)
   next_holds b seen l is some =
       let has = told.links b seen (l, is) in
-      let at : slice_index t.words.items b ≡ l.next = (tells b has).1 ∙ next_is (f b) l is in
-      (tells l.next (ends_first 30 (has_link t) (slice_index t.words.items) l.next some (ap (ends_from most_after (has_link t) (slice_index t.words.items)) (sym at) ∙ ends b has))).0
+      let at : slice_index t.words b ≡ l.next = (tells b has).1 ∙ next_is (f b) l is in
+      (tells l.next (ends_first 30 (has_link t) (slice_index t.words) l.next some (ap (ends_from most_after (has_link t) (slice_index t.words)) (sym at) ∙ ends b has))).0
 
   own : (b : ℕ) → HasSeen p b → IsLooked capacity f plain (f b)
   own b seen = looked b seen (next_holds b seen)
@@ -117,10 +117,10 @@ module _ (capacity : ℕ) (f : Blocks) (plain : Bool) (p : Pass) (t : Table) (pa
         names = record { entries = entry b seen; pointers = λ i is. bodies b i reached is; short = λ i is. short b i reached is };
         directory = λ (l, is).
             let has = told.links b seen (l, is) in
-            let at : slice_index t.words.items b ≡ l.next = (tells b has).1 ∙ next_is (f b) l is in
+            let at : slice_index t.words b ≡ l.next = (tells b has).1 ∙ next_is (f b) l is in
             (begun_exact f b l is).0
-            (ends_go f (has_link t) (slice_index t.words.items) tells (λ a own_link. (own a (told.held a (parts_of a own_link).1).2).followed) most_after b l has is
-            (ap (ends_from most_after (has_link t) (slice_index t.words.items)) (sym at) ∙ ends b has));
+            (ends_go f (has_link t) (slice_index t.words) tells (λ a own_link. (own a (told.held a (parts_of a own_link).1).2).followed) most_after b l has is
+            (ap (ends_from most_after (has_link t) (slice_index t.words)) (sym at) ∙ ends b has));
       }
 
   pub looked_plain : plain ≡ true → IsPlain f p.roots
@@ -150,7 +150,7 @@ module _ (limit : ℕ) (f : Blocks) (roots : List ℕ) (trees : AreRoots limit f
       }
 
 module _ (limit : ℕ) (f : Blocks) (p : Pass) (t : Table) (pass : IsPass f p) (end : IsFinished p) (told : IsTold f p t) (trees : AreRoots limit f p.roots) where
-  held_at : (b : ℕ) → has_link t b ≡ true → HoldsLink f b × ((slice_index t.words.items b ≡ next_of (f b)) × HasSeen p b)
+  held_at : (b : ℕ) → has_link t b ≡ true → HoldsLink f b × ((slice_index t.words b ≡ next_of (f b)) × HasSeen p b)
   held_at b has = let own = told.held b (and_parts (nat_lt b t.links.blocks) (set.contains t.links.members b) has).1 in (own.0, (own.1, own.2))
 
   pub tree_links : (roots : List ℕ) → p.roots ≡ roots → All (λ b. has_link t b ≡ true) roots
@@ -174,10 +174,10 @@ module _ (limit : ℕ) (f : Blocks) (p : Pass) (t : Table) (pass : IsPass f p) (
           let is : link_of (f b) ≡ Some l = own.0.1 in
           let reached = seen_reached f p b pass own.1.1 in
           let goes = (begun_exact f b l is).1 ((sound_at limit f p.roots trees b reached).directory (l, is)) in
-          let all : ends_from most_after (has_link t) (slice_index t.words.items) l.next ≡ true =
-          goes_end f (has_link t) (slice_index t.words.items) (λ a h. (held_at a h).1.0) (HasSeen p) told.links on_seen most_after b l own.1.1 is goes in
+          let all : ends_from most_after (has_link t) (slice_index t.words) l.next ≡ true =
+          goes_end f (has_link t) (slice_index t.words) (λ a h. (held_at a h).1.0) (HasSeen p) told.links on_seen most_after b l own.1.1 is goes in
           ap (λ (s : Bool). cond s (ends_after t b) (not (set.contains t.named.members b))) has
-          ∙ ap (ends_from most_after (has_link t) (slice_index t.words.items)) (own.1.0 ∙ next_is (f b) l is) ∙ all
+          ∙ ap (ends_from most_after (has_link t) (slice_index t.words)) (own.1.0 ∙ next_is (f b) l is) ∙ all
 
       other : has_link t b ≡ false → is_whole_at t b ≡ true
       other lacks = ap (λ (s : Bool). cond s (ends_after t b) (not (set.contains t.named.members b))) lacks ∙ by_bool (not (set.contains t.named.members b) ≡ true) (set.contains t.named.members b) named (λ none. ap not none)

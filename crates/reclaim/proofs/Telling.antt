@@ -78,7 +78,7 @@ module _ (p q : Pass) (block : ℕ) (on : Advances p q) (left : p.next < length 
   -- ---- what is told
 
   module _ (f : Blocks) (t u : Table) (named : List ℕ) (told : IsTold f p t) (below : block < p.blocks) (sized : IsSized t.links.blocks u) (directories : (b : ℕ) → Contains named b ↔ NamesDirectory (f block) b)
-      (noted : AreNoted t.named.members named t.links.blocks u.named.members) (stay : (b : ℕ) → b ≢ block → set.contains t.links.members b ≡ true → slice_index u.words.items b ≡ slice_index t.words.items b) where
+      (noted : AreNoted t.named.members named t.links.blocks u.named.members) (stay : (b : ℕ) → b ≢ block → set.contains t.links.members b ≡ true → slice_index u.words b ≡ slice_index t.words b) where
     quiet_on : (silent : Bool) → u.quiet.members ≡ cond silent (set.insert t.quiet.members block) t.quiet.members → ((b : ℕ) → set.contains t.links.members b ≡ true → set.contains u.links.members b ≡ true)
         → (silent ≡ true → (set.contains u.links.members block ≡ true) × ((c : ℕ) → NamesDirectory (f block) c → ⊥)) → (b : ℕ) → set.contains u.quiet.members b ≡ true
         → (b < q.blocks) × (set.contains u.links.members b ≡ true) × ((c : ℕ) → NamesDirectory (f b) c → ⊥)
@@ -148,7 +148,7 @@ module _ (p q : Pass) (block : ℕ) (on : Advances p q) (left : p.next < length 
         by b holds (inr same) = absurd (true≢false (ap is_some (sym holds.1 ∙ ap (λ (c : ℕ). link_of (f c)) (sym same) ∙ none)))
 
     -- it is one
-    pub told_link : (l : Link) → link_of (f block) ≡ Some l → u.links.members ≡ set.insert t.links.members block → slice_index u.words.items block ≡ l.next
+    pub told_link : (l : Link) → link_of (f block) ≡ Some l → u.links.members ≡ set.insert t.links.members block → slice_index u.words block ≡ l.next
         → u.quiet.members ≡ cond (eqb (length named) 0) (set.insert t.quiet.members block) t.quiet.members → IsTold f q u
     told_link l is links next quiet = record {
       sized = all_sized;
@@ -170,10 +170,10 @@ module _ (p q : Pass) (block : ℕ) (on : Advances p q) (left : p.next < length 
         there b holds (inl before) = contains-kept t.links.members block b (and_parts (nat_lt b t.links.blocks) (set.contains t.links.members b) (told.links b before holds)).1
         there b holds (inr same) = subst (λ (c : ℕ). set.contains (set.insert t.links.members block) c ≡ true) same (contains-insert_same t.links.members block)
 
-        held : (b : ℕ) (here : Bool) → eqb b block ≡ here → set.contains (set.insert t.links.members block) b ≡ true → HoldsLink f b × (slice_index u.words.items b ≡ next_of (f b)) × HasSeen q b
+        held : (b : ℕ) (here : Bool) → eqb b block ≡ here → set.contains (set.insert t.links.members block) b ≡ true → HoldsLink f b × (slice_index u.words b ≡ next_of (f b)) × HasSeen q b
         held b true e has =
             let same : block ≡ b = sym (eqb-true b block e) in
-            subst (λ (c : ℕ). HoldsLink f c × (slice_index u.words.items c ≡ next_of (f c)) × HasSeen q c) same
+            subst (λ (c : ℕ). HoldsLink f c × (slice_index u.words c ≡ next_of (f c)) × HasSeen q c) same
             ((l, is), next ∙ sym (ap (λ (o : Option Link). option_map_or (λ k. k.next) o 0) is), seen_new)
         held b false e has =
             let other : b ≢ block = λ same. true≢false (sym (eq-eqb b block same) ∙ e) in
@@ -183,7 +183,7 @@ module _ (p q : Pass) (block : ℕ) (on : Advances p q) (left : p.next < length 
 
     -- by what was noted
     pub told_on : (linked : Bool) → linked ≡ is_some (link_of (f block)) → u.links.members ≡ cond linked (set.insert t.links.members block) t.links.members
-        → ((l : Link) → link_of (f block) ≡ Some l → slice_index u.words.items block ≡ l.next)
+        → ((l : Link) → link_of (f block) ≡ Some l → slice_index u.words block ≡ l.next)
         → u.quiet.members ≡ cond (linked && eqb (length named) 0) (set.insert t.quiet.members block) t.quiet.members → IsTold f q u
     told_on linked is links next quiet = by (link_of (f block)) refl
       where
@@ -214,7 +214,7 @@ told_none f p t none sized links named quiet = record {
 
 -- ---- what the walk of depths is told
 
-pub told_quiet : (f : Blocks) (p : Pass) (t : Table) → IsTold f p t → AreQuiet f t.quiet.members t.words.items
+pub told_quiet : (f : Blocks) (p : Pass) (t : Table) → IsTold f p t → AreQuiet f t.quiet.members t.words
 told_quiet f p t told b has =
     let own = told.quiet b has in
     (omega (arith, own.0, told.sized.words), sym (told.held b own.1).1, λ c. none c (names_directory (link_items (f b)) c) refl own.2)

@@ -95,7 +95,7 @@ tops_on f p q block on left at next steps t are keeps =
     (subst (λ (l : List (ℕ × ℕ)). KeepsTops (λ b. top_of (f b)) (take p.next p.order ++ block ∷ []) l t) (ap (λ (l : List (ℕ × ℕ)). steps_read f p ++ l) are ∙ sym more) keeps)
 
 -- nothing was read
-pub tops_none : (f : Blocks) (p : Pass) (t : Tops) → p.next ≡ 0 → ((b : ℕ) → length t.words.items ≤ b → f b ≡ None) → t.read.members ≡ set.empty → ((b : ℕ) → slice_index t.words.items b ≡ 0) → TopsAreTold f p t
+pub tops_none : (f : Blocks) (p : Pass) (t : Tops) → p.next ≡ 0 → ((b : ℕ) → length t.words ≤ b → f b ≡ None) → t.read.members ≡ set.empty → ((b : ℕ) → slice_index t.words b ≡ 0) → TopsAreTold f p t
 tops_none f p t none high read words = record {
   beyond = λ b past. ap top_of (high b past);
   all = λ b has. absurd (omega (arith, (subst (λ (n : ℕ). Contains (take n p.order) b) none has).1));

@@ -56,7 +56,7 @@ abbrev pub IsKept : ℕ → Table → Place → Type 0
 IsKept capacity t (Dir block) = Unit {0}
 IsKept capacity t (File head zero) = head ≡ 0
 IsKept capacity t (File head (suc n)) =
-    (head < t.links.blocks) × (set.contains t.links.members head ≡ false) × (fits capacity (suc n) (slice_index t.words.items head) ≡ true)
+    (head < t.links.blocks) × (set.contains t.links.members head ≡ false) × (fits capacity (suc n) (slice_index t.words head) ≡ true)
 
 -- a table keeps what entries told of heads, where each block allows a file of so many bytes at most: blocks that were seen are
 -- read, the word of one that was read is what it allows, and the word of another is the length of an entry
@@ -64,10 +64,10 @@ pub record KeepsHeads (capacity : ℕ) (most : ℕ → ℕ) (seen : List ℕ) (t
   pub beyond : (b : ℕ) → (b < t.links.blocks → ⊥) → most b ≡ 0
   pub links : (b : ℕ) → set.contains t.links.members b ≡ true → most b ≡ 0
   pub all : (b : ℕ) → Contains seen b → set.contains t.read.members b ≡ true
-  pub read : (b : ℕ) → set.contains t.read.members b ≡ true → set.contains t.links.members b ≡ false → slice_index t.words.items b ≡ most b
+  pub read : (b : ℕ) → set.contains t.read.members b ≡ true → set.contains t.links.members b ≡ false → slice_index t.words b ≡ most b
   pub kept : (place : Place) → Contains told place → IsKept capacity t place
-  pub from : (b : ℕ) → set.contains t.links.members b ≡ false → set.contains t.read.members b ≡ false → slice_index t.words.items b ≢ 0
-      → Contains told (File b (slice_index t.words.items b))
+  pub from : (b : ℕ) → set.contains t.links.members b ≡ false → set.contains t.read.members b ≡ false → slice_index t.words b ≢ 0
+      → Contains told (File b (slice_index t.words b))
 
 -- all entries of a list
 abbrev pub FitHeads : ℕ → (ℕ → ℕ) → List Place → Type 0
@@ -94,8 +94,8 @@ pub record TakesNode (capacity block : ℕ) (parts : Parts) (old new : Table) (g
 -- a table whose words changed, but those of nodes of directories
 pub record KeepsLinks (old new : Table) : Type 0 where
   pub same : new ≡ record old { words = new.words }
-  pub count : length new.words.items ≡ length old.words.items
-  pub stay : (b : ℕ) → set.contains old.links.members b ≡ true → slice_index new.words.items b ≡ slice_index old.words.items b
+  pub count : length new.words ≡ length old.words
+  pub stay : (b : ℕ) → set.contains old.links.members b ≡ true → slice_index new.words b ≡ slice_index old.words b
 
 -- what the nodes that a pass has read tell
 abbrev pub places_read : ℕ → Blocks → Pass → List Place

@@ -10,7 +10,7 @@ use Rattle.reclaim.specs.declared.levels.Levels.{Levels}
 
 -- the level of a block
 abbrev pub level : Levels → ℕ → ℕ
-level v b = slice_index v.found.items b
+level v b = slice_index v.found b
 
 -- levels went on from others: each block that has one keeps it
 pub record GoesOn (old new : Levels) : Type 0 where

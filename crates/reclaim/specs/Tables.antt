@@ -14,7 +14,7 @@ use Rattle.reclaim.specs.declared.table.Table.{Table}
 
 -- the table is of so many blocks
 pub record IsSized (blocks : ℕ) (t : Table) : Type 0 where
-  pub words : length t.words.items ≡ blocks
+  pub words : length t.words ≡ blocks
   pub links : t.links.blocks ≡ blocks
   pub named : t.named.blocks ≡ blocks
   pub quiet : t.quiet.blocks ≡ blocks
@@ -35,12 +35,12 @@ pub record TakesIn (old : Table) (block : ℕ) (parts : Parts) (directories : Li
   pub links : new.links.members ≡ (if is_some parts.edge then set.insert old.links.members block else old.links.members)
   pub named : AreNoted old.named.members directories old.links.blocks new.named.members
   pub quiet : new.quiet.members ≡ (if is_some parts.edge && (length directories == 0) then set.insert old.quiet.members block else old.quiet.members)
-  pub next : (n : ℕ) → option_map (λ e. e.next) parts.edge ≡ Some n → slice_index new.words.items block ≡ n
-  pub stay : (b : ℕ) → b ≢ block → set.contains old.links.members b ≡ true → slice_index new.words.items b ≡ slice_index old.words.items b
+  pub next : (n : ℕ) → option_map (λ e. e.next) parts.edge ≡ Some n → slice_index new.words block ≡ n
+  pub stay : (b : ℕ) → b ≢ block → set.contains old.links.members b ≡ true → slice_index new.words b ≡ slice_index old.words b
 
 -- by a table, after a node of a directory
 abbrev pub ends_after : Table → ℕ → Bool
-ends_after t b = ends_from most_after (has_link t) (slice_index t.words.items) (slice_index t.words.items b)
+ends_after t b = ends_from most_after (has_link t) (slice_index t.words) (slice_index t.words b)
 
 -- a directory begins in a block, or none is named
 abbrev pub is_whole_at : Table → ℕ → Bool
@@ -57,7 +57,7 @@ HasSeen p b = (k : ℕ) × (k < p.next) × (slice_index p.order k ≡ b)
 -- the table tells of the nodes that a pass has read
 pub record IsTold (f : Blocks) (p : Pass) (t : Table) : Type 0 where
   pub sized : IsSized p.blocks t
-  pub held : (b : ℕ) → set.contains t.links.members b ≡ true → HoldsLink f b × (slice_index t.words.items b ≡ next_of (f b)) × HasSeen p b
+  pub held : (b : ℕ) → set.contains t.links.members b ≡ true → HoldsLink f b × (slice_index t.words b ≡ next_of (f b)) × HasSeen p b
   pub links : (b : ℕ) → HasSeen p b → HoldsLink f b → has_link t b ≡ true
   pub names : (b : ℕ) → set.contains t.named.members b ≡ true → (a : ℕ) × HasSeen p a × NamesDirectory (f a) b
   pub named : (a b : ℕ) → HasSeen p a → NamesDirectory (f a) b → b < p.blocks → set.contains t.named.members b ≡ true

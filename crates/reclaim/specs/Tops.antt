@@ -46,16 +46,16 @@ FitTops top told = (one : ℕ × ℕ) → Contains told one → FitsTop top one
 
 -- the words and the set are of a flash of so many blocks
 pub record HasSize (blocks : ℕ) (t : Tops) : Type 0 where
-  pub words : length t.words.items ≡ blocks
+  pub words : length t.words ≡ blocks
   pub read : t.read.blocks ≡ blocks
 
 -- the word of a block that was read is what its node has at its last slot, and that of another what was told of it
 pub record KeepsTops (top : ℕ → ℕ) (seen : List ℕ) (told : List (ℕ × ℕ)) (t : Tops) : Type 0 where
-  pub beyond : (b : ℕ) → length t.words.items ≤ b → top b ≡ 0
+  pub beyond : (b : ℕ) → length t.words ≤ b → top b ≡ 0
   pub all : (b : ℕ) → Contains seen b → set.contains t.read.members b ≡ true
-  pub read : (b : ℕ) → set.contains t.read.members b ≡ true → slice_index t.words.items b ≡ top b
-  pub kept : (one : ℕ × ℕ) → Contains told one → (one.1 ≢ 0) × (slice_index t.words.items one.0 ≡ one.1)
-  pub from : (b : ℕ) → set.contains t.read.members b ≡ false → slice_index t.words.items b ≢ 0 → Contains told (b, slice_index t.words.items b)
+  pub read : (b : ℕ) → set.contains t.read.members b ≡ true → slice_index t.words b ≡ top b
+  pub kept : (one : ℕ × ℕ) → Contains told one → (one.1 ≢ 0) × (slice_index t.words one.0 ≡ one.1)
+  pub from : (b : ℕ) → set.contains t.read.members b ≡ false → slice_index t.words b ≢ 0 → Contains told (b, slice_index t.words b)
 
 -- what a node tells of others was taken in: it is kept, or not all that was told can be so
 pub record TakesSteps (steps : List (ℕ × ℕ)) (old new : Tops) (good : Bool) : Type 0 where

@@ -1,16 +1,17 @@
 //! How deep directories stand, as their nodes tell it in the order of a marking.
-ghost use Rattle.std.specs.Prelude.{◌≡◌, ◌≢◌, ℕ, ◌+◌, ◌≤◌, ◌<◌, true, Some, length, IfOk, IfErr, Contains};
+ghost use Rattle.std.specs.Prelude.{◌≡◌, ◌≢◌, ℕ, ◌+◌, ◌≤◌, ◌<◌, true, Some, OnOk, IfErr, Contains};
 ghost use Rattle.reclaim.specs.Levels as spec;
 
+use block_words::SparseBytes;
 use fs_types::{Fault, MAX_NAMES};
 use std::alloc::Global;
 
 /// For each block the level of the directory of which it holds a node: 1 for a root, and one more for what
 /// it names; 0 where none was told. They hold where each node that was taken in stands above the
-/// directories that it names and no node after it higher. One byte a block.
+/// directories that it names and no node after it higher. One byte for each of the blocks near those that have a level.
 #[derive(Drop)]
 pub struct Levels {
-    pub found: Vec<u8>,
+    pub found: SparseBytes,
     pub hold: bool,
 }
 
@@ -19,63 +20,75 @@ impl Levels {
     pub fn new(alloc: Global, blocks: u32) -> Result<Levels, Fault>
         ensures memory { IfErr result (λ fault. fault ≡ Fault.NoMemory) }
     {
-        let found = vec![in alloc; 0; blocks as usize]?;
+        let found = SparseBytes::new(alloc, blocks)?;
         Ok(Levels { found, hold: true })
     }
 
     /// Takes in a node: the block of the node after it, where it is one of a directory, whether it has no
     /// entry, and the blocks of the directories that it names.
-    pub fn take_in(&mut self, block: u32, next: Option<u32>, is_empty: bool, directories: &[u32])
-        ensures goes { spec.GoesOn self.old self.new }
-        ensures stands { (n : ℕ) → next ≡ Some n → self.new.hold ≡ true → spec.Stands self.new block n is_empty directories.now }
+    pub fn take_in(
+        &mut self,
+        block: u32,
+        next: Option<u32>,
+        is_empty: bool,
+        directories: &[u32],
+    ) -> Result<(), Fault>
+        ensures goes { OnOk result (spec.GoesOn self.old self.new) }
+        ensures stands { OnOk result ((n : ℕ) → next ≡ Some n → self.new.hold ≡ true → spec.Stands self.new block n is_empty directories.now) }
+        ensures memory { IfErr result (λ fault. fault ≡ Fault.NoMemory) }
     {
         let Some(next) = next else {
-            return;
+            return Ok(());
         };
-        self.put(block, 1);
+        self.put(block, 1)?;
         if !self.hold {
-            return;
+            return Ok(());
         }
-        let own = self.found[block as usize];
+        let own = self.found.get(block);
         if own as usize > MAX_NAMES {
             self.hold = is_empty
                 && next == 0
                 && directories.is_empty()
                 && own as usize == MAX_NAMES + 1;
-            return;
+            return Ok(());
         }
         if next != 0 {
-            self.put(next, own);
+            self.put(next, own)?;
         }
-        self.put_all(directories, own + 1);
+        self.put_all(directories, own + 1)
     }
 
     /// Puts blocks on a level, those that have none.
-    fn put_all(&mut self, list: &[u32], least: u8)
+    fn put_all(&mut self, list: &[u32], least: u8) -> Result<(), Fault>
         requires { 0 < least }
-        ensures goes { spec.GoesOn self.old self.new }
-        ensures all { self.new.hold ≡ true → (b : ℕ) → Contains list.now b → least ≤ spec.level self.new b }
+        ensures goes { OnOk result (spec.GoesOn self.old self.new) }
+        ensures all { OnOk result (self.new.hold ≡ true → (b : ℕ) → Contains list.now b → least ≤ spec.level self.new b) }
+        ensures memory { IfErr result (λ fault. fault ≡ Fault.NoMemory) }
     {
         for block in list {
-            self.put(*block, least);
+            self.put(*block, least)?;
         }
+        Ok(())
     }
 
     /// Puts a block on a level, where it has none; they do not hold where it has a higher one.
-    fn put(&mut self, block: u32, least: u8)
+    fn put(&mut self, block: u32, least: u8) -> Result<(), Fault>
         requires { 0 < least }
-        ensures goes { spec.GoesOn self.old self.new }
-        ensures put { self.new.hold ≡ true → (block < length self.new.found.items) × (least ≤ spec.level self.new block) }
+        ensures goes { OnOk result (spec.GoesOn self.old self.new) }
+        ensures put { OnOk result (self.new.hold ≡ true → least ≤ spec.level self.new block) }
+        ensures memory { IfErr result (λ fault. fault ≡ Fault.NoMemory) }
     {
-        if block as usize >= self.found.len() {
+        if block >= self.found.blocks() {
             self.hold = false;
-            return;
+            return Ok(());
         }
-        let level = self.found[block as usize];
+        let level = self.found.get(block);
         if level == 0 {
-            self.found[block as usize] = least;
-        } else if level < least {
+            return self.found.set(block, least);
+        }
+        if level < least {
             self.hold = false;
         }
+        Ok(())
     }
 }

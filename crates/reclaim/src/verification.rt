@@ -21,6 +21,7 @@ use crate::pass::Pass;
 use crate::table::Table;
 use crate::tops::Tops;
 use allocator::BlockSet;
+use block_words::SparseWords;
 use directory::any_is_deeper;
 use fs_types::{ANCHORS, Fault, MAX_NAMES};
 use node_format::BODY_HEADER;
@@ -54,7 +55,7 @@ fn are_shallow<N: Nodes>(
     roots: &[u32],
     is_known: bool,
     quiet: &BlockSet,
-    nexts: &[u32],
+    nexts: &SparseWords,
 ) -> Result<bool, Fault>
     requires sound { N.is_sound nodes.old }
     requires known { is_known ≡ true → All (λ root. IsShallow (N.node nodes.old) (Dir root) MAX_NAMES) roots.now }
@@ -66,7 +67,8 @@ fn are_shallow<N: Nodes>(
     if is_known {
         return Ok(true);
     }
-    let deep = any_is_deeper(alloc, nodes, roots, MAX_NAMES, quiet, nexts)?;
+    let listed = nexts.to_vec(alloc)?;
+    let deep = any_is_deeper(alloc, nodes, roots, MAX_NAMES, quiet, &listed)?;
     Ok(!deep)
 }
 
@@ -103,12 +105,12 @@ fn look_at_next<N: Examines>(
         next_in(&facts.parts.edge),
         facts.parts.places.is_empty(),
         &facts.directories,
-    );
-    let have_heads = table.take_in(capacity, block, &facts.parts, &facts.directories);
+    )?;
+    let have_heads = table.take_in(capacity, block, &facts.parts, &facts.directories)?;
     if !have_heads {
         return Ok(false);
     }
-    let have_tops = tops.take_in(block, facts.parts.index, &facts.parts.pointers);
+    let have_tops = tops.take_in(block, facts.parts.index, &facts.parts.pointers)?;
     if !have_tops {
         return Ok(false);
     }
@@ -229,7 +231,7 @@ pub fn verify<N: Examines>(
     if !are_whole {
         return Err(Fault::Damaged);
     }
-    // The depths want three sets more, so what they do not need is let go first.
+    // The depths want three sets more and all words in one list, so what they do not need is let go first.
     let is_known = levels.hold;
     drop(levels);
     drop(tops);

@@ -1,9 +1,9 @@
-use Rattle.std.proofs.Common.{vec_len, ◌≡◌, ◌≤◌, ◌-◌, ◌^◌, ℕ, List, Err, ap, subst, sym, ◌∙◌, arith}
+use Rattle.std.proofs.Common.{vec_len, refl, ◌≡◌, ◌≤◌, ◌-◌, ◌^◌, ℕ, List, Err, ap, subst, sym, ◌∙◌, arith}
 use Rattle.std.specs.Prelude.{slice_index}
 use Rattle.std.proofs.lemmas.Bool.{true≢false, eqb-true}
 use Rattle.std.proofs.lemmas.Result.{err_from_is_err_and, IfOk-weaker}
 use Rattle.fs_types.specs.declared.fault.Fault.{Fault}
-use Rattle.fs_types.specs.declared.fault.Fault.TheVariants.{Damaged}
+use Rattle.fs_types.specs.declared.fault.Fault.TheVariants.{NoMemory, Damaged}
 use Rattle.nodes.specs.WordLaws.{looks_after, looks_wider, looks_answered, looks_refused}
 use Rattle.reclaim.specs.Heads.{TakesNode}
 use Rattle.reclaim.specs.Passes.{IsMarkFault}
@@ -11,10 +11,14 @@ use Rattle.reclaim.specs.Tops.{TakesTop, top_by, steps_by}
 use Rattle.reclaim.specs.Verifying.{HasNoted, HasTold, HasLookedAt}
 use Rattle.reclaim.proofs.Looking.{look_read, said_reads}
 use Rattle.reclaim.proofs.Marking.{no_node}
-use Rattle.reclaim.proofs.NodeCalls.{looks_marked}
+use Rattle.reclaim.proofs.NodeCalls.{looks_memory, looks_marked}
 use Rattle.reclaim.proofs.Noting.{noted_next, heads_next, heads_fail, tops_next, tops_fail, sized_on, looked_at}
 use Rattle.reclaim.proofs.Telling.{next_reached}
 use Rattle.reclaim.proofs.verification.look_at_next.Goals as goal
+
+-- want of memory is no damage
+memory_other : ◌≡◌ {A = Fault} NoMemory Damaged → ⊥
+memory_other is = cc
 
 pub returns-in_err-facts-clause-damaged : goal.returns-in_err-facts-clause-damaged
 returns-in_err-facts-clause-damaged g c damaged =
@@ -48,6 +52,39 @@ returns-in_err-mark_next-clause-calls g c =
     let p = err_from_is_err_and c.from_residual-in_err-mark_next.result c.from_residual-in_err-mark_next.ensures.1 in
     rw (p.1, p.2) (looks_wider (looks_marked g.met.N.Nodes.memory_may_want c.args.nodes.now c.read_facts.new.nodes _ _ _ c.in_err-mark_next.ensures.why c.in_ok-facts.ensures.calls) (omega arith))
 
+pub returns-in_err-take_in-clause-damaged : goal.returns-in_err-take_in-clause-damaged
+returns-in_err-take_in-clause-damaged g c damaged =
+    let p = err_from_is_err_and c.from_residual-in_err-take_in.result c.from_residual-in_err-take_in.ensures.1 in
+    let is : p.0 ≡ Damaged = cc in
+    absurd (memory_other (sym c.in_err-take_in.ensures.memory ∙ sym p.2 ∙ is))
+
+pub returns-in_err-take_in-clause-calls : goal.returns-in_err-take_in-clause-calls
+returns-in_err-take_in-clause-calls g c =
+    let p = err_from_is_err_and c.from_residual-in_err-take_in.result c.from_residual-in_err-take_in.ensures.1 in
+    rw (p.1, p.2) (looks_wider (looks_memory g.met.N.Nodes.memory_may_want c.args.nodes.now c.read_facts.new.nodes refl c.in_ok-facts.ensures.calls c.in_err-take_in.ensures.memory) (omega arith))
+
+pub returns-in_err-have_heads-clause-damaged : goal.returns-in_err-have_heads-clause-damaged
+returns-in_err-have_heads-clause-damaged g c damaged =
+    let p = err_from_is_err_and c.from_residual-in_err-have_heads.result c.from_residual-in_err-have_heads.ensures.1 in
+    let is : p.0 ≡ Damaged = cc in
+    absurd (memory_other (sym c.in_err-have_heads.ensures.memory ∙ sym p.2 ∙ is))
+
+pub returns-in_err-have_heads-clause-calls : goal.returns-in_err-have_heads-clause-calls
+returns-in_err-have_heads-clause-calls g c =
+    let p = err_from_is_err_and c.from_residual-in_err-have_heads.result c.from_residual-in_err-have_heads.ensures.1 in
+    rw (p.1, p.2) (looks_wider (looks_memory g.met.N.Nodes.memory_may_want c.args.nodes.now c.read_facts.new.nodes refl c.in_ok-facts.ensures.calls c.in_err-have_heads.ensures.memory) (omega arith))
+
+pub returns-in_err-have_tops-clause-damaged : goal.returns-in_err-have_tops-clause-damaged
+returns-in_err-have_tops-clause-damaged g c damaged =
+    let p = err_from_is_err_and c.from_residual-in_err-have_tops.result c.from_residual-in_err-have_tops.ensures.1 in
+    let is : p.0 ≡ Damaged = cc in
+    absurd (memory_other (sym c.in_err-have_tops.ensures.memory ∙ sym p.2 ∙ is))
+
+pub returns-in_err-have_tops-clause-calls : goal.returns-in_err-have_tops-clause-calls
+returns-in_err-have_tops-clause-calls g c =
+    let p = err_from_is_err_and c.from_residual-in_err-have_tops.result c.from_residual-in_err-have_tops.ensures.1 in
+    rw (p.1, p.2) (looks_wider (looks_memory g.met.N.Nodes.memory_may_want c.args.nodes.now c.read_facts.new.nodes refl c.in_ok-facts.ensures.calls c.in_err-have_tops.ensures.memory) (omega arith))
+
 pub returns-then-not-have_heads-clause-calls : goal.returns-then-not-have_heads-clause-calls
 returns-then-not-have_heads-clause-calls g c = looks_wider (looks_answered c.in_ok-facts.ensures.calls) (omega arith)
 
@@ -59,7 +96,7 @@ returns-then-not-have_heads-clause-looked g c =
     let p = c.args.pass.now in
     let q = c.mark_next.new.self in
     let t = c.args.table.now in
-    let u = c.take_in-have_heads.new.self in
+    let u = c.take_in-2.new.self in
     let v = c.args.levels.now in
     let w = c.take_in.new.self in
     let block = c.args.block in
@@ -69,17 +106,17 @@ returns-then-not-have_heads-clause-looked g c =
     let before = c.requires.verifying in
     let next = c.in_ok-mark_next.ensures.next.0 in
     let small : limit ≤ 2 ^ 18 = omega (arith, c.block_bytes-capacity.ensures.value, c.block_bytes-capacity.ensures.most) in
-    let taken : TakesNode (limit - 80) block facts.parts t u c.take_in-have_heads.result =
-    subst (λ (n : ℕ). TakesNode (n - 80) block facts.parts t u c.take_in-have_heads.result) c.block_bytes-capacity.ensures.value c.take_in-have_heads.ensures.heads in
+    let taken : TakesNode (limit - 80) block facts.parts t u c.in_ok-have_heads.have_heads =
+    subst (λ (n : ℕ). TakesNode (n - 80) block facts.parts t u c.in_ok-have_heads.have_heads) c.block_bytes-capacity.ensures.value c.in_ok-have_heads.ensures.heads in
     record {
       noted = noted_next f p q t u v w block facts before.noted c.requires.left.0 c.requires.left.1 there are c.mark_next.ensures.on next c.deref.result.now c.deref-3.result.now c.deref-2.result.now c.next_in.result c.is_empty.result
-          c.deref.ensures.value (c.in_ok-mark_next.ensures.pass f) (λ b past. g.met.N.Nodes.none_beyond s b (subst (λ (n : ℕ). n ≤ b) before.size past)) c.deref-3.ensures.value c.take_in-have_heads.ensures.noted
-          c.deref-2.ensures.value c.next_in.ensures (λ is. omega (arith, eqb-true (vec_len facts.parts.places) 0 (sym c.is_empty.ensures ∙ is), facts.parts.places.ok.0)) c.take_in.ensures.goes c.take_in.ensures.stands;
+          c.deref.ensures.value (c.in_ok-mark_next.ensures.pass f) (λ b past. g.met.N.Nodes.none_beyond s b (subst (λ (n : ℕ). n ≤ b) before.size past)) c.deref-3.ensures.value c.in_ok-have_heads.ensures.noted
+          c.deref-2.ensures.value c.next_in.ensures (λ is. omega (arith, eqb-true (vec_len facts.parts.places) 0 (sym c.is_empty.ensures ∙ is), facts.parts.places.ok.0)) c.in_ok-take_in.ensures.goes c.in_ok-take_in.ensures.stands;
       next = next;
       told = λ is. absurd (true≢false (sym is));
       looked = λ is. absurd (true≢false (sym is));
       bad = λ is. heads_fail f p q t u v w block facts before.noted c.requires.left.0 c.requires.left.1 there are c.mark_next.ensures.on next limit (λ b bytes is. g.met.N.Nodes.whole s b bytes c.requires.sound is)
-          c.take_in-have_heads.result c.args.plain small before.told.heads taken c.if-not-have_heads.true;
+          c.in_ok-have_heads.have_heads c.args.plain small before.told.heads taken c.if-not-have_heads.true;
     }
 
 pub returns-then-not-have_tops-clause-calls : goal.returns-then-not-have_tops-clause-calls
@@ -93,7 +130,7 @@ returns-then-not-have_tops-clause-looked g c =
     let p = c.args.pass.now in
     let q = c.mark_next.new.self in
     let t = c.args.table.now in
-    let u = c.take_in-have_heads.new.self in
+    let u = c.take_in-2.new.self in
     let v = c.args.levels.now in
     let w = c.take_in.new.self in
     let block = c.args.block in
@@ -104,14 +141,14 @@ returns-then-not-have_tops-clause-looked g c =
     let next = c.in_ok-mark_next.ensures.next.0 in
     record {
       noted = noted_next f p q t u v w block facts before.noted c.requires.left.0 c.requires.left.1 there are c.mark_next.ensures.on next c.deref.result.now c.deref-3.result.now c.deref-2.result.now c.next_in.result c.is_empty.result
-          c.deref.ensures.value (c.in_ok-mark_next.ensures.pass f) (λ b past. g.met.N.Nodes.none_beyond s b (subst (λ (n : ℕ). n ≤ b) before.size past)) c.deref-3.ensures.value c.take_in-have_heads.ensures.noted
-          c.deref-2.ensures.value c.next_in.ensures (λ is. omega (arith, eqb-true (vec_len facts.parts.places) 0 (sym c.is_empty.ensures ∙ is), facts.parts.places.ok.0)) c.take_in.ensures.goes c.take_in.ensures.stands;
+          c.deref.ensures.value (c.in_ok-mark_next.ensures.pass f) (λ b past. g.met.N.Nodes.none_beyond s b (subst (λ (n : ℕ). n ≤ b) before.size past)) c.deref-3.ensures.value c.in_ok-have_heads.ensures.noted
+          c.deref-2.ensures.value c.next_in.ensures (λ is. omega (arith, eqb-true (vec_len facts.parts.places) 0 (sym c.is_empty.ensures ∙ is), facts.parts.places.ok.0)) c.in_ok-take_in.ensures.goes c.in_ok-take_in.ensures.stands;
       next = next;
       told = λ is. absurd (true≢false (sym is));
       looked = λ is. absurd (true≢false (sym is));
       bad = λ is. tops_fail f p q t u v w block facts before.noted c.requires.left.0 c.requires.left.1 there are c.mark_next.ensures.on next limit (λ b bytes is. g.met.N.Nodes.whole s b bytes c.requires.sound is)
-          c.take_in-have_tops.result c.args.plain c.args.tops.now c.take_in-have_tops.new.self (g.met.N.Nodes.none_below s 0 (omega arith)) before.told.tops
-          (subst (λ (l : List ℕ). TakesTop block (top_by (slice_index l) facts.parts.index) (steps_by (slice_index l) facts.parts.index) c.args.tops.now c.take_in-have_tops.new.self c.take_in-have_tops.result) c.deref-4.ensures.value c.take_in-have_tops.ensures.tops)
+          c.in_ok-have_tops.have_tops c.args.plain c.args.tops.now c.take_in-3.new.self (g.met.N.Nodes.none_below s 0 (omega arith)) before.told.tops
+          (subst (λ (l : List ℕ). TakesTop block (top_by (slice_index l) facts.parts.index) (steps_by (slice_index l) facts.parts.index) c.args.tops.now c.take_in-3.new.self c.in_ok-have_tops.have_tops) c.deref-4.ensures.value c.in_ok-have_tops.ensures.tops)
           c.if-not-have_tops.true;
     }
 
@@ -128,7 +165,7 @@ returns-clause-looked g c =
     let p = c.args.pass.now in
     let q = c.mark_next.new.self in
     let t = c.args.table.now in
-    let u = c.take_in-have_heads.new.self in
+    let u = c.take_in-2.new.self in
     let v = c.args.levels.now in
     let w = c.take_in.new.self in
     let block = c.args.block in
@@ -137,18 +174,18 @@ returns-clause-looked g c =
     let are = c.in_ok-facts.ensures.facts in
     let before = c.requires.verifying in
     let next = c.in_ok-mark_next.ensures.next.0 in
-    let taken : TakesNode (limit - 80) block facts.parts t u c.take_in-have_heads.result =
-    subst (λ (n : ℕ). TakesNode (n - 80) block facts.parts t u c.take_in-have_heads.result) c.block_bytes-capacity.ensures.value c.take_in-have_heads.ensures.heads in
+    let taken : TakesNode (limit - 80) block facts.parts t u c.in_ok-have_heads.have_heads =
+    subst (λ (n : ℕ). TakesNode (n - 80) block facts.parts t u c.in_ok-have_heads.have_heads) c.block_bytes-capacity.ensures.value c.in_ok-have_heads.ensures.heads in
     let noted : HasNoted f q u w =
     noted_next f p q t u v w block facts before.noted c.requires.left.0 c.requires.left.1 there are c.mark_next.ensures.on next c.deref.result.now c.deref-3.result.now c.deref-2.result.now c.next_in.result c.is_empty.result
-    c.deref.ensures.value (c.in_ok-mark_next.ensures.pass f) (λ b past. g.met.N.Nodes.none_beyond s b (subst (λ (n : ℕ). n ≤ b) before.size past)) c.deref-3.ensures.value c.take_in-have_heads.ensures.noted
-    c.deref-2.ensures.value c.next_in.ensures (λ is. omega (arith, eqb-true (vec_len facts.parts.places) 0 (sym c.is_empty.ensures ∙ is), facts.parts.places.ok.0)) c.take_in.ensures.goes c.take_in.ensures.stands in
+    c.deref.ensures.value (c.in_ok-mark_next.ensures.pass f) (λ b past. g.met.N.Nodes.none_beyond s b (subst (λ (n : ℕ). n ≤ b) before.size past)) c.deref-3.ensures.value c.in_ok-have_heads.ensures.noted
+    c.deref-2.ensures.value c.next_in.ensures (λ is. omega (arith, eqb-true (vec_len facts.parts.places) 0 (sym c.is_empty.ensures ∙ is), facts.parts.places.ok.0)) c.in_ok-take_in.ensures.goes c.in_ok-take_in.ensures.stands in
     let heads = heads_next f p q t u v w block facts before.noted c.requires.left.0 c.requires.left.1 there are c.mark_next.ensures.on next limit (λ b bytes is. g.met.N.Nodes.whole s b bytes c.requires.sound is)
-    c.take_in-have_heads.result before.told.heads taken c.if-not-have_heads.false in
-    let k = c.take_in-have_tops.new.self in
-    let tops = tops_next f p q t u v w block facts before.noted c.requires.left.0 c.requires.left.1 there are c.mark_next.ensures.on next c.take_in-have_tops.result c.args.tops.now k before.told.tops
-    (subst (λ (l : List ℕ). TakesTop block (top_by (slice_index l) facts.parts.index) (steps_by (slice_index l) facts.parts.index) c.args.tops.now k c.take_in-have_tops.result) c.deref-4.ensures.value c.take_in-have_tops.ensures.tops) c.if-not-have_tops.false in
-    let told : HasTold (limit - 80) f q u k = record { size = sized_on p q c.args.tops.now k c.mark_next.ensures.on before.told.size c.take_in-have_tops.ensures.sized; heads = heads; tops = tops } in
+    c.in_ok-have_heads.have_heads before.told.heads taken c.if-not-have_heads.false in
+    let k = c.take_in-3.new.self in
+    let tops = tops_next f p q t u v w block facts before.noted c.requires.left.0 c.requires.left.1 there are c.mark_next.ensures.on next c.in_ok-have_tops.have_tops c.args.tops.now k before.told.tops
+    (subst (λ (l : List ℕ). TakesTop block (top_by (slice_index l) facts.parts.index) (steps_by (slice_index l) facts.parts.index) c.args.tops.now k c.in_ok-have_tops.have_tops) c.deref-4.ensures.value c.in_ok-have_tops.ensures.tops) c.if-not-have_tops.false in
+    let told : HasTold (limit - 80) f q u k = record { size = sized_on p q c.args.tops.now k c.mark_next.ensures.on before.told.size c.in_ok-have_tops.ensures.sized; heads = heads; tops = tops } in
     IfOk-weaker c.look.result _ (λ good. HasLookedAt limit f c.args.plain block p q u k w good)
     (λ good exact. looked_at f p q t u v w block facts before.noted c.requires.left.0 c.requires.left.1 there are c.mark_next.ensures.on next limit (c.block_bytes-capacity.result - 80) (g.N.Nodes.node c.read_facts.new.nodes) c.args.plain good k
     c.read_facts.ensures.calls.looks.same_nodes (ap (λ (n : ℕ). n - 80) c.block_bytes-capacity.ensures.value) noted told exact)

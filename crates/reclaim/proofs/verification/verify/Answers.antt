@@ -81,9 +81,9 @@ are_shallow-requires-clause-quiet g c =
     let table = c.are_whole.new.table in
     let gone = c.into_quiet-quiet in
     let quiet : gone.result.0.members ≡ table.quiet.members = ap (λ (q : BlockSet). q.members) gone.ensures.0 in
-    let words : c.deref.result.now ≡ table.words.items = c.deref.ensures.value ∙ ap (λ (w : Vec ℕ Global). w.items) gone.ensures.1 in
-    subst (λ (h : Blocks). AreQuiet h gone.result.0.members c.deref.result.now) (sym c.are_whole.ensures.calls.looks.same_nodes)
-    (subst (λ (m : set.FinSet nat_cmp). AreQuiet f m c.deref.result.now) (sym quiet)
+    let words : gone.result.1 ≡ table.words = gone.ensures.1 in
+    subst (λ (h : Blocks). AreQuiet h gone.result.0.members gone.result.1) (sym c.are_whole.ensures.calls.looks.same_nodes)
+    (subst (λ (m : set.FinSet nat_cmp). AreQuiet f m gone.result.1) (sym quiet)
     (subst (λ (xs : List ℕ). AreQuiet f table.quiet.members xs) (sym words) (told_quiet f c.are_whole.new.pass table found.noted.told)))
 
 pub returns-in_err-are_whole-clause-damaged : goal.returns-in_err-are_whole-clause-damaged

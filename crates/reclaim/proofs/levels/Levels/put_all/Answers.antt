@@ -9,10 +9,10 @@ loop-block-init c = record { goes = goes_itself c.args.self.now; all = λ hold b
 
 pub loop-block-preserved : goal.loop-block-preserved
 loop-block-preserved c = record {
-  goes = goes_on c.args.self.now c.loop-block.self c.put.new.self c.loop-block.invariant.goes c.put.ensures.goes;
+  goes = goes_on c.args.self.now c.loop-block.self c.put.new.self c.loop-block.invariant.goes c.in_ok-put.ensures.goes;
   all = λ hold.
-      put_more c.args.list.now c.loop-block.block-index c.loop-block.self c.put.new.self c.args.least _ c.requires c.loop-block-test.true c.put.ensures.goes (c.loop-block.invariant.all (c.put.ensures.goes.held hold)) refl
-      (c.put.ensures.put hold).1;
+      put_more c.args.list.now c.loop-block.block-index c.loop-block.self c.put.new.self c.args.least _ c.requires c.loop-block-test.true c.in_ok-put.ensures.goes (c.loop-block.invariant.all (c.in_ok-put.ensures.goes.held hold)) refl
+      (c.in_ok-put.ensures.put hold);
 }
 
 pub returns-clause-goes : goal.returns-clause-goes

@@ -7,4 +7,4 @@ use Rattle.reclaim.proofs.table.Table.ends.Given as goal
 -- the nodes that are left end as they all do
 abbrev pub invariant-loop-node : goal.invariant-loop-node
 invariant-loop-node l =
-    ends_from (suc most_after - l.node) (has_link l.self) (slice_index l.self.words.items) l.at ≡ ends_from most_after (has_link l.self) (slice_index l.self.words.items) l.fn.first
+    ends_from (suc most_after - l.node) (has_link l.self) (slice_index l.self.words) l.at ≡ ends_from most_after (has_link l.self) (slice_index l.self.words) l.fn.first

@@ -1,7 +1,6 @@
 use Rattle.std.proofs.Common.{◌≡◌, ◌⊎◌, inl, inr, ℕ, ◌<◌, true, length, refl, sym, ap, ◌∙◌, arith}
 use Rattle.std.specs.Prelude.{slice_index}
 use Rattle.std.proofs.lemmas.Bool.{true≢false}
-use Rattle.std.proofs.lemmas.Grind.{get_or_default_zero}
 use Rattle.reclaim.specs.Heads.{fits}
 use Rattle.reclaim.proofs.Heads.{none_fits, read_fits, others_fit, told_more, head_set, kept_file}
 use Rattle.reclaim.proofs.table.Table.note_head.Goals as goal
@@ -23,8 +22,8 @@ returns-then-contains-2-clause-heads c =
     let t = c.args.self.now in
     let head = c.args.head in
     let within : head < t.links.blocks = omega (arith, c.if-head-blocks.false, c.blocks-2.ensures) in
-    let word : c.index-word.result.now ≡ slice_index t.words.items head = c.index-word.ensures ∙ get_or_default_zero t.words.items head c.index-word.result.now (omega (arith, c.if-head-blocks.false, c.blocks-2.ensures, c.requires.sized.words)) in
-    let own : c.fits.result ≡ fits c.args.capacity c.args.length (slice_index t.words.items head) = c.fits.ensures ∙ ap (fits c.args.capacity c.args.length) word in
+    let word : c.get-word.result ≡ slice_index t.words head = c.get-word.ensures in
+    let own : c.fits.result ≡ fits c.args.capacity c.args.length (slice_index t.words head) = c.fits.ensures ∙ ap (fits c.args.capacity c.args.length) word in
     let other = sym c.contains.ensures ∙ c.if-contains.false in
     record {
       kept = λ most seen told keeps is. told_more c.args.capacity most seen told t keeps _ (kept_file c.args.capacity t head c.args.length c.requires.some within other (sym own ∙ is));
@@ -35,16 +34,16 @@ pub returns-then-word-eq0-clause-heads : goal.returns-then-word-eq0-clause-heads
 returns-then-word-eq0-clause-heads c =
     let t = c.args.self.now in
     let head = c.args.head in
-    let within : head < length t.words.items = omega (arith, c.if-head-blocks.false, c.blocks-2.ensures, c.requires.sized.words) in
-    let word : c.index-word.result.now ≡ slice_index t.words.items head = c.index-word.ensures ∙ get_or_default_zero t.words.items head c.index-word.result.now within in
-    let room : (slice_index t.words.items head ≡ 0) ⊎ (fits c.args.capacity (slice_index t.words.items head) c.args.length ≡ true) =
+    let within : head < length t.words = omega (arith, c.if-head-blocks.false, c.blocks-2.ensures, c.requires.sized.words) in
+    let word : c.get-word.result ≡ slice_index t.words head = c.get-word.ensures in
+    let room : (slice_index t.words head ≡ 0) ⊎ (fits c.args.capacity (slice_index t.words head) c.args.length ≡ true) =
     elim c.then-word-eq0.branch [
       | then-word-eq0-via-then-word-eq0 w ↦ inl (sym word ∙ w.if-word-eq0.true)
       | then-word-eq0-via-else-word-eq0+then-fits w ↦ inr (ap (λ (n : ℕ). fits c.args.capacity n c.args.length) (sym word) ∙ sym w.fits-else-word-eq0.ensures ∙ w.if-fits.true)
     ] in
     record {
       kept = λ most seen told keeps _.
-          head_set c.args.capacity most seen told t keeps _ head c.args.length c.requires.some refl refl refl (omega (arith, c.if-head-blocks.false, c.blocks-2.ensures)) within
+          head_set c.args.capacity most seen told t keeps _ head c.args.length c.requires.some refl refl c.in_ok-set.ensures.put (omega (arith, c.if-head-blocks.false, c.blocks-2.ensures)) within
           (sym c.contains.ensures ∙ c.if-contains.false) (sym c.contains-2.ensures ∙ c.if-contains-2.false) room;
       bad = λ most seen told keeps is. absurd (true≢false is);
     }
@@ -54,8 +53,8 @@ returns-clause-heads c =
     let t = c.args.self.now in
     let head = c.args.head in
     let within : head < t.links.blocks = omega (arith, c.if-head-blocks.false, c.blocks-2.ensures) in
-    let word : c.index-word.result.now ≡ slice_index t.words.items head = c.index-word.ensures ∙ get_or_default_zero t.words.items head c.index-word.result.now (omega (arith, c.if-head-blocks.false, c.blocks-2.ensures, c.requires.sized.words)) in
-    let own : c.fits-2.result ≡ fits c.args.capacity c.args.length (slice_index t.words.items head) = c.fits-2.ensures ∙ ap (fits c.args.capacity c.args.length) word in
+    let word : c.get-word.result ≡ slice_index t.words head = c.get-word.ensures in
+    let own : c.fits-2.result ≡ fits c.args.capacity c.args.length (slice_index t.words head) = c.fits-2.ensures ∙ ap (fits c.args.capacity c.args.length) word in
     let other = sym c.contains.ensures ∙ c.if-contains.false in
     record {
       kept = λ most seen told keeps is. told_more c.args.capacity most seen told t keeps _ (kept_file c.args.capacity t head c.args.length c.requires.some within other (sym own ∙ is));

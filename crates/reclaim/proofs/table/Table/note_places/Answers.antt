@@ -19,20 +19,20 @@ note_place-requires-clause-sized c =
 
 pub loop-place-preserved : goal.loop-place-preserved
 loop-place-preserved c = record {
-  same = links_on c.args.self.now c.loop-place.self c.note_place.new.self c.loop-place.invariant.same c.note_place.ensures.same;
+  same = links_on c.args.self.now c.loop-place.self c.note_place.new.self c.loop-place.invariant.same c.in_ok-is_noted.ensures.same;
   told = λ most seen told keeps.
       told_so_far c.args.capacity most seen told c.args.places.now c.note_place.new.self c.loop-place.place-index (Dir 0) c.loop-place-test.true
-      (c.note_place.ensures.heads.kept most seen _ (c.loop-place.invariant.told most seen told keeps) c.if-not-note_place.false);
+      (c.in_ok-is_noted.ensures.heads.kept most seen _ (c.loop-place.invariant.told most seen told keeps) c.if-not-is_noted.false);
 }
 
-pub returns-then-not-note_place-clause-same : goal.returns-then-not-note_place-clause-same
-returns-then-not-note_place-clause-same c = links_on c.args.self.now c.loop-place.self c.note_place.new.self c.loop-place.invariant.same c.note_place.ensures.same
+pub returns-then-not-is_noted-clause-same : goal.returns-then-not-is_noted-clause-same
+returns-then-not-is_noted-clause-same c = links_on c.args.self.now c.loop-place.self c.note_place.new.self c.loop-place.invariant.same c.in_ok-is_noted.ensures.same
 
-pub returns-then-not-note_place-clause-heads : goal.returns-then-not-note_place-clause-heads
-returns-then-not-note_place-clause-heads c = record {
+pub returns-then-not-is_noted-clause-heads : goal.returns-then-not-is_noted-clause-heads
+returns-then-not-is_noted-clause-heads c = record {
   kept = λ most seen told keeps is. absurd (true≢false (sym is));
   bad = λ most seen told keeps _ fit.
-      c.note_place.ensures.heads.bad most seen _ (c.loop-place.invariant.told most seen told keeps) c.if-not-note_place.true
+      c.in_ok-is_noted.ensures.heads.bad most seen _ (c.loop-place.invariant.told most seen told keeps) c.if-not-is_noted.true
       (fit_so_far c.args.capacity most told c.args.places.now c.loop-place.place-index (Dir 0) c.loop-place-test.true fit);
 }
 

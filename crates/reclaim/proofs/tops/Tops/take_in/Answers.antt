@@ -11,13 +11,13 @@ returns-then-is_told-clause-tops c =
     let block = c.args.block in
     let p = slice_index c.args.pointers.now in
     let own = top_by p c.args.index in
-    let room = told_of (slice_index t.words.items block) c.top_in.result (sym c.note_top-is_told.ensures.exact ∙ c.if-is_told.true) in
-    let node : (top : ℕ → ℕ) (seen : List ℕ) (told : List (ℕ × ℕ)) → KeepsTops top seen told t → top block ≡ own → KeepsTops top (seen ++ block ∷ []) told c.note_top-is_told.new.self =
+    let room = told_of (slice_index t.words block) c.top_in.result (sym c.in_ok-is_told.ensures.exact ∙ c.if-is_told.true) in
+    let node : (top : ℕ → ℕ) (seen : List ℕ) (told : List (ℕ × ℕ)) → KeepsTops top seen told t → top block ≡ own → KeepsTops top (seen ++ block ∷ []) told c.note_top.new.self =
     λ top seen told keeps is.
-    top_read top seen told t keeps c.note_top-is_told.new.self block c.top_in.result (is ∙ sym c.top_in.ensures) room (omega (arith, c.requires.within, c.requires.sized.words)) c.note_top-is_told.ensures.words (ap (λ s. s.members) c.note_top-is_told.ensures.read) in
+    top_read top seen told t keeps c.note_top.new.self block c.top_in.result (is ∙ sym c.top_in.ensures) room (omega (arith, c.requires.within, c.requires.sized.words)) c.in_ok-is_told.ensures.words (ap (λ s. s.members) c.in_ok-is_told.ensures.read) in
     record {
-      kept = λ top seen told keeps is good. c.note_steps-are_told.ensures.tops.kept top (seen ++ block ∷ []) told (node top seen told keeps is) good;
-      bad = λ top seen told keeps is fails. c.note_steps-are_told.ensures.tops.bad top (seen ++ block ∷ []) told (node top seen told keeps is) fails;
+      kept = λ top seen told keeps is good. c.in_ok-are_told.ensures.tops.kept top (seen ++ block ∷ []) told (node top seen told keeps is) good;
+      bad = λ top seen told keeps is fails. c.in_ok-are_told.ensures.tops.bad top (seen ++ block ∷ []) told (node top seen told keeps is) fails;
     }
 
 pub returns-else-is_told-clause-tops : goal.returns-else-is_told-clause-tops
@@ -25,7 +25,7 @@ returns-else-is_told-clause-tops c =
     let t = c.args.self.now in
     let block = c.args.block in
     let p = slice_index c.args.pointers.now in
-    let none = told_not (slice_index t.words.items block) c.top_in.result (sym c.note_top-is_told.ensures.exact ∙ c.if-is_told.false) in
+    let none = told_not (slice_index t.words block) c.top_in.result (sym c.in_ok-is_told.ensures.exact ∙ c.if-is_told.false) in
     record {
       kept = λ top seen told keeps is good. absurd (true≢false (sym good ∙ c.if-is_told.false));
       bad = λ top seen told keeps is fails fit.

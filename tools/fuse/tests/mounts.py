@@ -127,7 +127,8 @@ class Folder:
             time.sleep(0.1)
         else:
             raise Wrong(f"the folder is busy: {done.stderr}")
-        want(self.process.wait(60), 0, "the daemon's status")
+        status = self.process.wait(60)
+        want(status, 0, f"the daemon's status, {self.told()[-400:]}" if status else "")
 
     def kill(self):
         """Kills the daemon and its child at once."""

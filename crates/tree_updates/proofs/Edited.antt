@@ -118,8 +118,8 @@ module _ (old new : Tree) where
     brings : Brings old new (edit_changes old new)
     brings = record {
       leads = λ h due is each.
-        let l = leads h due is each in
-        l.is ∙ ap (λ (t : Tree). grouped h t l.is_due) (there l.tree l.at) ∙ ap (grouped h new) (is_due h due (edit_changes old new) l edits_none);
+          let l = leads h due is each in
+          l.is ∙ ap (λ (t : Tree). grouped h t l.is_due) (there l.tree l.at) ∙ ap (grouped h new) (is_due h due (edit_changes old new) l edits_none);
     }
 
 pub edit_law : EditLaw

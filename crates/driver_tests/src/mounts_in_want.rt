@@ -1,4 +1,4 @@
-//! Mounts, which keep no bytes of bodies, and of most blocks a few bits.
+//! Mounts, which keep no bytes of bodies and nine bytes a block while they go on.
 use crate::budget::Budget;
 use flash_model::Geometry;
 use flash_simulation::SimFlash;
@@ -7,21 +7,9 @@ use std::alloc::Global;
 use std::test::Fail;
 use undofs::{Fs, Path, format};
 
-/// A flash of 64 MiB, of as many blocks as there may be.
-const MOST_BLOCKS: Geometry = Geometry {
-    page: 256,
-    pages: 16,
-    blocks: 16_384,
-};
-
-/// What stands on a flash.
-#[derive(Clone, Copy)]
-enum Content {
-    Nothing,
-    /// A file of so many bytes.
-    File(usize),
-    /// A directory that was moved below another one, with its old version.
-    MovedDirectory,
+/// How many bytes a mount may want of a flash of so many blocks.
+fn mount_bytes(blocks: u32) -> usize {
+    32_768 + 9 * blocks as usize
 }
 
 /// Writes a file of so many bytes, and commits it.
@@ -32,37 +20,17 @@ fn write_file(alloc: Global, flash: &mut SimFlash, count: usize) -> Result<(), F
     fs.sync(alloc)
 }
 
-/// Moves a directory below another one, and commits it.
-fn move_directory(alloc: Global, flash: &mut SimFlash) -> Result<(), Fault> {
-    let mut fs = Fs::mount(alloc, flash)?;
-    for path in ["/a", "/b"] {
-        fs.mkdir(alloc, &Path::parse(alloc, path.as_bytes())?)?;
-    }
-    let from = Path::parse(alloc, b"/a")?;
-    let to = Path::parse(alloc, b"/b/a")?;
-    fs.rename(alloc, &from, &to)?;
-    fs.sync(alloc)
-}
-
-/// Puts this on an empty flash.
-fn put(alloc: Global, flash: &mut SimFlash, content: Content) -> Result<(), Fault> {
-    match content {
-        Content::Nothing => Ok(()),
-        Content::File(count) => write_file(alloc, flash, count),
-        Content::MovedDirectory => move_directory(alloc, flash),
-    }
-}
-
-/// Whether a flash of these sizes with this on it is mounted with so much memory and no more.
+/// Whether a flash of these sizes with a file of so many bytes is mounted with so much memory and no
+/// more.
 fn is_mounted_in(
     alloc: Global,
     sizes: Geometry,
-    content: Content,
+    count: usize,
     bytes: usize,
 ) -> Result<bool, Fault> {
     let mut flash = SimFlash::new(alloc, sizes, &[])?;
     format(alloc, &mut flash, 8)?;
-    put(alloc, &mut flash, content)?;
+    write_file(alloc, &mut flash, count)?;
     let mut budget = Budget::new(alloc)?;
     budget.leave(alloc, bytes);
     let is_mounted = Fs::mount(alloc, &mut flash).is_ok();
@@ -77,25 +45,17 @@ fn body_of_1_mib_on_blocks_of_128_kib_is_not_kept(rt: HostRuntime) -> Result<(),
         pages: 64,
         blocks: 32,
     };
-    assert!(rt; is_mounted_in(rt.alloc(), sizes, Content::File(1_048_576), 16_384)?);
+    assert!(rt; is_mounted_in(rt.alloc(), sizes, 1_048_576, mount_bytes(32))?);
     Ok(())
 }
 
 #[test]
-fn empty_flash_of_64_mib_is_mounted_in_23_kib(rt: HostRuntime) -> Result<(), Fail> {
-    assert!(rt; is_mounted_in(rt.alloc(), MOST_BLOCKS, Content::Nothing, 23_552)?);
-    Ok(())
-}
-
-#[test]
-fn few_nodes_on_most_blocks_are_mounted_in_24_kib(rt: HostRuntime) -> Result<(), Fail> {
-    assert!(rt; is_mounted_in(rt.alloc(), MOST_BLOCKS, Content::File(16_384), 24_576)?);
-    Ok(())
-}
-
-#[test]
-fn directory_at_two_depths_wants_four_bytes_a_block(rt: HostRuntime) -> Result<(), Fail> {
-    let bytes = 24_576 + 4 * 16_384;
-    assert!(rt; is_mounted_in(rt.alloc(), MOST_BLOCKS, Content::MovedDirectory, bytes)?);
+fn most_blocks_want_nine_bytes_each(rt: HostRuntime) -> Result<(), Fail> {
+    let sizes = Geometry {
+        page: 256,
+        pages: 16,
+        blocks: 16_384,
+    };
+    assert!(rt; is_mounted_in(rt.alloc(), sizes, 16_384, mount_bytes(16_384))?);
     Ok(())
 }

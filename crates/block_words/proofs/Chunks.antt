@@ -1,8 +1,8 @@
 -- Words that are put into chunks.
-use Rattle.std.proofs.Common.{◌≡◌, ◌≢◌, inl, inr, ℕ, zero, suc, ◌+◌, ◌/◌, ◌%◌, ◌<◌, ◌≤◌, List, [], ◌∷◌, ◌++◌, length, replicate, refl, sym, ap, subst, ◌∙◌, arith}
+use Rattle.std.proofs.Common.{◌≡◌, ◌≢◌, inl, inr, ℕ, zero, suc, ◌/◌, ◌%◌, ◌<◌, List, [], ◌∷◌, ◌++◌, length, replicate, refl, sym, ap, ◌∙◌, arith}
 use Rattle.std.specs.Prelude.{slice_index, slice_index_or, slice_set}
-use Rattle.std.proofs.lemmas.Bool.{cases_eq, cases_lt}
-use Rattle.std.proofs.lemmas.List.{get_or-set_same, get_or-set_other, get_or_append_left, get_or_past, get_or-replicate, get_or_push, length-set, length-append}
+use Rattle.std.proofs.lemmas.Bool.{cases_eq}
+use Rattle.std.proofs.lemmas.List.{get_or-set_same, get_or-set_other, get_or_append_left, get_or-replicate, get_or_push, length-set}
 use Rattle.block_words.specs.Chunks.{AreChunked, chunk_at, word_in}
 
 -- a word is found by its place
@@ -11,6 +11,17 @@ word_none places chunks b none = ap (λ p. slice_index (chunk_at chunks p) (b % 
 
 pub word_some : (places : List ℕ) (chunks : List (List ℕ)) (b index : ℕ) → slice_index places (b / 64) ≡ suc index → word_in places chunks b ≡ slice_index (slice_index_or chunks index []) (b % 64)
 word_some places chunks b index at = ap (λ p. slice_index (chunk_at chunks p) (b % 64)) at
+
+-- where no place is another
+pub same_words : (old new : List ℕ) (chunks : List (List ℕ)) → ((i : ℕ) → slice_index new i ≡ slice_index old i) → (b : ℕ) → word_in new chunks b ≡ word_in old chunks b
+same_words old new chunks same b = ap (λ p. slice_index (chunk_at chunks p) (b % 64)) (same (b / 64))
+
+pub same_chunked : (old new : List ℕ) (chunks : List (List ℕ)) → ((i : ℕ) → slice_index new i ≡ slice_index old i) → AreChunked old chunks → AreChunked new chunks
+same_chunked old new chunks same are = record {
+  within = λ i. omega (arith, same i, are.within i);
+  apart = λ i j some equal. are.apart i j (λ none. some (same i ∙ none)) (sym (same i) ∙ equal ∙ same j);
+  whole = are.whole;
+}
 
 module _ (places : List ℕ) (chunks : List (List ℕ)) (are : AreChunked places chunks) where
   -- ---- a word more in a chunk

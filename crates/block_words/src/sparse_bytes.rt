@@ -26,12 +26,11 @@ impl Model for SparseBytes {
 
 impl SparseBytes {
     /// Bytes of a flash of `blocks` blocks, of which none was put.
-    pub fn new(alloc: Global, blocks: u32) -> Result<SparseBytes, Fault>
-        ensures bytes { IfOk result (λ s. s ≡ replicate blocks 0) }
-        ensures memory { IfErr result (λ fault. fault ≡ Fault.NoMemory) }
+    pub fn new(alloc: Global, blocks: u32) -> SparseBytes
+        ensures { result ≡ replicate blocks 0 }
     {
-        let words = SparseWords::new(alloc, blocks.div_ceil(4))?;
-        Ok(SparseBytes { blocks, words })
+        let words = SparseWords::new(alloc, blocks.div_ceil(4));
+        SparseBytes { blocks, words }
     }
 
     /// How many blocks the flash has.

@@ -10,25 +10,50 @@ use std::marker::Model;
 const CHUNK: usize = 64;
 
 /// A word for each block of one flash, 0 where none was put. Words stand in chunks of 64, and a chunk takes memory from
-/// when a word other than 0 is first put into it.
+/// when a word other than 0 is first put into it. Where none was put nothing takes memory.
 #[derive(Drop)]
 pub struct SparseWords {
     blocks: u32,
-    /// For each chunk 0 where it was not made, else one more than its index in `chunks`.
+    /// For each chunk 0 where it was not made, else one more than its index in `chunks`; none before the first is made.
     places: Vec<u32>,
     chunks: Vec<Box<[u32; CHUNK]>>,
 }
 
 impl Model for SparseWords {
-    ghost use Rattle.std.specs.Prelude.{ℕ, List, ◌*◌, ◌≤◌};
-    ghost use Rattle.std.specs.Vec.{vec_len};
+    ghost use Rattle.std.specs.Prelude.{ℕ, List, ◌*◌, ◌<◌, ◌≤◌, length};
     ghost use Rattle.block_words.specs.Chunks.{AreChunked, words_of, lists_of};
 
     ghost Value = { List ℕ };
 
     ghost view = { λ s. words_of s.blocks s.places.items (lists_of s.chunks.items) };
 
-    ghost invariant = { λ s. (s.blocks ≤ 64 * vec_len s.places) × AreChunked s.places.items (lists_of s.chunks.items) };
+    ghost invariant = { λ s. (0 < length s.places.items → s.blocks ≤ 64 * length s.places.items) × AreChunked s.places.items (lists_of s.chunks.items) };
+}
+
+/// So many places of chunks of which none was made, where there are no places yet.
+fn make_places(places: &mut Vec<u32>, count: usize) -> Result<(), Fault>
+    requires { 0 < length places.old.items → count ≤ length places.old.items }
+    ensures count { OnOk result (count ≤ length places.new.items) }
+    ensures same { (i : ℕ) → slice_index places.new.items i ≡ slice_index places.old.items i }
+    ensures unchanged { OnErr result (places.new ≡ places.old) }
+    ensures memory { IfErr result (λ fault. fault ≡ Fault.NoMemory) }
+{
+    if !places.is_empty() {
+        return Ok(());
+    }
+    let made = vec![in *places.allocator(); 0; count]?;
+    *places = made;
+    Ok(())
+}
+
+/// A place; 0 where there are no places yet.
+fn place_of(places: &[u32], at: usize) -> u32
+    ensures { result ≡ slice_index places.now at }
+{
+    if at >= places.len() {
+        return 0;
+    }
+    places[at]
 }
 
 /// The index of a chunk in a list of chunks, into which it is put where it was not made.
@@ -64,16 +89,14 @@ fn made_chunk(
 
 impl SparseWords {
     /// Words of a flash of `blocks` blocks, of which none was put.
-    pub fn new(alloc: Global, blocks: u32) -> Result<SparseWords, Fault>
-        ensures words { IfOk result (λ s. s ≡ replicate blocks 0) }
-        ensures memory { IfErr result (λ fault. fault ≡ Fault.NoMemory) }
+    pub fn new(alloc: Global, blocks: u32) -> SparseWords
+        ensures { result ≡ replicate blocks 0 }
     {
-        let places = vec![in alloc; 0; blocks.div_ceil(64) as usize]?;
-        Ok(SparseWords {
+        SparseWords {
             blocks,
-            places,
+            places: Vec::new(alloc),
             chunks: Vec::new(alloc),
-        })
+        }
     }
 
     /// How many blocks the flash has.
@@ -90,25 +113,12 @@ impl SparseWords {
         if block >= self.blocks {
             return 0;
         }
-        let place = self.places[block as usize / CHUNK];
+        let place = place_of(&self.places, block as usize / CHUNK);
         if place == 0 {
             return 0;
         }
         let chunk = &self.chunks[place as usize - 1];
         chunk[block as usize % CHUNK]
-    }
-
-    /// The words of all blocks, one after the other.
-    pub fn to_vec(&self, alloc: Global) -> Result<Vec<u32>, Fault>
-        ensures words { IfOk result (λ v. v.items ≡ self.now) }
-        ensures memory { IfErr result (λ fault. fault ≡ Fault.NoMemory) }
-    {
-        let blocks = self.blocks();
-        let mut words = Vec::with_capacity(alloc, blocks as usize)?;
-        for block in 0..blocks {
-            words.push(self.get(block))?;
-        }
-        Ok(words)
     }
 
     /// Puts the word of a block. Where it is refused for want of memory no word is another.
@@ -121,6 +131,8 @@ impl SparseWords {
         if self.get(block) == word {
             return Ok(());
         }
+        let count = self.blocks.div_ceil(64) as usize;
+        make_places(&mut self.places, count)?;
         let index = made_chunk(&mut self.places, &mut self.chunks, block as usize / CHUNK)?;
         let chunk = &mut self.chunks[index];
         chunk[block as usize % CHUNK] = word;

@@ -11,6 +11,7 @@ ghost use Rattle.nodes.specs.Words.{LooksWithin};
 ghost use Rattle.fs_types.specs.declared.limits.TheConstants.{MAX_NAMES};
 
 use allocator::BlockSet;
+use block_words::SparseWords;
 use fs_types::Fault;
 use node_format::{Entries, EntryList, Place};
 use nodes::{Nodes, brings};
@@ -65,7 +66,7 @@ fn add_unknown<N: Nodes>(
     block: u32,
     found: &mut BlockSet,
     quiet: &BlockSet,
-    nexts: &[u32],
+    nexts: &SparseWords,
 ) -> Result<u32, Fault>
     requires sound { N.is_sound nodes.old }
     requires quiet { spec.AreQuiet (N.node nodes.old) quiet.now.members nexts.now }
@@ -81,7 +82,7 @@ fn add_unknown<N: Nodes>(
     ensures reads { N.reads nodes.new ≡ N.reads nodes.old + (if set.contains quiet.now.members block then 0 else 1) }
 {
     if quiet.contains(block) {
-        return Ok(nexts[block as usize]);
+        return Ok(nexts.get(block));
     }
     add_named(nodes, block, found)
 }
@@ -101,7 +102,7 @@ fn add_chain<N: Nodes>(
     seen: &mut BlockSet,
     found: &mut BlockSet,
     quiet: &BlockSet,
-    nexts: &[u32],
+    nexts: &SparseWords,
 ) -> Result<(), Fault>
     requires sound { N.is_sound nodes.old }
     requires quiet { spec.AreQuiet (N.node nodes.old) quiet.now.members nexts.now }
@@ -149,7 +150,7 @@ fn next_level<N: Nodes>(
     nodes: &mut N,
     level: &BlockSet,
     quiet: &BlockSet,
-    nexts: &[u32],
+    nexts: &SparseWords,
 ) -> Result<BlockSet, Fault>
     requires sound { N.is_sound nodes.old }
     requires quiet { spec.AreQuiet (N.node nodes.old) quiet.now.members nexts.now }
@@ -227,7 +228,7 @@ pub fn any_is_deeper<N: Nodes>(
     roots: &[u32],
     most: usize,
     quiet: &BlockSet,
-    nexts: &[u32],
+    nexts: &SparseWords,
 ) -> Result<bool, Fault>
     requires sound { N.is_sound nodes.old }
     requires quiet { spec.AreQuiet (N.node nodes.old) quiet.now.members nexts.now }
@@ -269,7 +270,8 @@ pub fn is_deeper<N: Nodes>(
     ensures calls { LooksWithin N.Nodes IsLookFault ((most + 1) * N.blocks nodes.old) nodes.old result nodes.new }
 {
     let none = BlockSet::new(alloc, 0)?;
-    any_is_deeper(alloc, nodes, &[block], most, &none, &[])
+    let nexts = SparseWords::new(alloc, 0);
+    any_is_deeper(alloc, nodes, &[block], most, &none, &nexts)
 }
 
 /// Where a rename asks no depth: what stands at a path gets too deep at no path of as many names or

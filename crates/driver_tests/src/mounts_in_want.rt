@@ -1,4 +1,4 @@
-//! Mounts, which keep no bytes of bodies and nine bytes a block while they go on.
+//! Mounts, which keep no bytes of bodies, and of most blocks a few bits.
 use crate::budget::Budget;
 use flash_model::Geometry;
 use flash_simulation::SimFlash;
@@ -7,9 +7,28 @@ use std::alloc::Global;
 use std::test::Fail;
 use undofs::{Fs, Path, format};
 
-/// How many bytes a mount may want of a flash of so many blocks.
-fn mount_bytes(blocks: u32) -> usize {
-    32_768 + 9 * blocks as usize
+/// A flash of 64 MiB, of as many blocks as there may be.
+const MOST_BLOCKS: Geometry = Geometry {
+    page: 256,
+    pages: 16,
+    blocks: 16_384,
+};
+
+/// A flash of large blocks.
+const LARGE_BLOCKS: Geometry = Geometry {
+    page: 2_048,
+    pages: 64,
+    blocks: 32,
+};
+
+/// What stands on a flash.
+#[derive(Clone, Copy)]
+enum Content {
+    Nothing,
+    /// A file of so many bytes.
+    File(usize),
+    /// A directory that was moved below another one, with its old version.
+    MovedDirectory,
 }
 
 /// Writes a file of so many bytes, and commits it.
@@ -20,17 +39,37 @@ fn write_file(alloc: Global, flash: &mut SimFlash, count: usize) -> Result<(), F
     fs.sync(alloc)
 }
 
-/// Whether a flash of these sizes with a file of so many bytes is mounted with so much memory and no
-/// more.
+/// Moves a directory below another one, and commits it.
+fn move_directory(alloc: Global, flash: &mut SimFlash) -> Result<(), Fault> {
+    let mut fs = Fs::mount(alloc, flash)?;
+    for path in ["/a", "/b"] {
+        fs.mkdir(alloc, &Path::parse(alloc, path.as_bytes())?)?;
+    }
+    let from = Path::parse(alloc, b"/a")?;
+    let to = Path::parse(alloc, b"/b/a")?;
+    fs.rename(alloc, &from, &to)?;
+    fs.sync(alloc)
+}
+
+/// Puts this on an empty flash.
+fn put(alloc: Global, flash: &mut SimFlash, content: Content) -> Result<(), Fault> {
+    match content {
+        Content::Nothing => Ok(()),
+        Content::File(count) => write_file(alloc, flash, count),
+        Content::MovedDirectory => move_directory(alloc, flash),
+    }
+}
+
+/// Whether a flash of these sizes with this on it is mounted with so much memory and no more.
 fn is_mounted_in(
     alloc: Global,
     sizes: Geometry,
-    count: usize,
+    content: Content,
     bytes: usize,
 ) -> Result<bool, Fault> {
     let mut flash = SimFlash::new(alloc, sizes, &[])?;
     format(alloc, &mut flash, 8)?;
-    write_file(alloc, &mut flash, count)?;
+    put(alloc, &mut flash, content)?;
     let mut budget = Budget::new(alloc)?;
     budget.leave(alloc, bytes);
     let is_mounted = Fs::mount(alloc, &mut flash).is_ok();
@@ -38,24 +77,19 @@ fn is_mounted_in(
     Ok(is_mounted)
 }
 
-#[test]
-fn body_of_1_mib_on_blocks_of_128_kib_is_not_kept(rt: HostRuntime) -> Result<(), Fail> {
-    let sizes = Geometry {
-        page: 2_048,
-        pages: 64,
-        blocks: 32,
-    };
-    assert!(rt; is_mounted_in(rt.alloc(), sizes, 1_048_576, mount_bytes(32))?);
-    Ok(())
-}
+/// Flashes, what stands on them, and the bytes of memory in which each is mounted: no bytes of a body are
+/// kept, and of most blocks a few bits.
+const WANTED: &[(Geometry, Content, usize)] = &[
+    (LARGE_BLOCKS, Content::File(1_048_576), 16_384),
+    (MOST_BLOCKS, Content::Nothing, 23_552),
+    (MOST_BLOCKS, Content::File(16_384), 24_576),
+    (MOST_BLOCKS, Content::MovedDirectory, 32_768),
+];
 
 #[test]
-fn most_blocks_want_nine_bytes_each(rt: HostRuntime) -> Result<(), Fail> {
-    let sizes = Geometry {
-        page: 256,
-        pages: 16,
-        blocks: 16_384,
-    };
-    assert!(rt; is_mounted_in(rt.alloc(), sizes, 16_384, mount_bytes(16_384))?);
+fn mount_wants_memory_by_what_it_meets(rt: HostRuntime) -> Result<(), Fail> {
+    for &(sizes, content, bytes) in WANTED {
+        assert!(rt; is_mounted_in(rt.alloc(), sizes, content, bytes)?);
+    }
     Ok(())
 }

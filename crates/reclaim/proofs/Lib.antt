@@ -22,6 +22,7 @@ pub mod BodyChains
 pub mod ToldTops
 pub mod MoreRoots
 pub mod Paths
+pub mod Standing
 pub mod BodyHeaders
 pub mod NodeCalls
 pub mod Noting

@@ -1,5 +1,5 @@
 -- How deep directories stand, as their nodes tell it.
-use Rattle.std.specs.Prelude.{◌≡◌, ◌≢◌, ℕ, ◌+◌, ◌<◌, ◌≤◌, Bool, true, false, Some, List, length, slice_index, Contains}
+use Rattle.std.specs.Prelude.{◌≡◌, ◌≢◌, ◌⊎◌, ℕ, ◌+◌, ◌<◌, ◌≤◌, max, Bool, true, false, Some, List, [], length, slice_index, Contains}
 use Rattle.fs_types.specs.declared.limits.TheConstants.{MAX_NAMES}
 use Rattle.node_format.specs.Links.{Link}
 use Rattle.block_trees.specs.Bodies.{Blocks}
@@ -11,6 +11,21 @@ use Rattle.reclaim.specs.declared.levels.Levels.{Levels}
 -- the level of a block
 abbrev pub level : Levels → ℕ → ℕ
 level v b = slice_index v.found b
+
+-- a block of the flash that has no level, or one that is no lower
+abbrev pub MayStand : Levels → ℕ → ℕ → Type 0
+MayStand v b least = (b < length v.found) × ((level v b ≡ 0) ⊎ (least ≤ level v b))
+
+-- the level on which the node in a block is taken in: its own, or that of a root
+abbrev pub own_level : Levels → ℕ → ℕ
+own_level v b = max 1 (level v b)
+
+-- the node of a directory goes with the levels: what it names may stand where it should, and on the last level it names nothing
+pub record GoesWith (v : Levels) (block next : ℕ) (is_empty : Bool) (directories : List ℕ) : Type 0 where
+  pub there : block < length v.found
+  pub few : (own_level v block ≤ MAX_NAMES) ⊎ ((own_level v block ≡ MAX_NAMES + 1) × (is_empty ≡ true) × (next ≡ 0) × (directories ≡ []))
+  pub after : next ≢ 0 → MayStand v next (own_level v block)
+  pub below : (c : ℕ) → Contains directories c → MayStand v c (own_level v block + 1) × (c ≢ block) × (c ≢ next)
 
 -- levels went on from others: each block that has one keeps it
 pub record GoesOn (old new : Levels) : Type 0 where

@@ -1,5 +1,5 @@
 //! How deep directories stand, as their nodes tell it in the order of a marking.
-ghost use Rattle.std.specs.Prelude.{◌≡◌, ◌≢◌, ℕ, ◌+◌, ◌≤◌, ◌<◌, true, Some, OnOk, IfErr, Contains};
+ghost use Rattle.std.specs.Prelude.{◌≡◌, ◌≢◌, ℕ, ◌+◌, ◌≤◌, ◌<◌, true, Some, None, OnOk, IfErr, Contains, length};
 ghost use Rattle.reclaim.specs.Levels as spec;
 
 use block_words::SparseBytes;
@@ -17,11 +17,12 @@ pub struct Levels {
 
 impl Levels {
     /// The levels of a flash of `blocks` blocks of which no node was taken in.
-    pub fn new(alloc: Global, blocks: u32) -> Result<Levels, Fault>
-        ensures memory { IfErr result (λ fault. fault ≡ Fault.NoMemory) }
+    pub fn new(alloc: Global, blocks: u32) -> Levels
+        ensures none { (b : ℕ) → spec.level result b ≡ 0 }
+        ensures hold { result.hold ≡ true }
     {
-        let found = SparseBytes::new(alloc, blocks)?;
-        Ok(Levels { found, hold: true })
+        let found = SparseBytes::new(alloc, blocks);
+        Levels { found, hold: true }
     }
 
     /// Takes in a node: the block of the node after it, where it is one of a directory, whether it has no
@@ -34,6 +35,8 @@ impl Levels {
         directories: &[u32],
     ) -> Result<(), Fault>
         ensures goes { OnOk result (spec.GoesOn self.old self.new) }
+        ensures still { OnOk result ((n : ℕ) → next ≡ Some n → self.old.hold ≡ true → spec.GoesWith self.old block n is_empty directories.now → self.new.hold ≡ true) }
+        ensures same { OnOk result (next ≡ None → self.new ≡ self.old) }
         ensures stands { OnOk result ((n : ℕ) → next ≡ Some n → self.new.hold ≡ true → spec.Stands self.new block n is_empty directories.now) }
         ensures memory { IfErr result (λ fault. fault ≡ Fault.NoMemory) }
     {
@@ -62,6 +65,7 @@ impl Levels {
     fn put_all(&mut self, list: &[u32], least: u8) -> Result<(), Fault>
         requires { 0 < least }
         ensures goes { OnOk result (spec.GoesOn self.old self.new) }
+        ensures still { OnOk result (self.old.hold ≡ true → ((b : ℕ) → Contains list.now b → spec.MayStand self.old b least) → self.new.hold ≡ true) }
         ensures all { OnOk result (self.new.hold ≡ true → (b : ℕ) → Contains list.now b → least ≤ spec.level self.new b) }
         ensures memory { IfErr result (λ fault. fault ≡ Fault.NoMemory) }
     {
@@ -75,6 +79,10 @@ impl Levels {
     fn put(&mut self, block: u32, least: u8) -> Result<(), Fault>
         requires { 0 < least }
         ensures goes { OnOk result (spec.GoesOn self.old self.new) }
+        ensures still { OnOk result (self.old.hold ≡ true → spec.MayStand self.old block least → self.new.hold ≡ true) }
+        ensures others { OnOk result ((b : ℕ) → b ≢ block → spec.level self.new b ≡ spec.level self.old b) }
+        ensures own { OnOk result (spec.level self.old block ≡ 0 → block < length self.old.found → spec.level self.new block ≡ least) }
+        ensures size { length self.new.found ≡ length self.old.found }
         ensures put { OnOk result (self.new.hold ≡ true → least ≤ spec.level self.new block) }
         ensures memory { IfErr result (λ fault. fault ≡ Fault.NoMemory) }
     {

@@ -86,7 +86,7 @@ impl Table {
         ensures none { IfOk result (λ t. (t.links.members ≡ set.empty) × (t.named.members ≡ set.empty) × (t.quiet.members ≡ set.empty) × (t.read.members ≡ set.empty)) }
         ensures memory { IfErr result (λ fault. fault ≡ Fault.NoMemory) }
     {
-        let words = SparseWords::new(alloc, blocks)?;
+        let words = SparseWords::new(alloc, blocks);
         let links = BlockSet::new(alloc, blocks)?;
         let named = BlockSet::new(alloc, blocks)?;
         let quiet = BlockSet::new(alloc, blocks)?;

@@ -51,7 +51,7 @@ impl Tops {
         ensures none { IfOk result (λ t. t.read.members ≡ set.empty) }
         ensures memory { IfErr result (λ fault. fault ≡ Fault.NoMemory) }
     {
-        let words = SparseWords::new(alloc, blocks)?;
+        let words = SparseWords::new(alloc, blocks);
         let read = BlockSet::new(alloc, blocks)?;
         Ok(Tops { words, read })
     }

@@ -67,8 +67,7 @@ fn are_shallow<N: Nodes>(
     if is_known {
         return Ok(true);
     }
-    let listed = nexts.to_vec(alloc)?;
-    let deep = any_is_deeper(alloc, nodes, roots, MAX_NAMES, quiet, &listed)?;
+    let deep = any_is_deeper(alloc, nodes, roots, MAX_NAMES, quiet, nexts)?;
     Ok(!deep)
 }
 
@@ -217,7 +216,7 @@ pub fn verify<N: Examines>(
     let mut pass = Pass::start(alloc, blocks, roots)?;
     let mut table = Table::new(alloc, blocks)?;
     let mut tops = Tops::new(alloc, blocks)?;
-    let mut levels = Levels::new(alloc, blocks)?;
+    let mut levels = Levels::new(alloc, blocks);
     let are_whole = are_whole(
         alloc,
         nodes,
@@ -231,7 +230,7 @@ pub fn verify<N: Examines>(
     if !are_whole {
         return Err(Fault::Damaged);
     }
-    // The depths want three sets more and all words in one list, so what they do not need is let go first.
+    // The depths want three sets more, so what they do not need is let go first.
     let is_known = levels.hold;
     drop(levels);
     drop(tops);

@@ -1,4 +1,4 @@
-use Rattle.std.proofs.Common.{◌≡◌, ℕ, inl, inr, [], ◌∷◌, ap, subst, sym, ◌∙◌, arith}
+use Rattle.std.proofs.Common.{◌≡◌, ℕ, refl, inl, inr, [], ◌∷◌, ap, subst, sym, ◌∙◌, arith}
 use Rattle.std.specs.Prelude.{Contains}
 use Rattle.std.proofs.lemmas.Result.{IfOk-weaker}
 use Rattle.node_format.specs.declared.place.Place.TheVariants.{Dir}
@@ -23,3 +23,6 @@ returns-clause-deeper g c =
 pub any_is_deeper-requires-clause-quiet : goal.any_is_deeper-requires-clause-quiet
 any_is_deeper-requires-clause-quiet g c b has =
     absurd (true≢false (sym has ∙ ap (λ (s : BlockSet). set.contains s.members b) c.in_ok-none.ensures.ok ∙ set.contains-empty nat_cmp b))
+
+pub returns-clause-shallow : goal.returns-clause-shallow
+returns-clause-shallow g c = IfOk-weaker c.any_is_deeper.result _ _ (λ deep found is. found is c.args.block (0, omega arith, refl)) c.any_is_deeper.ensures.shallow

@@ -39,7 +39,7 @@ are_whole-requires-clause-verifying g c = record {
     told =
         told_none (g.N.Nodes.node c.args.nodes.now) c.in_ok-pass.pass c.in_ok-table.table c.in_ok-pass.ensures.begun.2 (subst (λ (n : ℕ). IsSized n c.in_ok-table.table) (sym c.in_ok-pass.ensures.begun.0) c.in_ok-table.ensures.sized)
         c.in_ok-table.ensures.none.0 c.in_ok-table.ensures.none.1 c.in_ok-table.ensures.none.2;
-    leveled = leveled_none (g.N.Nodes.node c.args.nodes.now) c.in_ok-pass.pass c.in_ok-levels.levels c.in_ok-pass.ensures.begun.2;
+    leveled = leveled_none (g.N.Nodes.node c.args.nodes.now) c.in_ok-pass.pass c.new-levels.result c.in_ok-pass.ensures.begun.2;
   };
   told = record {
     size = record { words = c.in_ok-tops.ensures.sized.words ∙ sym c.in_ok-pass.ensures.begun.0; read = c.in_ok-tops.ensures.sized.read ∙ sym c.in_ok-pass.ensures.begun.0 };
@@ -163,11 +163,6 @@ returns-in_err-tops-clause-asks g c =
     let s = c.args.nodes.now in
     none_read (all_pages (g.N.Nodes.page s) (g.N.Nodes.limit s)) (g.N.Nodes.node s) c.args.roots.now (g.N.Nodes.asked s)
 
-pub returns-in_err-levels-clause-asks : goal.returns-in_err-levels-clause-asks
-returns-in_err-levels-clause-asks g c =
-    let s = c.args.nodes.now in
-    none_read (all_pages (g.N.Nodes.page s) (g.N.Nodes.limit s)) (g.N.Nodes.node s) c.args.roots.now (g.N.Nodes.asked s)
-
 pub returns-in_err-are_whole-clause-asks : goal.returns-in_err-are_whole-clause-asks
 returns-in_err-are_whole-clause-asks g c =
     let s = c.args.nodes.now in
@@ -197,11 +192,6 @@ pub returns-in_err-tops-clause-calls : goal.returns-in_err-tops-clause-calls
 returns-in_err-tops-clause-calls g c =
     let p = err_from_is_err_and c.from_residual-in_err-tops.result c.from_residual-in_err-tops.ensures.1 in
     rw (p.1, p.2) (cost_memory g.met.N.Nodes.memory_may_want c.in_err-tops.ensures.memory (looks_itself g.N.Nodes g.met.N.Nodes.follows_itself c.args.nodes.now c.requires.sound) (none_read all_reads (g.N.Nodes.node c.args.nodes.now) c.args.roots.now (g.N.Nodes.reads c.args.nodes.now)))
-
-pub returns-in_err-levels-clause-calls : goal.returns-in_err-levels-clause-calls
-returns-in_err-levels-clause-calls g c =
-    let p = err_from_is_err_and c.from_residual-in_err-levels.result c.from_residual-in_err-levels.ensures.1 in
-    rw (p.1, p.2) (cost_memory g.met.N.Nodes.memory_may_want c.in_err-levels.ensures.memory (looks_itself g.N.Nodes g.met.N.Nodes.follows_itself c.args.nodes.now c.requires.sound) (none_read all_reads (g.N.Nodes.node c.args.nodes.now) c.args.roots.now (g.N.Nodes.reads c.args.nodes.now)))
 
 pub returns-in_err-are_whole-clause-calls : goal.returns-in_err-are_whole-clause-calls
 returns-in_err-are_whole-clause-calls g c =

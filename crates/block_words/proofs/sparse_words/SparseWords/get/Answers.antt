@@ -1,6 +1,5 @@
 use Rattle.std.proofs.Common.{◌≡◌, ℕ, suc, ◌-◌, ◌/◌, ◌%◌, ◌<◌, List, [], length, sym, ap, ◌∙◌, arith}
 use Rattle.std.specs.Prelude.{slice_index, slice_index_or}
-use Rattle.std.proofs.lemmas.Grind.{get_or_default_zero}
 use Rattle.std.proofs.lemmas.List.{get_or-map, length-map}
 use Rattle.block_words.specs.Chunks.{word_in, lists_of}
 use Rattle.block_words.proofs.Chunks.{word_none, word_some}
@@ -16,26 +15,24 @@ pub returns-then-place-eq0 : goal.returns-then-place-eq0
 returns-then-place-eq0 c =
     let places = c.self.inside.places.items in
     let lists = lists_of c.self.inside.chunks.items in
-    let within : c.args.block / 64 < length places = omega (arith, c.if-block-self.false, c.self.invariant.0, c.self.inside.places.ok.0) in
-    let none : slice_index places (c.args.block / 64) ≡ 0 = sym (c.index-place.ensures ∙ get_or_default_zero places (c.args.block / 64) c.index-place.result.now within) ∙ c.if-place-eq0.true in
-    sym (word_none places lists c.args.block none) ∙ sym (listed_get (word_in places lists) c.self.inside.blocks c.args.block c.if-block-self.false) ∙ ap (λ (l : List ℕ). slice_index l c.args.block) c.self.view_is
+    let at : c.place_of-place.result ≡ slice_index places (c.args.block / 64) = c.place_of-place.ensures ∙ ap (λ (l : List ℕ). slice_index l (c.args.block / 64)) c.deref.ensures.value in
+    sym (word_none places lists c.args.block (sym at ∙ c.if-place-eq0.true)) ∙ sym (listed_get (word_in places lists) c.self.inside.blocks c.args.block c.if-block-self.false) ∙ ap (λ (l : List ℕ). slice_index l c.args.block) c.self.view_is
 
 pub index-chunk-requires : goal.index-chunk-requires
 index-chunk-requires c =
     let places = c.self.inside.places.items in
-    let within : c.args.block / 64 < length places = omega (arith, c.if-block-self.false, c.self.invariant.0, c.self.inside.places.ok.0) in
-    omega (arith, c.self.invariant.1.within (c.args.block / 64), c.index-place.ensures ∙ get_or_default_zero places (c.args.block / 64) c.index-place.result.now within, length-map c.self.inside.chunks.items (λ k. k.value), c.self.inside.chunks.ok.0)
+    let at : c.place_of-place.result ≡ slice_index places (c.args.block / 64) = c.place_of-place.ensures ∙ ap (λ (l : List ℕ). slice_index l (c.args.block / 64)) c.deref.ensures.value in
+    omega (arith, c.self.invariant.1.within (c.args.block / 64), at, c.if-place-eq0.false, length-map c.self.inside.chunks.items (λ k. k.value), c.self.inside.chunks.ok.0)
 
 pub returns : goal.returns
 returns c =
     let places = c.self.inside.places.items in
     let chunks = c.self.inside.chunks.items in
     let lists = lists_of chunks in
-    let place = c.index-place.result.now in
-    let within : c.args.block / 64 < length places = omega (arith, c.if-block-self.false, c.self.invariant.0, c.self.inside.places.ok.0) in
-    let at : place ≡ slice_index places (c.args.block / 64) = c.index-place.ensures ∙ get_or_default_zero places (c.args.block / 64) place within in
+    let place = c.place_of-place.result in
+    let at : place ≡ slice_index places (c.args.block / 64) = c.place_of-place.ensures ∙ ap (λ (l : List ℕ). slice_index l (c.args.block / 64)) c.deref.ensures.value in
     let there : slice_index places (c.args.block / 64) ≡ suc (place - 1) = omega (arith, at, c.if-place-eq0.false) in
     let inside : place - 1 < length chunks = omega (arith, c.self.invariant.1.within (c.args.block / 64), there, length-map chunks (λ k. k.value)) in
-    let chunk : c.deref.result.now ≡ slice_index_or lists (place - 1) [] = c.deref.ensures ∙ ap (λ k. k.value) c.index-chunk.ensures ∙ sym (get_or-map (λ k. k.value) chunks (place - 1) c.index-chunk.result.now [] inside) in
+    let chunk : c.deref-2.result.now ≡ slice_index_or lists (place - 1) [] = c.deref-2.ensures ∙ ap (λ k. k.value) c.index-chunk.ensures ∙ sym (get_or-map (λ k. k.value) chunks (place - 1) c.index-chunk.result.now [] inside) in
     ap (λ (l : List ℕ). slice_index l (c.args.block % 64)) chunk ∙ sym (word_some places lists c.args.block (place - 1) there) ∙ sym (listed_get (word_in places lists) c.self.inside.blocks c.args.block c.if-block-self.false)
     ∙ ap (λ (l : List ℕ). slice_index l c.args.block) c.self.view_is

@@ -1,14 +1,14 @@
 -- The newest record of a flash, and why it may not be told.
-use Rattle.std.specs.Prelude.{◌≡◌, ◌⊎◌, ◌/◌, ◌<◌, true, false, Option, Some, None, Result, Ok, Err, IsSome}
+use Rattle.std.specs.Prelude.{◌≡◌, ◌⊎◌, ◌/◌, ◌<◌, true, false, Option, Some, None, Result, Ok, Err}
 use Rattle.std.specs.Option.{option_map}
 use Rattle.fs_types.specs.declared.fault.Fault.{Fault}
 use Rattle.fs_types.specs.declared.fault.Fault.TheVariants.{ReadFailed, PowerCut, NoMemory, Damaged, BadGeometry}
 use Rattle.flash_model.specs.Device.{Device}
 use Rattle.record_format.specs.declared.record.Record.{Record}
-use Rattle.record_format.specs.Payloads.{payload_at}
+use Rattle.record_format.specs.Payloads.{payload_at, WantsMemory}
 use Rattle.commit_pair.specs.declared.best.Found.{Found}
 use Rattle.commit_pair.specs.declared.anchors.Anchors.{Anchors}
-use Rattle.commit_pair.specs.Parts.{parts_on, newest_on}
+use Rattle.commit_pair.specs.Parts.{RecordBytes, parts_on, newest_on}
 use Rattle.commit_pair.specs.Reading.{IsEnd}
 use Rattle.commit_pair.specs.Laws.{HasNone, HasTie}
 
@@ -37,14 +37,18 @@ abbrev pub IsNewestRecord : Device → Option Record → Type 0
 IsNewestRecord d None = HasNone d.geometry (parts_on d.geometry d.pages)
 IsNewestRecord d (Some newest) = committed_on d ≡ Some (Ok newest)
 
+-- there is a newest record, and memory is wanted for what is on the lists of its payload
+abbrev pub WantsMemoryOn : Device → Type 0
+WantsMemoryOn d = (entry : RecordBytes) × (newest_on d.geometry d.pages ≡ Some entry) × WantsMemory d.geometry entry.payload
+
 -- why a record that is there is not told: two share the greatest sequence, or the payload of the newest means none.
--- Memory is wanted for what a newest record holds alone
+-- Memory is wanted for what is on the lists of a newest record alone
 abbrev pub RecordCause : Device → Device → Fault → Type 0
 RecordCause old new Damaged = HasTie old.geometry (parts_on old.geometry old.pages) ⊎ (committed_on old ≡ Some (Err Damaged))
 RecordCause old new BadGeometry = committed_on old ≡ Some (Err BadGeometry)
 RecordCause old new ReadFailed = old.failed_reads < new.failed_reads
 RecordCause old new PowerCut = new.powered ≡ false
-RecordCause old new NoMemory = IsSome (committed_on old)
+RecordCause old new NoMemory = WantsMemoryOn old
 RecordCause old new _ = ⊥
 
 -- the same where memory is also wanted before anything is asked of the device

@@ -1,20 +1,21 @@
 -- A payload that means a record on a flash tells the sizes of that flash.
 use Rattle.std.proofs.Common.{◌≡◌, ℕ, suc, ◌+◌, Bool, true, false, cond, ltb, eqb, List, length, drop, Option, Some, None, Result, Ok, Err, refl, sym, ap, subst, ◌∙◌, get_or, arith}
-use Rattle.std.proofs.lemmas.Bool.{eqb-true}
+use Rattle.std.proofs.lemmas.Bool.{eqb-true, ltb-false}
 use Rattle.std.proofs.lemmas.List.{drop-drop, get_or-drop}
 use Rattle.std.specs.Prelude.{◌||◌, ◌==◌, not, ◌*◌}
 use Rattle.std.specs.Option.{ok_or}
 use Rattle.byteorder.specs.Endian.{little_from, little_number}
 use Rattle.fields.specs.Numbers.{number_at}
-use Rattle.fields.proofs.Found.{bind_some, passed, some_is}
+use Rattle.fields.proofs.Found.{bind_some, passed, some_is, step}
 use Rattle.fs_types.specs.declared.fault.Fault.{Fault}
 use Rattle.fs_types.specs.declared.fault.Fault.TheVariants.{Damaged, BadGeometry}
 use Rattle.flash_model.specs.declared.geometry.Geometry.{Geometry}
 use Rattle.record_format.specs.declared.record.Record.{Record}
 use Rattle.record_format.specs.Items.{version_at, checkpoint_at, block_at, many_at}
-use Rattle.record_format.specs.Payloads.{is_format, shortest, longest, sizes_at, front_at, meaning_of, tells_sizes}
+use Rattle.record_format.specs.Payloads.{is_format, shortest, longest, sizes_at, front_at, front_in, meaning_of, tells_sizes, payload_at, HasItems, WantsMemory}
 use Rattle.record_format.specs.Laws.{MeansItsFlash}
-use Rattle.record_format.proofs.LawfulRecords.{both_true}
+use Rattle.record_format.proofs.LawfulRecords.{both_true, counts_of}
+use Rattle.record_format.proofs.Many.{many_length}
 use Rattle.record_format.proofs.PayloadLaws.{meaning_says}
 
 -- ---- a number at a place
@@ -115,3 +116,53 @@ means_its_flash g sequence bytes r e =
     let pages : r.geometry.pages ≡ g.pages = sym read.pages ∙ eqb-true _ _ rest.0 in
     let blocks : r.geometry.blocks ≡ g.blocks = sym read.blocks ∙ eqb-true _ _ rest.1 in
     (λ i. record { page = page i; pages = pages i; blocks = blocks i }, (meaning_says sequence bytes r means).0.lawful)
+
+-- ---- what wants memory
+
+-- a payload that means a record has something on a list: a version
+meaning_items : (sequence : ℕ) (bytes : List ℕ) (r : Record) → meaning_of sequence bytes ≡ Some r → HasItems bytes
+unfolding meaning_of front_in
+meaning_items sequence bytes r e =
+    let format = bind_some (number_at 4 bytes) _ r e in
+    let sizes = bind_some (sizes_at format.0.1) _ r format.2 in
+    let front = bind_some (front_at sizes.0.1) _ r sizes.2 in
+    let versions = bind_some (many_at version_at front.0.0.versions front.0.1) _ r front.2 in
+    let checkpoints = bind_some (many_at checkpoint_at front.0.0.checkpoints versions.0.1) _ r versions.2 in
+    let bad = bind_some (many_at block_at front.0.0.bad checkpoints.0.1) _ r checkpoints.2 in
+    let read : Record = record {
+      sequence = sequence;
+      format = format.0.0;
+      geometry = sizes.0.0;
+      limit = front.0.0.limit;
+      cursor = front.0.0.cursor;
+      dropped = front.0.0.dropped == 1;
+      versions = versions.0.0;
+      checkpoints = checkpoints.0.0;
+      bad = bad.0.0;
+      next = front.0.0.next;
+      last = front.0.0.last;
+    } in
+    let same : read ≡ r = some_is read r (passed _ (Some read) r bad.2).1 in
+    let counts = counts_of r (meaning_says sequence bytes r e).0.lawful in
+    let many : length r.versions ≡ front.0.0.versions = ap (λ (x : Record). length x.versions) (sym same) ∙ many_length version_at front.0.0.versions front.0.1 versions.0 versions.1 in (
+      front.0.0,
+      step (number_at 4 bytes) format.0 _ format.1 ∙ step (sizes_at format.0.1) sizes.0 _ sizes.1 ∙ step (front_at sizes.0.1) front.0 _ front.1,
+      omega (arith, many, counts.cursor),
+    )
+
+-- memory is wanted for a payload that means a record
+pub means_wants : (g : Geometry) (sequence : ℕ) (bytes : List ℕ) (r : Record) → payload_at g sequence bytes ≡ Ok r → WantsMemory g bytes
+means_wants g sequence bytes r e =
+    let other = accepted Damaged (ltb (length bytes) shortest || not (is_format (little_from 0 4 bytes))) _ r e in
+    let sizes = accepted BadGeometry (not (tells_sizes g bytes)) _ r other.1 in
+    let long = accepted Damaged (ltb longest (length bytes)) _ r sizes.1 in
+    record {
+      format = not_false (is_format (little_from 0 4 bytes)) (neither (ltb (length bytes) shortest) _ other.0);
+      sizes = not_false (tells_sizes g bytes) sizes.0;
+      most = ltb-false longest (length bytes) long.0;
+      items = meaning_items sequence bytes r (meant (meaning_of sequence bytes) r long.1);
+    }
+  where
+    neither : (a b : Bool) → (a || b) ≡ false → b ≡ false
+    neither true b e = absurd cc
+    neither false b e = e

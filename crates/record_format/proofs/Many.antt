@@ -1,10 +1,11 @@
 -- So many items, read one after the other.
-use Rattle.std.proofs.Common.{◌≡◌, ℕ, suc, ◌+◌, ◌-◌, ◌<◌, List, [], ◌∷◌, ◌++◌, length, Option, Some, None, refl, sym, ap, ◌∙◌, append_assoc, arith}
+use Rattle.std.proofs.Common.{◌≡◌, ℕ, zero, suc, ◌+◌, ◌-◌, ◌<◌, List, [], ◌∷◌, ◌++◌, length, Option, Some, None, refl, sym, ap, ◌∙◌, append_assoc, arith}
 use Rattle.std.proofs.lemmas.List.{append-nil}
 use Rattle.std.specs.List.{flat_map, list_all}
 use Rattle.std.proofs.Common.{Bool, true, false}
 use Rattle.std.specs.Prelude.{◌&&◌}
 use Rattle.fields.specs.Numbers.{◌>>=◌}
+use Rattle.fields.proofs.Found.{bind_some, some_is}
 use Rattle.record_format.specs.Items.{many_at}
 
 -- items that are read come after those that were read before
@@ -45,6 +46,15 @@ unfolding many_at
 many_ends item xs count i bytes total same so_far =
     let k : count - i ≡ 0 = omega arith in
     sym (ap (λ n. onto xs (many_at item n bytes)) k ∙ ap (λ ys. Some (ys, bytes)) (append-nil xs)) ∙ so_far
+
+-- so many items are that many
+pub many_length : {X : Type 0} (item : List ℕ → Option (X × List ℕ)) (n : ℕ) (bytes : List ℕ) (ys : List X × List ℕ) → many_at item n bytes ≡ Some ys → length ys.0 ≡ n
+unfolding many_at
+many_length item zero bytes ys e = ap (λ (y : List _ × List ℕ). length y.0) (sym (some_is ([], bytes) ys e))
+many_length item (suc n) bytes ys e =
+    let first = bind_some (item bytes) _ ys e in
+    let others = bind_some (many_at item n first.0.1) _ ys first.2 in
+    ap (λ (y : List _ × List ℕ). length y.0) (sym (some_is (first.0.0 ∷ others.0.0, others.0.1) ys others.2)) ∙ ap suc (many_length item n first.0.1 others.0 others.1)
 
 -- items that are spelled one after the other are read again
 pub many_again : {X : Type 0} (item : List ℕ → Option (X × List ℕ)) (spell : X → List ℕ) (fits : X → Bool)

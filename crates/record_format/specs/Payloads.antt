@@ -1,5 +1,5 @@
 -- The payload of a record: what it means, and its spelling; numbers are little-endian.
-use Rattle.std.specs.Prelude.{◌≡◌, ℕ, ◌+◌, ◌<◌, ◌^◌, Bool, true, ◌&&◌, ◌||◌, not, ◌==◌, nat_lt, nat_le, Option, Some, None, Result, Err, List, [], ◌∷◌, ◌++◌, length, if◌then◌else◌}
+use Rattle.std.specs.Prelude.{◌≡◌, ℕ, ◌+◌, ◌<◌, ◌≤◌, ◌^◌, Bool, true, ◌&&◌, ◌||◌, not, ◌==◌, nat_lt, nat_le, Option, Some, None, Result, Err, List, [], ◌∷◌, ◌++◌, length, if◌then◌else◌}
 use Rattle.std.specs.List.{list_all, flat_map}
 use Rattle.std.specs.Option.{ok_or}
 use Rattle.std.specs.Ordering.{is_lt}
@@ -198,6 +198,25 @@ meaning_of sequence bytes = do
 -- the bytes of a payload tell these sizes
 abbrev pub tells_sizes : Geometry → List ℕ → Bool
 tells_sizes g bytes = (little_from 4 4 bytes == g.page) && ((little_from 8 4 bytes == g.pages) && (little_from 12 4 bytes == g.blocks))
+
+-- the fields before the lists of a payload; none where bytes are missing
+unfoldable pub front_in : List ℕ → Option Front
+front_in bytes = do
+  format ← number_at 4 bytes
+  sizes ← sizes_at format.1
+  front ← front_at sizes.1
+  Some front.0
+
+-- the fields before the lists are there, and say that one has something on it
+abbrev pub HasItems : List ℕ → Type 0
+HasItems bytes = (front : Front) × (front_in bytes ≡ Some front) × (0 < front.versions + (front.checkpoints + front.bad))
+
+-- memory is wanted for what is on the lists of a payload alone: its format is one that is read, it tells these sizes and is not too long, and something is on a list
+pub record WantsMemory (g : Geometry) (bytes : List ℕ) : Type 0 where
+  pub format : is_format (little_from 0 4 bytes) ≡ true
+  pub sizes : tells_sizes g bytes ≡ true
+  pub most : length bytes ≤ longest
+  pub items : HasItems bytes
 
 -- what a payload on a flash of these sizes means, or why it means nothing: the format comes first, then the sizes, then the rest, a payload that is too long among it
 abbrev pub payload_at : Geometry → ℕ → List ℕ → Result Record Fault

@@ -23,7 +23,8 @@ fn versions_of(
     count: u8,
     bytes: &[u8],
 ) -> Result<Option<(Sequence<Version<u32>>, &[u8])>, AllocError>
-    ensures { IfOk result (λ found. option_map (λ x. (x.0, x.1.now)) found ≡ spec.many_at spec.version_at count bytes.now) }
+    ensures found { IfOk result (λ found. option_map (λ x. (x.0, x.1.now)) found ≡ spec.many_at spec.version_at count bytes.now) }
+    ensures memory { IfErr result (λ _. 0 < count) }
 {
     let mut versions = Sequence::new(alloc);
     let mut rest = bytes;
@@ -42,7 +43,8 @@ fn checkpoints_of(
     count: u8,
     bytes: &[u8],
 ) -> Result<Option<(Sequence<Checkpoint>, &[u8])>, AllocError>
-    ensures { IfOk result (λ found. option_map (λ x. (x.0, x.1.now)) found ≡ spec.many_at spec.checkpoint_at count bytes.now) }
+    ensures found { IfOk result (λ found. option_map (λ x. (x.0, x.1.now)) found ≡ spec.many_at spec.checkpoint_at count bytes.now) }
+    ensures memory { IfErr result (λ _. 0 < count) }
 {
     let mut checkpoints = Sequence::new(alloc);
     let mut rest = bytes;
@@ -61,7 +63,8 @@ fn blocks_of(
     count: u16,
     bytes: &[u8],
 ) -> Result<Option<(Sequence<u32>, &[u8])>, AllocError>
-    ensures { IfOk result (λ found. option_map (λ x. (x.0, x.1.now)) found ≡ spec.many_at spec.block_at count bytes.now) }
+    ensures found { IfOk result (λ found. option_map (λ x. (x.0, x.1.now)) found ≡ spec.many_at spec.block_at count bytes.now) }
+    ensures memory { IfErr result (λ _. 0 < count) }
 {
     let mut blocks = Sequence::new(alloc);
     let mut rest = bytes;
@@ -99,7 +102,8 @@ fn if_spelled(read: Record, one: u8, two: u16, bytes: &[u8]) -> Option<Record>
 
 #[tactic(auto, unfolding(crate::specs::Payloads::meaning_of))]
 fn record_of(alloc: Global, sequence: u64, bytes: &[u8]) -> Result<Option<Record>, AllocError>
-    ensures { IfOk result (λ found. found ≡ payload.meaning_of sequence bytes.now) }
+    ensures found { IfOk result (λ found. found ≡ payload.meaning_of sequence bytes.now) }
+    ensures memory { IfErr result (λ _. payload.HasItems bytes.now) }
 {
     let Some((format, rest)) = read_u32(bytes) else {
         return Ok(None);
@@ -148,7 +152,8 @@ fn tells_sizes(geometry: Geometry, bytes: &[u8]) -> bool
 ///
 /// `Damaged` where the payload has under 16 bytes or is of a format that is not read; `BadGeometry` where it
 /// tells other sizes; then `Damaged` for every other departure, over 3,176 bytes among them.
-/// `NoMemory` where memory could not be had.
+/// `NoMemory` where memory could not be had for what is on its lists: all that stands before these is
+/// looked at first.
 pub fn read_payload(
     alloc: Global,
     geometry: Geometry,
@@ -157,6 +162,7 @@ pub fn read_payload(
 ) -> Result<Record, Fault>
     ensures ok { IfOk result (λ found. payload.payload_at geometry sequence bytes.now ≡ Ok found) }
     ensures err { IfErr result (λ fault. fault ≢ Fault.NoMemory → payload.payload_at geometry sequence bytes.now ≡ Err fault) }
+    ensures memory { IfErr result (λ fault. fault ≡ Fault.NoMemory → payload.WantsMemory geometry bytes.now) }
 {
     if bytes.len() < SHORTEST || !is_format(u32_at(bytes, 0)) {
         return Err(Fault::Damaged);

@@ -6,7 +6,7 @@ use Rattle.commit_pair.proofs.ReadParts.{found_once}
 use Rattle.std.proofs.lemmas.Result.{err_from_is_err_and}
 use Rattle.commit_pair.specs.declared.best.Best.{Best}
 use Rattle.commit_pair.specs.Parts.{parts_on, payload_of, newest_at, pages_of}
-use Rattle.commit_pair.proofs.Committed.{tie_at, none_at, committed_at, payload_cause, read_cause}
+use Rattle.commit_pair.proofs.Committed.{tie_at, none_at, committed_at, wants_at, payload_cause, refused_cause, read_cause}
 use Rattle.commit_pair.proofs.NewestLaws.{best_ends}
 use Rattle.commit_pair.proofs.newest.read_best.Goals as goal
 
@@ -29,7 +29,8 @@ returns-in_err-newest-clause-why g c =
     let old = g.F.Flash.device c.args.flash.now in
     let held : c.as_slice.result.now ≡ payload_of c.args.geometry (parts_on c.args.geometry old.pages) c.in-Some.found = c.as_slice.ensures.value ∙ c.in_ok-payload.ensures.payload in
     rw (p.1, p.2) (payload_cause old (g.F.Flash.device c.find_payload.new.flash) c.args.geometry c.in-Some.found.head.sequence c.as_slice.result.now c.in_err-newest.field-0.0
-    (committed_at old c.args.geometry c.args.best c.in-Some.found c.as_slice.result.now c.requires.may.same c.requires.best c.if-best.false c.in-Some.is held) c.in_err-newest.ensures.err)
+    (committed_at old c.args.geometry c.args.best c.in-Some.found c.as_slice.result.now c.requires.may.same c.requires.best c.if-best.false c.in-Some.is held) c.in_err-newest.ensures.err
+    (λ none. wants_at old c.args.geometry c.args.best c.in-Some.found c.as_slice.result.now c.requires.may.same c.requires.best c.if-best.false c.in-Some.is held (c.in_err-newest.ensures.memory none)))
 
 pub returns-then-best-clause-only_reads : goal.returns-then-best-clause-only_reads
 returns-then-best-clause-only_reads g c = OnlyReads_itself (g.F.Flash.device c.args.flash.now)
@@ -58,7 +59,7 @@ returns-in_err-payload-clause-why g c =
     let bytes = payload_of c.args.geometry (parts_on c.args.geometry old.pages) c.in-Some.found in
     rw (p.1, p.2) (elim c.in_err-payload.ensures.why [
       | inl cause ↦ read_cause old new fault cause
-      | inr refused ↦ payload_cause old new c.args.geometry c.in-Some.found.head.sequence bytes fault (committed_at old c.args.geometry c.args.best c.in-Some.found bytes c.requires.may.same c.requires.best c.if-best.false c.in-Some.is refl) (λ apart. refused)
+      | inr refused ↦ refused_cause old new c.args.geometry c.in-Some.found.head.sequence bytes fault (committed_at old c.args.geometry c.args.best c.in-Some.found bytes c.requires.may.same c.requires.best c.if-best.false c.in-Some.is refl) refused
     ])
 
 pub returns-in_err-newest-clause-newest : goal.returns-in_err-newest-clause-newest

@@ -101,6 +101,10 @@ const THOUSAND_ENTRIES_CLEANED: &[&str] = &["wide 1000", "reclaim 9999", "clean 
 
 const THOUSAND_FILES: &[&str] = &["flat 1000"];
 
+const FILE_OF_THOUSAND: &[&str] = &["flat 1000", "open /1999 7", "fill 1000"];
+
+const FILE_OF_THOUSAND_READ: &[&str] = &["flat 1000", "open /1999 7", "fill 1000", "pread 0 0 64"];
+
 /// The calls, with the most nodes that each may write.
 pub const MEASURES: &[Measure] = &[
     Measure {
@@ -239,6 +243,18 @@ pub const MEASURES: &[Measure] = &[
         name: "pread of 1 MiB, a second time",
         before: &["open /f 7", "fill 1048576", "pread 0 0 1048576"],
         call: "pread 0 0 1048576",
+        nodes: 0,
+    },
+    Measure {
+        name: "pread of 64 bytes among 1,000 entries",
+        before: FILE_OF_THOUSAND,
+        call: "pread 0 0 64",
+        nodes: 0,
+    },
+    Measure {
+        name: "pread of 64 other bytes after it",
+        before: FILE_OF_THOUSAND_READ,
+        call: "pread 0 512 64",
         nodes: 0,
     },
     Measure {

@@ -37,11 +37,17 @@ const FILE_IN_PIECES: &[&str] = &["open /f 7", "fill 1048576", "scan 4096"];
 
 const FILE_IN_SMALL_PIECES: &[&str] = &["open /f 7", "fill 1048576", "scan 512"];
 
+const FILE_IN_SMALLEST_PIECES: &[&str] = &["open /f 7", "fill 1048576", "scan 64"];
+
 const FILE_FORGOTTEN: &[&str] = &["open /f 7", "fill 1048576", "cold"];
 
 const BYTES_READ: &[&str] = &["open /f 7", "fill 1048576", "cold", "gather 1"];
 
 const PIECES_READ: &[&str] = &["open /f 7", "fill 1048576", "cold", "gather 512"];
+
+const FILE_AMONG_MANY: &[&str] = &["flat 1000", "open /1999 7", "fill 1048576"];
+
+const FILE_AMONG_MANY_READ: &[&str] = &["flat 1000", "open /1999 7", "fill 1048576", "gather 64"];
 
 const FILE_TOLD: &[&str] = &["open /f 7", "fill 1048576", "df"];
 
@@ -130,6 +136,20 @@ pub const SERIES: &[Series] = &[
         calls: 2048,
     },
     Series {
+        name: "4,096 bytes of 1 MiB, by 64s",
+        sizes: SMALL_BLOCKS,
+        before: FILE,
+        after: FILE_IN_SMALLEST_PIECES,
+        calls: 256,
+    },
+    Series {
+        name: "64 bytes at places, among 1,000",
+        sizes: SMALL_BLOCKS,
+        before: FILE_AMONG_MANY,
+        after: FILE_AMONG_MANY_READ,
+        calls: 64,
+    },
+    Series {
         name: "pread of 1 byte at 64 places",
         sizes: SMALL_BLOCKS,
         before: FILE_FORGOTTEN,
@@ -184,6 +204,13 @@ pub const SERIES: &[Series] = &[
         before: FILE,
         after: FILE_IN_SMALL_PIECES,
         calls: 2048,
+    },
+    Series {
+        name: "4,096 bytes of 1 MiB, by 64s",
+        sizes: LARGE_BLOCKS,
+        before: FILE,
+        after: FILE_IN_SMALLEST_PIECES,
+        calls: 256,
     },
     Series {
         name: "pread of 1 byte at 64 places",

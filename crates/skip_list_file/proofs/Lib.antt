@@ -1,4 +1,5 @@
 pub mod Chains
+pub mod KnownNodes
 pub mod FirstPages
 pub mod Hops
 pub mod Parts

@@ -1,10 +1,12 @@
 -- Reading a range of a file's bytes: which pointers lead to its last node, and how many nodes hold it.
-use Rattle.std.specs.Prelude.{◌≡◌, ◌<◌, List, length, slice_index, ℕ, ◌+◌, ◌-◌, ◌/◌, ◌%◌, ◌^◌, ◌≤◌, min, nat_lt, if◌then◌else◌}
+use Rattle.std.specs.Prelude.{◌≡◌, ◌<◌, List, length, slice_index, ℕ, ◌+◌, ◌-◌, ◌/◌, ◌%◌, ◌^◌, ◌≤◌, min, nat_lt, if◌then◌else◌, Option, Some}
+use Rattle.std.specs.Option.{option_map}
 use Rattle.block_trees.specs.Bodies.{Blocks, back, data_to, head_index, IsBody, IsChain}
 use Rattle.node_format.specs.Headers.{body_header}
 use Rattle.node_format.specs.BodyNodes.{HasSlot}
 use Rattle.node_format.specs.declared.headers.TheConstants.{SLOTS}
 use Rattle.skip_list_file.specs.declared.body.Body.{Body}
+use Rattle.skip_list_file.specs.declared.known_node.KnownNode.{KnownNode}
 use Rattle.skip_list_file.specs.declared.range_reads.TheConstants.{LEAST_SCAN}
 
 -- slot x, which the node of index i has, leads towards index j, and not past it
@@ -37,6 +39,15 @@ pub record IsPartOfNode (capacity size offset count : ℕ) : Type 0 where
 -- the block of the node that holds the byte at an offset
 abbrev pub block_of_byte : Blocks → ℕ → Body → ℕ → ℕ
 block_of_byte f capacity body offset = back f body.head (head_index capacity body.length - offset / capacity)
+
+-- the node of an index of a body is in this block
+pub record IsNodeOf (capacity : ℕ) (f : Blocks) (body : Body) (node : KnownNode) : Type 0 where
+  pub within : node.index ≤ head_index capacity body.length
+  pub there : node.block ≡ back f body.head (head_index capacity body.length - node.index)
+
+-- the known node holds the last of what is read from an offset on of a file of this length, at most so many bytes
+abbrev pub IsAtHand : ℕ → ℕ → Option KnownNode → ℕ → ℕ → Type 0
+IsAtHand capacity size known offset count = option_map (λ node. node.index) known ≡ Some ((min size (offset + count) - 1) / capacity)
 
 -- the chain from a block has the bytes from a start to an end, and the last of them is in the block's node
 pub record HoldsRange (capacity : ℕ) (f : Blocks) (start end block : ℕ) : Type 0 where

@@ -1,9 +1,10 @@
 //! Reading the bytes of a file.
 ghost use Rattle.std.specs.Prelude.{◌≡◌, ◌≢◌, ℕ, ◌+◌, ◌-◌, ◌*◌, ◌/◌, ◌%◌, ◌^◌, ◌<◌, ◌≤◌, length, min, take, drop, true, false, Some, OnOk, IfOk};
+ghost use Rattle.std.specs.Option.{option_map, ForSome};
 ghost use Rattle.plain_trees.specs.Contents.{read_from};
 ghost use Rattle.node_format.specs.Headers.{body_header};
 ghost use Rattle.node_format.specs.BodyNodes.{HasSlot};
-ghost use Rattle.block_trees.specs.Bodies.{index_of, pointer_of, data_of, back, data_to, head_index, IsChain, IsLinked, IsBody};
+ghost use Rattle.block_trees.specs.Bodies.{Blocks, index_of, pointer_of, data_of, back, data_to, head_index, IsChain, IsLinked, IsBody};
 ghost use Rattle.block_trees.specs.Bodies as trees;
 ghost use Rattle.skip_list_file.specs.Calls.{LooksAlong};
 ghost use Rattle.skip_list_file.specs.Reading as spec;
@@ -12,6 +13,7 @@ ghost use Rattle.nodes.specs.Words.{LooksWithin};
 ghost use Rattle.nodes.specs.PageCounts.{pages_for, pages_of_range};
 
 use crate::body::Body;
+use crate::known_node::KnownNode;
 use fields::u32_at;
 use fs_types::{Bytes, Fault};
 use node_format::{BODY_HEADER, BodyNode, SLOTS};
@@ -68,6 +70,7 @@ pub(crate) fn find<N: Nodes>(
     ensures calls { LooksAlong N.Nodes head_index (λ digits. 2 * digits) nodes.old result nodes.new }
     ensures asks { spec.AsksPageEach N.asked N.reads nodes.old nodes.new }
     ensures partly { N.partly nodes.new ≡ N.partly nodes.old }
+    ensures unread { head_index ≡ index → N.reads nodes.new ≡ N.reads nodes.old }
 {
     let mut block = head;
     let mut at = head_index;
@@ -214,46 +217,95 @@ pub(crate) fn capacity_in<N: Nodes>(nodes: &N) -> u32
     nodes.block_bytes() - BODY_HEADER
 }
 
-/// The bytes of a file from an offset on, at most `count`: fewer near its end, none at or past it.
+/// The node to look from for that of an index: a known one that is not before it, else the last of the body.
+fn node_from(capacity: u32, body: Body, known: Option<KnownNode>, index: u32) -> KnownNode
+    requires capacity { 0 < capacity }
+    requires some { 0 < body.length }
+    requires before { index ≤ head_index capacity body.length }
+    ensures node { (f : Blocks) → ForSome known (spec.IsNodeOf capacity f body) → spec.IsNodeOf capacity f body result }
+    ensures before { index ≤ result.index }
+    ensures known { option_map (λ node. node.index) known ≡ Some index → result.index ≡ index }
+{
+    match known {
+        Some(node) if node.index >= index => node,
+        _ => KnownNode {
+            index: (body.length - 1) / capacity,
+            block: body.head,
+        },
+    }
+}
+
+/// The block of the node of an index, from a known node that is not before it, else from the head: a known
+/// node of this index is not read.
 ///
-/// The node of the last of them is found by few hops from the head, of a page each, and the nodes that
-/// hold them are read once each: no more pages are asked than a block has. Of the first of them only the
-/// pages that hold the bytes are asked, unless a part of it was read last, or the bytes begin with its
-/// first one and are [`LEAST_SCAN`] or more or the last of the file: then more of it is likely to be read
-/// next, or all of it is wanted. Nothing is read where there is no such byte. Refused only with what reads are refused with, and with
-/// `NoMemory`: the body is whole.
+/// Refused only with what reads are refused with: the body is whole.
+fn find_from<N: Nodes>(
+    nodes: &mut N,
+    capacity: u32,
+    body: Body,
+    known: Option<KnownNode>,
+    index: u32,
+) -> Result<u32, Fault>
+    requires sound { N.is_sound nodes.old }
+    requires holds { spec.HoldsBody (N.limit nodes.old) (N.node nodes.old) capacity body }
+    requires known { ForSome known (spec.IsNodeOf capacity (N.node nodes.old) body) }
+    requires some { 0 < body.length }
+    requires before { index ≤ head_index capacity body.length }
+
+    ensures found { IfOk result (λ block. block ≡ back (N.node nodes.old) body.head (head_index capacity body.length - index)) }
+
+    // Two reads for each digit of the head's index, of a page each, and nothing is written.
+    ensures calls { LooksAlong N.Nodes (head_index capacity body.length) (λ digits. 2 * digits) nodes.old result nodes.new }
+    ensures asks { spec.AsksPageEach N.asked N.reads nodes.old nodes.new }
+    ensures partly { N.partly nodes.new ≡ N.partly nodes.old }
+    ensures unread { option_map (λ node. node.index) known ≡ Some index → N.reads nodes.new ≡ N.reads nodes.old }
+{
+    let node = node_from(capacity, body, known, index);
+    find(nodes, node.block, node.index, index)
+}
+
+/// The bytes of a file from an offset on, at most `count`: fewer near its end, none at or past it. A node of
+/// it may be known; the node of the last of the bytes is answered, or that, where none is read.
+///
+/// The node of the last of them is found by few hops of a page each, from the known node where that is not
+/// before it, else from the head, and the nodes that hold them are read once each: no more pages are asked
+/// than a block has. Of the first of them only the pages that hold the bytes are asked, unless a part of it
+/// was read last, or the bytes begin with its first one and are [`LEAST_SCAN`] or more or the last of the
+/// file: then more of it is likely to be read next, or all of it is wanted. Nothing is read where there is no
+/// such byte. Refused only with what reads are refused with, and with `NoMemory`: the body is whole.
 pub fn read_range<N: Nodes>(
     alloc: Global,
     nodes: &mut N,
     body: Body,
+    known: Option<KnownNode>,
     offset: u64,
     count: u64,
-) -> Result<Bytes, Fault>
+) -> Result<(Bytes, Option<KnownNode>), Fault>
     requires sound { N.is_sound nodes.old }
     requires body { IsBody (N.limit nodes.old - body_header) (N.node nodes.old) body.head body.length }
+    requires known { ForSome known (spec.IsNodeOf (N.limit nodes.old - body_header) (N.node nodes.old) body) }
 
-    ensures read { IfOk result (λ bytes. bytes ≡ read_from (trees.body (N.limit nodes.old - body_header) (N.node nodes.old) body.head body.length) offset count) }
+    ensures read { IfOk result (λ r. r.0 ≡ read_from (trees.body (N.limit nodes.old - body_header) (N.node nodes.old) body.head body.length) offset count) }
+    ensures known { IfOk result (λ r. ForSome r.1 (spec.IsNodeOf (N.limit nodes.old - body_header) (N.node nodes.old) body)) }
 
     // What it costs, and why it is refused; nothing is written.
     ensures calls { LooksAlong N.Nodes (head_index (N.limit nodes.old - body_header) body.length) (λ digits. spec.nodes_of_range (N.limit nodes.old - body_header) body.length offset count + 2 * digits) nodes.old result nodes.new }
     ensures asks { (digits : ℕ) → spec.HasDigits (head_index (N.limit nodes.old - body_header) body.length) digits → N.asked nodes.new ≤ N.asked nodes.old + (spec.nodes_of_range (N.limit nodes.old - body_header) body.length offset count * pages_for (N.page nodes.old) (N.limit nodes.old) + 2 * digits) }
     ensures asks_part { (digits : ℕ) → spec.HasDigits (head_index (N.limit nodes.old - body_header) body.length) digits → spec.IsPartOfNode (N.limit nodes.old - body_header) body.length offset count → N.partly nodes.old ≢ spec.block_of_byte (N.node nodes.old) (N.limit nodes.old - body_header) body offset → N.asked nodes.new ≤ N.asked nodes.old + (pages_of_range (N.page nodes.old) (body_header + offset % (N.limit nodes.old - body_header)) (min body.length (offset + count) - offset) + 2 * digits) }
+    ensures at_hand { spec.IsAtHand (N.limit nodes.old - body_header) body.length known offset count → N.reads nodes.new ≤ N.reads nodes.old + spec.nodes_of_range (N.limit nodes.old - body_header) body.length offset count }
     ensures unread { spec.nodes_of_range (N.limit nodes.old - body_header) body.length offset count ≡ 0 → N.reads nodes.new ≡ N.reads nodes.old }
 {
     let end = offset.saturating_add(count).min(u64::from(body.length));
     if offset >= end {
-        return Ok(Bytes::new(alloc));
+        return Ok((Bytes::new(alloc), known));
     }
     let (start, end) = (offset as u32, end as u32);
     let capacity = capacity_in(nodes);
     let mut bytes = vec![in alloc; 0; (end - start) as usize]?;
-    let block = find(
-        nodes,
-        body.head,
-        (body.length - 1) / capacity,
-        (end - 1) / capacity,
-    )?;
+    let index = (end - 1) / capacity;
+    let block = find_from(nodes, capacity, body, known, index)?;
     let whole = start % capacity == 0 && (end - start >= LEAST_SCAN || end == body.length);
     fill(nodes, capacity, block, start, end, whole, &mut bytes)?;
-    Ok(Bytes::from_vec(bytes))
+    let last = KnownNode { index, block };
+    Ok((Bytes::from_vec(bytes), Some(last)))
 }

@@ -1,5 +1,5 @@
 -- A system after a commit: it is mounted as before, and the newest record is the working history, or what it was.
-use Rattle.std.proofs.Common.{◌≡◌, ◌≢◌, ◌⊎◌, inl, inr, ℕ, ◌+◌, ◌<◌, Bool, true, false, ◌||◌, Option, Some, None, Result, Ok, Err, map, refl, sym, ap, subst, ◌∙◌, arith}
+use Rattle.std.proofs.Common.{◌≡◌, ◌≢◌, ◌⊎◌, inl, inr, ℕ, ◌+◌, ◌-◌, ◌<◌, Bool, true, false, ◌||◌, Option, Some, None, Result, Ok, Err, map, refl, sym, ap, subst, ◌∙◌, arith}
 use Rattle.std.proofs.lemmas.Bool.{true≢false}
 use Rattle.std.specs.Prelude.{is_some, IfSome, Contains, ◌/◌, vec_len}
 use Rattle.std.specs.FinSet as set
@@ -13,7 +13,8 @@ use Rattle.history_machine.specs.History.{Past, map_roots, map_group}
 use Rattle.history_machine.specs.Machine.{IsMachine, machine_with}
 use Rattle.flash_model.specs.declared.geometry.Geometry.{Geometry}
 use Rattle.flash_model.specs.Device.{Device}
-use Rattle.flash_model.specs.Geometry.{IsGeometry}
+use Rattle.flash_model.specs.Geometry.{IsGeometry, block_bytes}
+use Rattle.node_format.specs.Headers.{body_header}
 use Rattle.node_cache.specs.Cache.{NodeCache}
 use Rattle.node_store.specs.Caching.{IsTruthful}
 use Rattle.node_store.specs.FittingLaws.{still_fits}
@@ -32,8 +33,11 @@ use Rattle.commit_pair.specs.Remembering.{KnowsNewest, MayCommit}
 use Rattle.working_state.specs.Seen.{machine_on}
 use Rattle.working_state.specs.Steps.{is_cut_answer}
 use Rattle.working_state.specs.Mounted.{IsStanding, IsMounted}
+use Rattle.working_state.specs.OpenBodies.{KnowsBodies}
 use Rattle.working_state.specs.Roots.{HasRoot}
+use Rattle.working_state.specs.declared.known_bodies.KnownBodies.{KnownBodies}
 use Rattle.working_state.specs.declared.state.State.{State}
+use Rattle.working_state.proofs.KeptBodies.{same_knows}
 use Rattle.mounting.specs.Records.{history_of, roots_of, trees_of, knows_plain_only}
 use Rattle.mounting.specs.Saved.{saved_on, saved_trees, IsWholeRecord}
 use Rattle.system.specs.Commits.{record_on, Saves}
@@ -165,9 +169,11 @@ module _ {T : Type 0} (d e : Device) (m n : System) (result : Result T Fault) (s
 
   pub is_system : (n.state.is_off ≡ true → e.powered ≡ false) → (is_cut_answer result ≡ false → KnowsNewest e n.state.storage.bad n.anchors)
       → (is_cut_answer result ≡ false → (r : Record) → saved_on e ≡ Some r → n.record_roots.items ≡ roots_of (history_of r))
-      → (m.state.is_off ≡ false → IfSome n.pass (IsRunning e n)) → IsSystem e n
-  is_system off place roots passing = record {
+      → (m.state.is_off ≡ false → IfSome n.pass (IsRunning e n)) → n.bodies ≡ m.bodies → IsSystem e n
+  is_system off place roots passing bodies = record {
     mounted = is_mounted off;
+    bodies = subst (λ (known : KnownBodies). KnowsBodies e n.state known) (sym bodies)
+        (same_knows d e m.state n.state m.bodies (same_nodes d e same) (ap (λ (g : Geometry). block_bytes g - body_header) same.geometry) same_history (ap (λ (t : State). t.group) saves.state) (ap (λ (t : State). t.files) saves.state) s.bodies);
     saved = λ on. is_saved saved_after (off_was on).0;
     stands = λ on. stands_after saved_after (off_was on).0;
     roots = λ on. roots (off_was on).1;

@@ -38,7 +38,8 @@ use Rattle.working_state.specs.Seen.{capacity_of, tree_on, machine_on}
 use Rattle.working_state.specs.Steps.{is_cut_answer}
 use Rattle.working_state.specs.Mounted.{IsStanding, IsMounted}
 use Rattle.working_state.specs.declared.state.State.{State}
-use Rattle.working_state.proofs.Roots.{of_versions, of_checkpoints, of_group}
+use Rattle.working_state.proofs.KeptBodies.{kept_known}
+use Rattle.working_state.proofs.Roots.{of_versions, of_checkpoints, of_group, of_working}
 use Rattle.mounting.specs.Records.{history_of, roots_of, trees_of}
 use Rattle.mounting.specs.Saved.{saved_on, saved_trees, IsWholeRecord}
 use Rattle.mounting.proofs.PlainRoots.{plain_stays}
@@ -191,6 +192,9 @@ module _ (d e : Device) (m : System) (t : Storage) (from to : ℕ) (s : IsSystem
     pub cleaned_system : IsSystem e n
     cleaned_system = record {
       mounted = mounted;
+      bodies = λ root is.
+          let stands : IsStanding d m.state.storage.ring root = of_working (IsStanding d m.state.storage.ring) m.state root s.mounted.roots is in
+          kept_known d e used used root m.state.files m.bodies (record { same = used_node; stays = λ b is. is }) same_capacity stands.held stands.rooted (s.bodies root is);
       saved = λ _. ap is_some as_saved ∙ s.saved on;
       stands = λ _ r is root has. still_stands root (record_stands r is root has);
       roots = λ _ r is. s.roots on r (sym as_saved ∙ is);

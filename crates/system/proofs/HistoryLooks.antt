@@ -29,6 +29,7 @@ module _ {T : Type 0} (d e : Device) (m : System) (u : State) (answer : Result T
     reads = l.untouched.device;
     history = l.rest.history;
     group = l.rest.group;
+    bodies = refl;
     rest = λ i. machine_with (map_roots (tree_on d) (l.rest.history i)) (map_group (tree_on d) (l.rest.group i)) (l.rest.files i);
     is_on = still_on;
     bad = l.untouched.bad;

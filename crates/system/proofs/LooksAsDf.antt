@@ -33,7 +33,7 @@ module _ (d e : Device) (m : System) (u : State) (s : IsSystem d m) (on : m.stat
   df_step r is =
       let left = measured_mounted (moment d m.state) (moment e u) s.mounted r is in
       let step = measured (moment d m.state) (moment e u) s.mounted r is on in
-      step_once d e m (with_state m (remembering u r)) Call.Df r (state_step d e m (remembering u r) Call.Df r s step refl) s (λ capacity x. refl)
+      step_once d e m (with_state m (remembering u r)) Call.Df r (state_step d e m (remembering u r) m.bodies Call.Df r s step refl (λ _. refl)) s (λ capacity x. refl)
 
   -- nodes were read
   read : (free : ℕ) → FreeAfter e u 0 free → (reply : Reply) × SystemStep d m Call.Df (Ok reply) e (with_state m (remembering {T = Reply} u (Ok reply)))

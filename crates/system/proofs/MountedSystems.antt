@@ -14,7 +14,10 @@ use Rattle.record_format.specs.declared.record.Record.{Record}
 use Rattle.record_format.specs.Payloads.{is_record, has_counts, has_versions, has_checkpoints, numbers_ascend}
 use Rattle.record_format.proofs.LawfulRecords.{both_true}
 use Rattle.commit_pair.specs.Parts.{newest_on}
+use Rattle.working_state.specs.OpenBodies.{nothing_known, KnowsBelow}
 use Rattle.working_state.specs.Roots.{HasRoot}
+use Rattle.working_state.specs.declared.known_bodies.KnownBodies.{KnownBodies}
+use Rattle.working_state.proofs.KeptBodies.{knows_nothing}
 use Rattle.mounting.specs.Records.{history_of, roots_of}
 use Rattle.system.specs.Mounts.{IsMountOf}
 use Rattle.mounting.specs.Saved.{record_in, saved_on}
@@ -40,9 +43,10 @@ below n q (b ∷ bs) any all = on (nat_eq b q) refl any (λ others. below n q bs
 some_record : (a b : Record) → Some a ≡ Some b → a ≡ b
 some_record a b e = cc
 
-pub mounted_system : (d e : Device) (m : System) → OnlyReads d e → IsMountOf d e m → m.record_roots.items ≡ roots_of m.state.history → m.pass ≡ None → IsSystem e m
-mounted_system d e m reads mount listing no_pass = record {
+pub mounted_system : (d e : Device) (m : System) → OnlyReads d e → IsMountOf d e m → m.record_roots.items ≡ roots_of m.state.history → m.pass ≡ None → m.bodies ≡ nothing_known → IsSystem e m
+mounted_system d e m reads mount listing no_pass fresh = record {
   mounted = mount.loaded.mounted;
+  bodies = λ root is. subst (λ (bodies : KnownBodies). KnowsBelow e root m.state.files bodies) (sym fresh) (knows_nothing e root m.state.files);
   saved = λ on. ap is_some saved;
   stands = λ on r is root has. mount.loaded.mounted.roots root (has_root (subst (λ (x : Record). Contains (roots_of (history_of x)) root) (some_record r mount.newest (sym is ∙ saved)) has));
   roots = λ on r is. listing ∙ ap roots_of mount.loaded.history ∙ ap (λ (x : Record). roots_of (history_of x)) (some_record mount.newest r (sym saved ∙ is));

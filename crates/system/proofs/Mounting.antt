@@ -21,7 +21,7 @@ use Rattle.commit_pair.specs.Laws.{HasNone}
 use Rattle.commit_pair.specs.Newest.{IsUncleared, committed_on}
 use Rattle.commit_pair.specs.Reading.{IsEnd}
 use Rattle.commit_pair.specs.Remembering.{MayCommit, KnowsNewest}
-use Rattle.commit_pair.proofs.Committed.{is_committed}
+use Rattle.commit_pair.proofs.Committed.{committed_wants}
 use Rattle.commit_pair.proofs.NewestLaws.{found_is_newest}
 use Rattle.mounting.specs.Records.{history_of, roots_of, knows_plain_only, IsLoaded, RootsCause}
 use Rattle.system.specs.Mounts.{IsMountOf, MountCause}
@@ -99,5 +99,5 @@ load_why old mid new r Damaged lawful is reads why =
     ))
 load_why old mid new r ReadFailed lawful is reads why = let l = reads.failed_reads in omega arith
 load_why old mid new r PowerCut lawful is reads why = why
-load_why old mid new r NoMemory lawful is reads why = inr (is_committed old (Ok r) is)
+load_why old mid new r NoMemory lawful is reads why = inr (committed_wants old r is)
 load_why old mid new r _ lawful is reads why = absurd why

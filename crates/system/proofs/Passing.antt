@@ -11,7 +11,7 @@ use Rattle.fs_types.specs.declared.call.Group.{Group}
 use Rattle.fs_types.specs.declared.fault.Fault.{Fault}
 use Rattle.fs_types.specs.declared.fault.Fault.TheVariants.{ReadFailed, PowerCut, NoMemory, Damaged}
 use Rattle.history_machine.specs.History.{Past, map_roots, map_group}
-use Rattle.history_machine.specs.Machine.{IsMachine, machine_with}
+use Rattle.history_machine.specs.Machine.{Machine, IsMachine, machine_with}
 use Rattle.flash_model.specs.declared.geometry.Geometry.{Geometry}
 use Rattle.flash_model.specs.Device.{Device}
 use Rattle.flash_model.specs.Geometry.{IsGeometry, block_bytes}
@@ -41,7 +41,10 @@ use Rattle.commit_pair.specs.Remembering.{MayCommit}
 use Rattle.commit_pair.proofs.Beginning.{still_may_commit}
 use Rattle.working_state.specs.Leaves.{HasLooked}
 use Rattle.working_state.specs.Mounted.{IsStanding, IsMounted}
+use Rattle.working_state.specs.OpenBodies.{KnowsBodies}
 use Rattle.working_state.specs.Roots.{HasRoot}
+use Rattle.working_state.specs.declared.known_bodies.KnownBodies.{KnownBodies}
+use Rattle.working_state.proofs.KeptBodies.{same_knows}
 use Rattle.working_state.specs.Seen.{capacity_of, seen_of, machine_on}
 use Rattle.working_state.specs.Steps.{is_cut_answer}
 use Rattle.working_state.specs.Worked.{ReadCause}
@@ -76,6 +79,7 @@ pub record Keeps (d e : Device) (m n : System) : Type 0 where
   pub reads : OnlyReads d e
   pub history : n.state.history ≡ m.state.history
   pub group : n.state.group ≡ m.state.group
+  pub bodies : n.bodies ≡ m.bodies
   pub rest : machine_on d n.state ≡ machine_on d m.state
   pub is_on : n.state.is_off ≡ false
   pub bad : n.state.storage.bad ≡ m.state.storage.bad
@@ -135,6 +139,8 @@ module _ (d e : Device) (m n : System) (s : IsSystem d m) (on : m.state.is_off �
   pub kept_system : IfSome n.pass (IsRunning e n) → IsSystem e n
   kept_system passing = record {
     mounted = kept_mounted;
+    bodies = subst (λ (known : KnownBodies). KnowsBodies e n.state known) (sym k.bodies)
+        (same_knows d e m.state n.state m.bodies (same_nodes d e same) (ap (λ (g : Geometry). block_bytes g - body_header) k.reads.geometry) k.history k.group (ap (λ (x : Machine). x.descriptors) k.rest) s.bodies);
     saved = λ _. ap is_some saved ∙ s.saved on;
     stands = λ _ r is root has.
         let was = sym saved ∙ is in
@@ -248,6 +254,7 @@ module _ (d : Device) (m : System) (s : IsSystem d m) (on : m.state.is_off ≡ f
       reads = OnlyReads_itself d;
       history = ap (λ (x : System). x.state.history) is;
       group = ap (λ (x : System). x.state.group) is;
+      bodies = ap (λ (x : System). x.bodies) is;
       rest = ap (λ (x : System). machine_on d x.state) is;
       is_on = ap (λ (x : System). x.state.is_off) is ∙ on;
       bad = ap (λ (x : System). x.state.storage.bad) is;
@@ -294,6 +301,7 @@ module _ (d e : Device) (m : System) (st : Storage) (s : IsSystem d m) (on : m.s
     reads = l.untouched.device;
     history = refl;
     group = refl;
+    bodies = refl;
     rest = refl;
     is_on = on;
     bad = l.untouched.bad;
@@ -381,6 +389,7 @@ module _ (d e : Device) (m : System) (st : Storage) (s : IsSystem d m) (on : m.s
           reads = k.reads;
           history = refl;
           group = refl;
+          bodies = refl;
           rest = refl;
           is_on = on;
           bad = k.bad;
@@ -552,6 +561,7 @@ power_system e n off s on is_off = record {
     machine = s.mounted.machine;
     off = is_off;
   };
+  bodies = s.bodies;
   saved = λ _. s.saved on;
   stands = λ _. s.stands on;
   roots = λ _. s.roots on;

@@ -29,7 +29,9 @@ use Rattle.commit_pair.proofs.Beginning.{still_may_commit}
 use Rattle.working_state.specs.Seen.{seen_on, tree_on, machine_on, showing}
 use Rattle.working_state.specs.Steps.{is_sync, AnswersOnce}
 use Rattle.working_state.specs.Mounted.{IsStanding, IsMounted, StateStep, KeepsPages}
+use Rattle.working_state.specs.OpenBodies.{KnowsBodies}
 use Rattle.working_state.specs.Roots.{IsReached}
+use Rattle.working_state.specs.declared.known_bodies.KnownBodies.{KnownBodies}
 use Rattle.working_state.specs.declared.state.State.{State}
 use Rattle.working_state.proofs.Standing.{still_stands, same_tree}
 use Rattle.mounting.specs.Records.{history_of, roots_of, trees_of}
@@ -45,11 +47,15 @@ use Rattle.system.proofs.Measured.{reached_to}
 use Rattle.system.proofs.Running.{running_on}
 use Rattle.system.proofs.Syncs.{reached_from}
 
+-- the system with another working state, and with what is known of open files then
+abbrev pub with_call : System → State → KnownBodies → System
+with_call m t bodies = record m { state = t; bodies = bodies }
+
 -- the system with another working state
 abbrev pub with_state : System → State → System
 with_state m t = record m { state = t }
 
-module _ (d e : Device) (m : System) (t : State) (call : Call) (result : Result Reply Fault) (s : IsSystem d m) (step : StateStep d m.state call result e t) where
+module _ (d e : Device) (m : System) (t : State) (bodies : KnownBodies) (call : Call) (result : Result Reply Fault) (s : IsSystem d m) (step : StateStep d m.state call result e t) where
   abbrev was : Storage
   was = storage d m.state.storage.bad m.state.storage.ring
 
@@ -87,7 +93,7 @@ module _ (d e : Device) (m : System) (t : State) (call : Call) (result : Result 
       on false new = absurd (true≢false (sym (evolved.bad_used b bad new) ∙ unused))
 
   -- what must stay had to before, or was taken
-  still_must : IsMounted e t → m.state.is_off ≡ false → (b : ℕ) → MustStay e (with_state m t) b → MustStay d m b ⊎ (set.contains t.storage.ring.note b ≡ true)
+  still_must : IsMounted e t → m.state.is_off ≡ false → (b : ℕ) → MustStay e (with_call m t bodies) b → MustStay d m b ⊎ (set.contains t.storage.ring.note b ≡ true)
   still_must mounted on b (inl reached) = elim (step.reached b reached) [
     | inl before ↦ inl (inl before)
     | inr fresh ↦ inr (evolved.noted b (reached_used reached) fresh.0)
@@ -103,7 +109,7 @@ module _ (d e : Device) (m : System) (t : State) (call : Call) (result : Result 
           let from = reached_from (node_of d) (roots_of (history_of r)) c there in
           (s.stands on r (sym as_saved ∙ is) from.0 from.1).held from.0 refl c from.2
 
-  running : IsMounted e t → m.state.is_off ≡ false → IfSome m.pass (IsRunning e (with_state m t))
+  running : IsMounted e t → m.state.is_off ≡ false → IfSome m.pass (IsRunning e (with_call m t bodies))
   running mounted on = by m.pass (s.passing on)
     where
       trees_stay : (p : Pass) → IsRunning d m p → AreRoots (block_bytes d.geometry) (node_of d) p.roots → AreRoots (block_bytes d.geometry) (node_of e) p.roots
@@ -114,14 +120,15 @@ module _ (d e : Device) (m : System) (t : State) (call : Call) (result : Result 
           } in
           subst (λ (g : Geometry). IsRoot (block_bytes g - body_header) (node_of e) root) evolved.geometry (still_stands was now root s.mounted.lawful evolved stands).rooted
 
-      by : (o : Option Pass) → IfSome o (IsRunning d m) → IfSome o (IsRunning e (with_state m t))
+      by : (o : Option Pass) → IfSome o (IsRunning d m) → IfSome o (IsRunning e (with_call m t bodies))
       by None none = tt
       by (Some p) runs =
-          running_on d e m (with_state m t) p evolved.geometry (λ b reached. Evolved_node was now b s.mounted.lawful evolved (runs.held b reached)) (trees_stay p runs) evolved.kept evolved.note_stays (still_must mounted on) runs
+          running_on d e m (with_call m t bodies) p evolved.geometry (λ b reached. Evolved_node was now b s.mounted.lawful evolved (runs.held b reached)) (trees_stay p runs) evolved.kept evolved.note_stays (still_must mounted on) runs
 
-  pub state_system : IsMounted e t → IsSystem e (with_state m t)
-  state_system mounted = record {
+  pub state_system : IsMounted e t → KnowsBodies e t bodies → IsSystem e (with_call m t bodies)
+  state_system mounted known_bodies = record {
     mounted = mounted;
+    bodies = known_bodies;
     saved = λ on. ap is_some as_saved ∙ s.saved (was_on on);
     stands = λ on r is. stands (was_on on) r (sym as_saved ∙ is);
     roots = λ on r is. s.roots (was_on on) r (sym as_saved ∙ is);
@@ -178,15 +185,15 @@ module _ (d e : Device) (m : System) (t : State) (call : Call) (result : Result 
   pages : KeepsPages d m.state e
   pages p (root, has, reached) = evolved.kept_pages p ((s.mounted.roots root has).held root refl (block_of d p) reached)
 
-  pub state_step : is_sync call ≡ false → TriesOnce d m call result e (with_state m t)
-  state_step other = record {
+  pub state_step : is_sync call ≡ false → (m.state.is_off ≡ true → bodies ≡ m.bodies) → TriesOnce d m call result e (with_call m t bodies)
+  state_step other still = record {
     step = step.step;
     leaves = λ none. step.leaves;
     saves = λ sync. absurd (true≢false (sym sync ∙ other));
     told = step.told;
     refused = step.refused;
     regrouped = step.regrouped;
-    stopped = λ off. let still = step.stopped off in (still.0, ap (with_state m) still.1);
+    stopped = λ off. let same = step.stopped off in (same.0, λ i. with_call m (same.1 i) (still off i));
     last = λ sync. absurd (true≢false (sym sync ∙ other));
     pass = refl;
     pages = pages;

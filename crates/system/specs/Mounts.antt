@@ -1,12 +1,12 @@
 -- What a mount makes of the newest record of a flash, what it asks of the device, and why it makes nothing of it.
-use Rattle.std.specs.Prelude.{◌≡◌, ◌⊎◌, ℕ, ◌+◌, ◌*◌, ◌<◌, ◌≤◌, false, Some, Ok, List, None, Err, IsSome}
+use Rattle.std.specs.Prelude.{◌≡◌, ◌⊎◌, ℕ, ◌+◌, ◌*◌, ◌<◌, ◌≤◌, false, Some, Ok, List, None, Err}
 use Rattle.fs_types.specs.declared.limits.TheConstants.{ANCHORS}
 use Rattle.flash_model.specs.Device.{Device}
 use Rattle.node_store.specs.NodePages.{node_of}
 use Rattle.reclaim.specs.Passes.{AreReached}
 use Rattle.record_format.specs.declared.record.Record.{Record}
 use Rattle.commit_pair.specs.Parts.{parts_on}
-use Rattle.commit_pair.specs.Newest.{committed_on}
+use Rattle.commit_pair.specs.Newest.{committed_on, WantsMemoryOn}
 use Rattle.mounting.specs.Records.{history_of, roots_of, HasTrees, IsLoaded}
 use Rattle.fs_types.specs.declared.fault.Fault.{Fault}
 use Rattle.fs_types.specs.declared.fault.Fault.TheVariants.{BadGeometry, NoRecord, Damaged, ReadFailed, PowerCut, NoMemory}
@@ -50,7 +50,8 @@ LacksTrees d = (newest : Record) × (committed_on d ≡ Some (Ok newest)) × (Ha
 
 -- why a mount is refused: the sizes are out of range, which is seen before any read, or the newest record tells
 -- others; no record is valid; two have the greatest sequence, or what the newest holds is damaged; a read failed;
--- the device is off; memory was wanted, before anything was asked of the device or for a newest record
+-- the device is off; memory was wanted, before anything was asked of the device or for what is on the lists of a
+-- newest record
 abbrev pub MountCause : Device → Device → Fault → Type 0
 MountCause old new BadGeometry =
     ((IsGeometry old.geometry → ⊥) × (new ≡ old)) ⊎ (committed_on old ≡ Some (Err BadGeometry))
@@ -59,5 +60,5 @@ MountCause old new Damaged =
     HasTie old.geometry (parts_on old.geometry old.pages) ⊎ ((committed_on old ≡ Some (Err Damaged)) ⊎ LacksTrees old)
 MountCause old new ReadFailed = old.failed_reads < new.failed_reads
 MountCause old new PowerCut = new.powered ≡ false
-MountCause old new NoMemory = (new ≡ old) ⊎ IsSome (committed_on old)
+MountCause old new NoMemory = (new ≡ old) ⊎ WantsMemoryOn old
 MountCause old new _ = ⊥

@@ -15,6 +15,7 @@ use Rattle.commit_pair.specs.Parts.{parts_on, newest_at}
 use Rattle.commit_pair.specs.Newest.{remembered}
 use Rattle.commit_pair.specs.Reading.{IsEnd}
 use Rattle.working_state.specs.Mounted.{IsStanding, IsMounted}
+use Rattle.working_state.specs.OpenBodies.{KnowsBodies}
 use Rattle.working_state.specs.Roots.{IsReached}
 use Rattle.mounting.specs.Records.{history_of, roots_of}
 use Rattle.mounting.specs.Saved.{saved_on}
@@ -45,11 +46,13 @@ pub record IsRunning (d : Device) (m : System) (p : Pass) : Type 0 where
   pub taken : (b : ℕ) → MustStay d m b → (Reached (node_of d) p.roots b → ⊥)
       → set.contains m.state.storage.ring.note b ≡ true
 
--- the working state is mounted. Until a call answered that the power is off, there is a newest record, its place
--- and its roots are known, all its versions and checkpoints stand, and a marking that was begun goes on. Each bad
--- block that is not used is a block of the flash, as used ones are
+-- the working state is mounted, and what is known of open files is what look-ups of their paths tell. Until a call
+-- answered that the power is off, there is a newest record, its place and its roots are known, all its versions and
+-- checkpoints stand, and a marking that was begun goes on. Each bad block that is not used is a block of the flash,
+-- as used ones are
 pub record IsSystem (d : Device) (m : System) : Type 0 where
   pub mounted : IsMounted d m.state
+  pub bodies : KnowsBodies d m.state m.bodies
   pub saved : m.state.is_off ≡ false → is_some (saved_on d) ≡ true
   pub stands : m.state.is_off ≡ false → (r : Record) → saved_on d ≡ Some r → (root : ℕ)
       → Contains (roots_of (history_of r)) root → IsStanding d m.state.storage.ring root

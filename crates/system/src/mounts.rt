@@ -15,6 +15,7 @@ use fs_types::{Fault, MOUNTED_NODES};
 use mounting::load;
 use node_cache::NodeCache;
 use std::alloc::Global;
+use working_state::KnownBodies;
 
 /// Mounts what the newest record of a flash holds, with a cache in which no block is listed.
 fn mount_cached<F: Flash>(alloc: Global, flash: &mut F, cache: NodeCache) -> Result<System, Fault>
@@ -39,8 +40,10 @@ fn mount_cached<F: Flash>(alloc: Global, flash: &mut F, cache: NodeCache) -> Res
         return Err(Fault::NoRecord);
     };
     let (state, record_roots) = load(alloc, flash, &newest, cache)?;
+    let bodies = KnownBodies::new();
     Ok(System {
         state,
+        bodies,
         anchors,
         record_roots,
         pass: None,

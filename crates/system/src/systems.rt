@@ -22,7 +22,7 @@ use mounting::{list_roots, record_of};
 use reclaim::Pass;
 use record_format::Record;
 use std::alloc::Global;
-use working_state::State;
+use working_state::{KnownBodies, State};
 
 /// A mounted system: its working state, what is known of the newest record, the marking that goes on, and
 /// how far a round of cleaning has come.
@@ -31,6 +31,8 @@ pub struct System {
     /// The versions and checkpoints, the change group that is open, if one is, what nodes are kept with,
     /// and the open files.
     pub state: State,
+    /// What is known of the bodies of the open files.
+    pub bodies: KnownBodies,
     /// The place of the newest record, so that a commit may follow.
     pub anchors: Anchors,
     /// The roots of the newest record's versions and checkpoints.
@@ -114,7 +116,11 @@ impl System {
             Request::Sync => self.sync(alloc, flash)?,
             Request::Fsync { descriptor } => self.fsync(alloc, flash, descriptor)?,
             Request::Df => return self.df(alloc, flash),
-            _ => return self.state.carry_out(alloc, flash, request),
+            _ => {
+                return self
+                    .state
+                    .carry_out(alloc, flash, &mut self.bodies, request);
+            }
         }
         Ok(Reply::Empty)
     }

@@ -55,7 +55,7 @@ reply_tells_space d e m n reply step =
 
 -- the log is asked of the state alone, and its step is that of the system
 pub log_step : (d : Device) (m : System) (result : Result Reply Fault) → IsSystem d m → StateStep d m.state Call.Log result d m.state → SystemStep d m Call.Log result d m
-log_step d m result system step = step_once d d m m _ _ (state_step d d m m.state _ _ system step refl) system (λ capacity x. refl)
+log_step d m result system step = step_once d d m m _ _ (state_step d d m m.state m.bodies _ _ system step refl (λ _. refl)) system (λ capacity x. refl)
 
 -- ---- the flash
 

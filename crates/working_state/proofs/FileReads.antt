@@ -53,7 +53,7 @@ path_fault _ is other = absurd (not_so is)
 
 module _ (capacity : ℕ) (f : Blocks) (root : ℕ) (path : Path) (is : IsRoot capacity f root) where
   -- a look up that was refused
-  pub look_up_refuses : (result : Result (List ℕ) Fault) (fault : Fault) → result ≡ Err fault → (is_path_fault fault ≡ true → look_up f root path ≡ Err fault) → IsLookupFault fault
+  pub look_up_refuses : {T : Type 0} (result : Result T Fault) (fault : Fault) → result ≡ Err fault → (is_path_fault fault ≡ true → look_up f root path ≡ Err fault) → IsLookupFault fault
       → IfErr result (λ x. is_look_fault x ≡ false → file_refusal (root_tree capacity f root) path ≡ Some x)
   look_up_refuses result fault e refused faults =
       subst (λ r. IfErr r (λ x. is_look_fault x ≡ false → file_refusal (root_tree capacity f root) path ≡ Some x)) (sym e)
@@ -133,7 +133,7 @@ view_reads a view path offset count root m shows = record {
 -- An open file.
 
 -- path resolution is not refused where something stands
-resolves : (t : Contents) → IsTree t → (path : Path) → IsSome (t path) → lookup_refusal t path ≡ None
+pub resolves : (t : Contents) → IsTree t → (path : Path) → IsSome (t path) → lookup_refusal t path ≡ None
 resolves t tree [] there = refl
 resolves t tree (n ∷ []) there = refl
 resolves t tree (n ∷ m ∷ path) there =

@@ -23,6 +23,7 @@ loop-at-init g c =
       few = λ digits small. let h = few_hops c.args.head_index c.args.index digits small.0 c.requires.before small.1 in (h.0, h.1, omega (arith, h.2));
       asks = omega arith;
       partly = refl;
+      still = λ _. refl;
       looks = record { same_nodes = refl; same_kept = refl; same_writes = refl; came = g.met.N.Nodes.follows_itself old; sound = c.requires.sound; same_limit = refl; same_blocks = refl };
     }
 
@@ -46,6 +47,7 @@ loop-at-preserved g c =
       few = subst (λ (p : ℕ). FewReads c.args.head_index c.args.index (c.loop-at.at - p) (g.N.Nodes.reads old) (g.N.Nodes.reads c.pointer_at.new.nodes)) (sym c.pow-at.ensures) few;
       asks = omega (arith, so_far.asks, done.asks);
       partly = done.partly ∙ so_far.partly;
+      still = λ same. absurd (omega (arith, c.loop-at-test.true, so_far.way.below, same));
       looks = g.met.N.Nodes.looks_on old c.loop-at.nodes c.pointer_at.new.nodes so_far.looks done.calls.looks;
     }
 
@@ -60,3 +62,9 @@ returns-in_err-block-clause-calls g c =
 
 pub returns-clause-calls : goal.returns-clause-calls
 returns-clause-calls g c = record { looks = c.loop-at.invariant.looks; reads = λ digits small. omega (arith, (c.loop-at.invariant.few digits small).2); why = tt; faults = tt }
+
+pub returns-in_err-block-clause-unread : goal.returns-in_err-block-clause-unread
+returns-in_err-block-clause-unread g c = λ same. absurd (omega (arith, c.loop-at-test.true, c.loop-at.invariant.way.below, same))
+
+pub returns-clause-unread : goal.returns-clause-unread
+returns-clause-unread g c = c.loop-at.invariant.still

@@ -15,5 +15,6 @@ invariant-loop-at g l = record {
   few : FewReads l.head_index l.index l.at (g.N.Nodes.reads l.initial.nodes) (g.N.Nodes.reads l.nodes);
   asks : AsksPageEach g.N.Nodes.asked g.N.Nodes.reads l.initial.nodes l.nodes;
   partly : g.N.Nodes.partly l.nodes ≡ g.N.Nodes.partly l.initial.nodes;
+  still : l.head_index ≡ l.index → g.N.Nodes.reads l.nodes ≡ g.N.Nodes.reads l.initial.nodes;
   looks : Looks g.N.Nodes l.initial.nodes l.nodes;
 }

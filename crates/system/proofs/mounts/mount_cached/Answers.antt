@@ -39,14 +39,14 @@ mount_of : goal.returns-clause-ok
 mount_of g c =
     let d = g.F.Flash.device c.args.flash.now in
     let newest = subst (λ (o : Option Record). IsNewestRecord d o) c.in-Some.is c.in_ok-newest.ensures.newest in
-    mounts d (g.F.Flash.device c.newest.new.flash) (g.F.Flash.device c.load.new.flash) c.in-Some.newest (record { state = c.in_ok-state.state; anchors = c.newest.new.self; record_roots = c.in_ok-state.record_roots; pass = None; cleaned_to = 0 }) newest
+    mounts d (g.F.Flash.device c.newest.new.flash) (g.F.Flash.device c.load.new.flash) c.in-Some.newest (record { state = c.in_ok-state.state; bodies = c.new-bodies.result; anchors = c.newest.new.self; record_roots = c.in_ok-state.record_roots; pass = None; cleaned_to = 0 }) newest
     c.load.ensures.only_reads c.newest.ensures.uncleared (c.in_ok-newest.ensures.ready (not_none c.in_ok-newest.field-0 c.in-Some.newest c.in-Some.is)) c.in_ok-state.ensures.loaded refl refl
 
 pub returns-clause-system : goal.returns-clause-system
 returns-clause-system g c =
     let d = g.F.Flash.device c.args.flash.now in
-    mounted_system d (g.F.Flash.device c.load.new.flash) (record { state = c.in_ok-state.state; anchors = c.newest.new.self; record_roots = c.in_ok-state.record_roots; pass = None; cleaned_to = 0 })
-    (OnlyReads_on d (g.F.Flash.device c.newest.new.flash) (g.F.Flash.device c.load.new.flash) c.newest.ensures.only_reads c.load.ensures.only_reads) (mount_of g c) c.in_ok-state.ensures.roots refl
+    mounted_system d (g.F.Flash.device c.load.new.flash) (record { state = c.in_ok-state.state; bodies = c.new-bodies.result; anchors = c.newest.new.self; record_roots = c.in_ok-state.record_roots; pass = None; cleaned_to = 0 })
+    (OnlyReads_on d (g.F.Flash.device c.newest.new.flash) (g.F.Flash.device c.load.new.flash) c.newest.ensures.only_reads c.load.ensures.only_reads) (mount_of g c) c.in_ok-state.ensures.roots refl c.new-bodies.ensures
 
 pub returns-clause-ok : goal.returns-clause-ok
 returns-clause-ok g c = mount_of g c

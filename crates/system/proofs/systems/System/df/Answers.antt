@@ -4,7 +4,9 @@ use Rattle.fs_types.specs.declared.call.Reply.{Reply}
 use Rattle.fs_types.specs.declared.fault.Fault.{Fault}
 use Rattle.working_state.specs.Moments.{moment}
 use Rattle.working_state.specs.Mounted.{IsMounted, StateStep}
+use Rattle.working_state.specs.OpenBodies.{KnowsBodies}
 use Rattle.working_state.specs.declared.state.State.{State}
+use Rattle.working_state.proofs.BodiesAfter.{looked_knows}
 use Rattle.mounting.proofs.Asking.{asks_none}
 use Rattle.system.proofs.Measured.{IsMeasured, measured, measured_mounted}
 use Rattle.system.proofs.StateSteps.{state_system, state_step}
@@ -21,13 +23,17 @@ returns g c =
     let mounted : IsMounted e t =
     subst (IsMounted e) (sym c.remember_cut.ensures.off)
     (measured_mounted (moment d s) (moment e c.measure-space.new.state) c.requires.mounted c.measure-space.result is) in
+    let bodies = c.args.self.now.bodies in
+    let known : KnowsBodies e t bodies =
+    subst (λ (u : State). KnowsBodies e u bodies) (sym c.remember_cut.ensures.off)
+    (looked_knows (moment d s) (moment e c.measure-space.new.state) bodies c.requires.mounted c.measure-space.ensures.looked c.requires.bodies) in
     let step : StateStep d s Call.Df c.remember_cut.result e t =
     subst (λ (r : Result Reply Fault). StateStep d s Call.Df r e t) (sym c.remember_cut.ensures.same)
     (subst (λ (u : State). StateStep d s Call.Df c.measure-space.result e u) (sym c.remember_cut.ensures.off)
     (measured (moment d s) (moment e c.measure-space.new.state) c.requires.mounted c.measure-space.result is c.in_ok-check_power.ensures.ok)) in
     record {
-      system = state_system d e c.args.self.now t Call.Df c.remember_cut.result c.requires step mounted;
-      step = state_step d e c.args.self.now t Call.Df c.remember_cut.result c.requires step refl;
+      system = state_system d e c.args.self.now t bodies Call.Df c.remember_cut.result c.requires step mounted known;
+      step = state_step d e c.args.self.now t bodies Call.Df c.remember_cut.result c.requires step refl (λ _. refl);
       asks = c.measure-space.ensures.asks;
     }
 

@@ -11,8 +11,8 @@ returns-in_default g c =
     let before = c.requires in
     let step = c.carry_out.ensures.step in
     record {
-      system = state_system d e c.args.self.now c.carry_out.new.self (call_of c.args.request) c.carry_out.result before step c.carry_out.ensures.mounted;
-      step = state_step d e c.args.self.now c.carry_out.new.self (call_of c.args.request) c.carry_out.result before step (search rules);
+      system = state_system d e c.args.self.now c.carry_out.new.self c.carry_out.new.bodies (call_of c.args.request) c.carry_out.result before step c.carry_out.ensures.mounted c.carry_out.ensures.known;
+      step = state_step d e c.args.self.now c.carry_out.new.self c.carry_out.new.bodies (call_of c.args.request) c.carry_out.result before step (search rules) c.carry_out.ensures.stopped;
     }
 
 pub returns-clause-step : goal.returns-clause-step

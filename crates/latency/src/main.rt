@@ -1,0 +1,78 @@
+//! Tells how long calls wait for a flash: what single calls of a mixed work ask of it, each with its sync,
+//! and how long that takes by the times of a part. A share of the flash is filled before. Between two calls
+//! no step is taken, one of reclaiming and one of cleaning with a budget, or both until nothing is left to do.
+//! An argument tells how many calls each line measures, 2,000 where there is none.
+#![tactic(auto)]
+
+mod error;
+mod filling;
+mod mounted;
+mod part;
+mod row;
+mod samples;
+mod trial;
+mod watched;
+mod work;
+
+use anyhow::{Context, Result};
+use error::LatencyError;
+use mounted::Steps;
+use part::{PARTS, Part};
+use row::{Row, tell_asked, tell_taken};
+use std::alloc::Global;
+use std::rt::Env;
+use trial::{Trial, measure};
+
+/// How many calls are measured where no argument tells it.
+const CALLS: u64 = 2_000;
+
+/// How many of a hundred data blocks are used before the calls.
+const SHARES: [u64; 3] = [50, 80, 95];
+
+/// The steps between two calls, and what they are called.
+const STEPS: [(&str, Steps); 4] = [
+    ("no steps", Steps::None),
+    ("steps of 4", Steps::Budget(4)),
+    ("steps of 16", Steps::Budget(16)),
+    ("all steps", Steps::All),
+];
+
+fn main(rt: HostRuntime) -> Result<()> {
+    let calls = calls_asked(&rt)?;
+    for part in PARTS {
+        let rows = rows_of(rt.alloc(), part, calls).context(part.name)?;
+        tell_asked(&rt, part.name, &rows)?;
+        tell_taken(&rt, part.name, &rows)?;
+    }
+    Ok(())
+}
+
+/// How many calls are to be measured.
+fn calls_asked<R: Env + AllocGlobal>(rt: &R) -> Result<u64> {
+    match std::env::args(rt)?.nth(1) {
+        Some(word) => word.as_str().parse().context("a count of calls"),
+        None => Ok(CALLS),
+    }
+}
+
+/// What is found on a part, by shares and steps.
+fn rows_of(alloc: Global, part: &Part, calls: u64) -> Result<Vec<Row>, LatencyError> {
+    let mut rows = Vec::new(alloc);
+    for percent in SHARES {
+        for (steps_name, steps) in STEPS {
+            let trial = Trial {
+                part,
+                percent,
+                steps,
+                calls,
+            };
+            let found = measure(alloc, trial)?;
+            rows.push(Row {
+                percent,
+                steps_name,
+                found,
+            })?;
+        }
+    }
+    Ok(rows)
+}

@@ -192,7 +192,7 @@ fn an_operation_ends_by_its_answer(rt: HostRuntime) -> Result<(), Fail> {
 }
 
 /// Whether an operation ends as cut where the stream of the orders breaks after so many bytes of its order,
-/// twice, and these are written and nothing more.
+/// or in the flush of a whole one, twice, and these are written and nothing more.
 fn is_broken_after(
     alloc: Global,
     told: &[u8],
@@ -203,6 +203,7 @@ fn is_broken_after(
     let mut bytes: Vec<u8> = Vec::new(alloc);
     let orders = Full {
         bytes: &mut bytes,
+        held: Vec::new(alloc),
         room,
     };
     let ended = (act, CUT, PageState::Erased);
@@ -210,14 +211,14 @@ fn is_broken_after(
     Ok(are_cut && order.get(..room) == Some(bytes.as_slice()))
 }
 
-// The stream of the orders breaks after each number of bytes.
+// The stream of the orders breaks after each number of bytes, after all too, where the flush fails.
 #[test]
 fn a_broken_stream_has_a_beginning_of_the_order(rt: HostRuntime) -> Result<(), Fail> {
     let image = erased_image(rt.alloc(), 32)?;
     let told = told(rt.alloc(), &image, &[1, 1, 1])?;
     for act in [Act::Program, Act::Erase] {
         let order = act.order(rt.alloc())?;
-        for room in 0..order.len() {
+        for room in 0..order.len() + 1 {
             let is_broken = is_broken_after(rt.alloc(), told.as_slice(), act, &order, room)?;
             assert!(rt; is_broken, "{act:?} {room}");
         }

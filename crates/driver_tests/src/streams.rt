@@ -1,6 +1,7 @@
 //! Streams that break at each byte.
 use crate::cuts::wrong_cut;
 use crate::outcomes::{Wrong, wrong_end};
+use crate::part::order_count;
 use crate::sessions::{CUT, ORDERS, Session, formatted_image, play_over, run};
 use crate::telling::{Broken, Full, all_done, answers_after, told};
 use std::alloc::Global;
@@ -27,6 +28,7 @@ fn wrong_break(
     let mut orders: Vec<u8> = Vec::new(alloc);
     let taken = Full {
         bytes: &mut orders,
+        held: Vec::new(alloc),
         room,
     };
     let (replies, shown) = run(alloc, told.as_slice(), taken, SHORT)?;
@@ -41,6 +43,11 @@ fn wrong_break(
     if session.orders.len() != room || !whole.starts_with(&session.orders) {
         return Ok(Some(Wrong::Orders));
     }
+    // the last of whole orders was not flushed, so that its answer is not awaited
+    let answers = match order_count(&session.orders) {
+        Some(count) => answers_after(alloc, count.saturating_sub(1), &[])?,
+        None => answers,
+    };
     wrong_end(alloc, image, &session, &answers)
 }
 

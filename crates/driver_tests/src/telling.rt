@@ -62,26 +62,36 @@ impl Read for Broken<'_> {
     }
 }
 
-/// A writer that takes so many bytes and then fails.
+/// A writer that takes so many bytes and then fails. It holds back what it takes until it is flushed, and a
+/// flush fails where it has no room left.
 #[derive(Drop)]
 pub(crate) struct Full<'a> {
     pub(crate) bytes: &'a mut Vec<u8>,
+    pub(crate) held: Vec<u8>,
     pub(crate) room: usize,
 }
 
 impl Write for Full<'_> {
     fn write(&mut self, bytes: &[u8]) -> io::Result<usize> {
         match bytes {
-            [first, ..] if self.bytes.len() < self.room => {
-                self.bytes.push(*first)?;
+            [first, ..] if self.room > 0 => {
+                self.held.push(*first)?;
+                self.room -= 1;
                 Ok(1)
             }
             [] => Ok(0),
-            _ => Err(io::Error::from(ErrorKind::Other)),
+            _ => {
+                self.bytes.append(&mut self.held)?;
+                Err(io::Error::from(ErrorKind::Other))
+            }
         }
     }
 
     fn flush(&mut self) -> io::Result<()> {
+        self.bytes.append(&mut self.held)?;
+        if self.room == 0 {
+            return Err(io::Error::from(ErrorKind::Other));
+        }
         Ok(())
     }
 }

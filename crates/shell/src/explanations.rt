@@ -280,7 +280,7 @@ fn meaning_of_refusal(fault: Fault) -> &'static str {
         Fault::NoMemory =>
             "memory was wanted and not had. Nothing was changed: give more, and try once more.",
         Fault::Damaged => {
-            "what the flash holds is no sound file system. Take another copy of it, or format it."
+            "what the flash holds is no sound file system. Save what is whole of an image with `copy --salvage`, take another copy of it, or format it."
         }
         Fault::NoRecord => "the flash holds no file system. Format it.",
         Fault::BadGeometry => {

@@ -3,7 +3,7 @@ use Rattle.std.proofs.Common.{◌≡◌, ◌≢◌, ℕ, ◌+◌, true, List, Re
 use Rattle.flash_model.specs.declared.flash.DevFault.{DevFault}
 use Rattle.flash_model.specs.declared.flash.PageState.{PageState}
 use Rattle.flash_model.specs.Device.{Device, Page, ReportsPage, Reads, Operates, failed, cut, AfterProgram, AfterErase, Programs, Erases, Wears, block_of, LeavesBeside}
-use Rattle.nor_part.specs.Flashes.{read_ended}
+use Rattle.nor_part.specs.States.{read_ended}
 
 -- an operation has begun, with the power on, and changed pages alone
 pub record Begins (old mid : Device) : Type 0 where

@@ -12,6 +12,10 @@ is_blank page = list_all (λ byte. byte == 255) page
 abbrev pub HasCleared : List ℕ → List ℕ → List ℕ → Type 0
 HasCleared old bytes new = (i : ℕ) → i < length bytes → slice_index new i ≡ bit_and (slice_index old i) (slice_index bytes i)
 
+-- a byte that is not given, or is given as 255, stays
+abbrev pub KeepsOthers : List ℕ → List ℕ → List ℕ → Type 0
+KeepsOthers old bytes new = (i : ℕ) → (i < length bytes → slice_index bytes i ≡ 255) → slice_index new i ≡ slice_index old i
+
 -- a program was not done: a blank byte that was to keep a bit has one
 abbrev pub HasTorn : List ℕ → List ℕ → List ℕ → Type 0
 HasTorn old bytes new = (i : ℕ) → i < length bytes → slice_index old i ≡ 255 → slice_index bytes i ≢ 0 → slice_index new i ≢ 0

@@ -2,12 +2,14 @@
 #![tactic(auto)]
 
 mod cells;
+mod flash_state;
 mod memory_nor;
 mod nor;
 mod nor_flash;
 mod paging;
 mod sizes;
 
+pub use flash_state::FlashState;
 pub use memory_nor::{MemoryNor, Trouble};
 pub use nor::Nor;
 pub use nor_flash::NorFlash;

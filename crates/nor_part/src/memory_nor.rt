@@ -1,7 +1,7 @@
 //! Pages of a serial NOR part in memory.
 ghost use Rattle.std.specs.Prelude.{◌≡◌, ◌≢◌, ℕ, ◌/◌, ◌*◌, ◌+◌, ◌<◌, ◌≤◌, IfOk, Ok, Err, true, length, vec_len, slice_index, replicate};
-ghost use Rattle.nor_part.specs.Part.{HasCleared, HasTorn, LeavesTrace, is_blank, ProgramsPage, ErasesSector};
-ghost use Rattle.nor_part.specs.Memory.{memory_page_at, AreFullPages, AreBlankPages, trouble_answer};
+ghost use Rattle.nor_part.specs.Part.{HasCleared, HasTorn, KeepsOthers, LeavesTrace, is_blank, ProgramsPage, ErasesSector};
+ghost use Rattle.nor_part.specs.Memory.{memory_page_at, AreFullPages, AreBlankPages, IsWholeErase, ZeroesBytes, ZeroesPage, trouble_answer};
 
 use crate::cells::{clear, set, tear};
 use crate::nor::Nor;
@@ -164,8 +164,10 @@ impl MemoryNor {
 }
 
 impl Nor for MemoryNor {
-    ghost use Rattle.std.specs.Prelude.{◌≡◌, ℕ, ◌<◌, ◌≤◌, OnOk, length, slice_index};
+    ghost use Rattle.std.specs.Prelude.{◌≡◌, ℕ, ◌+◌, ◌*◌, ◌<◌, ◌≤◌, OnOk, length, slice_index};
     ghost use Rattle.std.specs.Result.{result_err};
+    ghost use Rattle.nor_part.specs.Part.{KeepsOthers, ProgramsPage, ErasesSector};
+    ghost use Rattle.nor_part.specs.Memory.{IsWholeErase, ZeroesPage};
     ghost use Rattle.nor_part.specs.MemoryParts.{held_of, page_total, whole_of, read_due};
 
     ghost held = { held_of };
@@ -197,13 +199,27 @@ impl Nor for MemoryNor {
         Ok(())
     }
 
-    fn program(&mut self, page: usize, bytes: &[u8]) -> Result<(), DevFault> {
+    fn program(&mut self, page: usize, bytes: &[u8]) -> Result<(), DevFault>
+        requires in_range { page < page_total self.old }
+        requires short { length bytes.now ≤ 256 }
+        ensures programs { ProgramsPage (held_of self.old) page bytes.now (held_of self.new) result }
+        ensures count { page_total self.new ≡ page_total self.old }
+
+        // What befalls it is of this kind.
+        ensures keeps { KeepsOthers (held_of self.old page) bytes.now (held_of self.new page) }
+        ensures zeroes { ZeroesPage (held_of self.old page) bytes.now (held_of self.new page) result }
+    {
         let due = self.due();
         program_page(&mut self.pages, page, bytes, due);
         self.end(due)
     }
 
-    fn erase(&mut self, sector: usize) -> Result<(), DevFault> {
+    fn erase(&mut self, sector: usize) -> Result<(), DevFault>
+        requires { 16 * sector + 16 ≤ page_total self.old }
+        ensures erases { ErasesSector (held_of self.old) sector (held_of self.new) result }
+        ensures count { page_total self.new ≡ page_total self.old }
+        ensures whole { (page : ℕ) → IsWholeErase (held_of self.old page) (held_of self.new page) }
+    {
         let due = self.due();
         erase_sector(&mut self.pages, sector, due);
         self.end(due)
@@ -220,6 +236,8 @@ fn program_page(pages: &mut Vec<MemoryPage>, number: usize, bytes: &[u8], due: O
     requires whole { AreFullPages pages.old.items }
     requires short { length bytes.now ≤ 256 }
     ensures programs { ProgramsPage (memory_page_at pages.old.items) number bytes.now (memory_page_at pages.new.items) (trouble_answer due) }
+    ensures keeps { KeepsOthers (memory_page_at pages.old.items number) bytes.now (memory_page_at pages.new.items number) }
+    ensures zeroes { ZeroesPage (memory_page_at pages.old.items number) bytes.now (memory_page_at pages.new.items number) (trouble_answer due) }
     ensures len { vec_len pages.new ≡ vec_len pages.old }
     ensures whole { AreFullPages pages.new.items }
 {
@@ -235,6 +253,7 @@ fn erase_sector(pages: &mut Vec<MemoryPage>, sector: usize, due: Option<Trouble>
     requires in_part { 16 * sector + 16 ≤ vec_len pages.old }
     requires whole { AreFullPages pages.old.items }
     ensures erases { ErasesSector (memory_page_at pages.old.items) sector (memory_page_at pages.new.items) (trouble_answer due) }
+    ensures each { (n : ℕ) → IsWholeErase (memory_page_at pages.old.items n) (memory_page_at pages.new.items n) }
     ensures len { vec_len pages.new ≡ vec_len pages.old }
     ensures whole { AreFullPages pages.new.items }
 {
@@ -251,6 +270,7 @@ fn clear_page(pages: &mut Vec<MemoryPage>, number: usize, bytes: &[u8])
     requires short { length bytes.now ≤ 256 }
     ensures others { (n : ℕ) → n ≢ number → memory_page_at pages.new.items n ≡ memory_page_at pages.old.items n }
     ensures own { HasCleared (memory_page_at pages.old.items number) bytes.now (memory_page_at pages.new.items number) }
+    ensures keeps { KeepsOthers (memory_page_at pages.old.items number) bytes.now (memory_page_at pages.new.items number) }
     ensures len { vec_len pages.new ≡ vec_len pages.old }
     ensures whole { AreFullPages pages.new.items }
 {
@@ -267,6 +287,8 @@ fn tear_page(pages: &mut Vec<MemoryPage>, number: usize, bytes: &[u8])
     ensures others { (n : ℕ) → n ≢ number → memory_page_at pages.new.items n ≡ memory_page_at pages.old.items n }
     ensures torn { HasTorn (memory_page_at pages.old.items number) bytes.now (memory_page_at pages.new.items number) }
     ensures trace { LeavesTrace (memory_page_at pages.old.items number) bytes.now (memory_page_at pages.new.items number) }
+    ensures keeps { KeepsOthers (memory_page_at pages.old.items number) bytes.now (memory_page_at pages.new.items number) }
+    ensures zeroes { ZeroesBytes bytes.now (memory_page_at pages.new.items number) }
 
     // The list stays one of full pages.
     ensures len { vec_len pages.new ≡ vec_len pages.old }

@@ -1,14 +1,15 @@
 //! A flash over a serial NOR part.
-ghost use Rattle.std.specs.Prelude.{◌≡◌, vec_len};
+ghost use Rattle.std.specs.Prelude.{◌≡◌};
 ghost use Rattle.flash_model.specs.Geometry.{IsGeometry};
 ghost use Rattle.nor_part.specs.Cleaned.{AreClean};
 ghost use Rattle.nor_part.specs.Layout.{part_sizes, blocks_of};
+ghost use Rattle.nor_part.specs.States.{block_total, cleaned_of};
 
+use crate::flash_state::FlashState;
 use crate::memory_nor::{MemoryNor, Trouble};
 use crate::nor::Nor;
 use crate::paging::{erase_block, read_page, write_page};
-use crate::sizes::{note, sizes, wear};
-use counts::Count;
+use crate::sizes::sizes;
 use flash_model::{DevFault, Flash, Geometry, PageState};
 use fs_types::Fault;
 use std::alloc::Global;
@@ -17,30 +18,21 @@ use std::alloc::Global;
 /// data and the second for marks.
 ///
 /// The erase of a block that it erased itself, as was answered, and that was not programmed since is
-/// answered at once: both its sectors are blank. It asks a byte a block for that.
+/// answered at once: both its sectors are blank.
 #[derive(Drop)]
 pub struct NorFlash<P: Nor> {
     part: P,
     blocks: u32,
-    powered: bool,
-    worn: Vec<bool>,
-    // Which blocks were erased here, as was answered, and not programmed since.
-    cleaned: Vec<bool>,
-    failed_reads: Count,
-    failures: Count,
-    cuts: Count,
-    operations: Count,
+    state: FlashState,
     ghost lawful: { IsGeometry (part_sizes blocks) },
-    ghost all_blocks: { vec_len worn ≡ blocks },
+    ghost all_blocks: { block_total state ≡ blocks },
     ghost all_pages: { blocks_of (P.count part) ≡ blocks },
-    ghost all_noted: { vec_len cleaned ≡ blocks },
-    ghost all_clean: { AreClean (P.held part) cleaned.items },
+    ghost all_clean: { AreClean (P.held part) (cleaned_of state) },
 }
 
 impl<P: Nor + Drop> NorFlash<P> {
-    ghost use Rattle.std.specs.Prelude.{◌<◌, ◌+◌, ◌↔◌, ◌⊎◌, IfOk, IfErr, OnOk, OnErr, Err, Ok, true, false};
-    ghost use Rattle.flash_model.specs.Device.{LeavesBeside};
-    ghost use Rattle.nor_part.specs.Flashes.{nor_device, nor_of, IsOver, read_ended};
+    ghost use Rattle.std.specs.Prelude.{◌↔◌, ◌⊎◌, IfOk, IfErr, Err};
+    ghost use Rattle.nor_part.specs.Flashes.{nor_device, nor_of, IsOver};
 
     /// A flash over a part with power on. Its pages are those that the part holds. `BadGeometry` for a
     /// part of fewer than 16 blocks or more than 16,384, else `NoMemory`.
@@ -61,13 +53,7 @@ impl<P: Nor + Drop> NorFlash<P> {
         Ok(NorFlash {
             part,
             blocks,
-            powered: true,
-            worn: vec![in alloc; false; blocks as usize]?,
-            cleaned: vec![in alloc; false; blocks as usize]?,
-            failed_reads: Count::zero(),
-            failures: Count::zero(),
-            cuts: Count::zero(),
-            operations: Count::zero(),
+            state: FlashState::new(alloc, blocks)?,
         })
     }
 
@@ -85,61 +71,6 @@ impl<P: Nor + Drop> NorFlash<P> {
         ensures errors { IfErr result (λ fault. fault ≡ Fault.NoMemory) }
     {
         NorFlash::new(alloc, self.into_part())
-    }
-
-    // An operation begins. With the power off none does.
-    fn begin(&mut self) -> Result<(), DevFault>
-        ensures on { OnOk result ((nor_device self.old).powered ≡ true) }
-        ensures begun { OnOk result (nor_device self.new ≡ record (nor_device self.old) { operations = (nor_device self.old).operations + 1 }) }
-        ensures part { nor_of self.new ≡ nor_of self.old }
-        ensures cleaned { self.new.cleaned ≡ self.old.cleaned }
-        ensures err { IfErr result (λ fault. fault ≡ DevFault.PowerCut) }
-        ensures off { OnErr result ((nor_device self.old).powered ≡ false) }
-        ensures same { OnErr result (self.new ≡ self.old) }
-    {
-        if !self.powered {
-            return Err(DevFault::PowerCut);
-        }
-        self.operations = self.operations.more();
-        Ok(())
-    }
-
-    // Ends a read by its answer: a failed one is counted, and in a cut power goes.
-    fn end_read(&mut self, read: Result<PageState, DevFault>) -> Result<PageState, DevFault>
-        requires { (nor_device self.old).powered ≡ true }
-        ensures same { result ≡ read }
-        ensures ends { nor_device self.new ≡ read_ended (nor_device self.old) read }
-    {
-        self.powered = !matches!(read, Err(DevFault::PowerCut));
-        match read {
-            Ok(_) => {}
-            Err(DevFault::Failed) => self.failed_reads = self.failed_reads.more(),
-            Err(DevFault::PowerCut) => self.cuts = self.cuts.more(),
-        }
-        read
-    }
-
-    // Ends a program or an erase in a block by its answer: a failure wears the block, and in a cut
-    // power goes.
-    fn end(&mut self, block: u32, done: Result<(), DevFault>) -> Result<(), DevFault>
-        requires in_range { block < (nor_device self.old).geometry.blocks }
-        requires on { (nor_device self.old).powered ≡ true }
-        ensures same { result ≡ done }
-        ensures cleaned { self.new.cleaned ≡ self.old.cleaned }
-        ensures ends { LeavesBeside (nor_device self.old) block (nor_device self.new) done }
-    {
-        match done {
-            Ok(()) => {}
-            Err(DevFault::Failed) => {
-                wear(&mut self.worn, block as usize);
-                self.failures = self.failures.more();
-            }
-            Err(DevFault::PowerCut) => {
-                self.powered = false;
-                self.cuts = self.cuts.more();
-            }
-        }
-        done
     }
 }
 
@@ -181,9 +112,10 @@ impl NorFlash<MemoryNor> {
 }
 
 impl<P: Nor + Drop> Flash for NorFlash<P> {
-    ghost use Rattle.std.specs.Prelude.{◌≡◌, ◌<◌, true, false, slice_index_or, OnOk};
+    ghost use Rattle.std.specs.Prelude.{◌≡◌, ◌<◌, true, OnOk};
     ghost use Rattle.flash_model.specs.Device.{Erases};
     ghost use Rattle.nor_part.specs.Flashes.{nor_device, nor_of};
+    ghost use Rattle.nor_part.specs.States.{is_cleaned};
     ghost use Rattle.nor_part.specs.WholePages.{whole_part_pages_of};
 
     ghost device = { nor_device };
@@ -195,16 +127,16 @@ impl<P: Nor + Drop> Flash for NorFlash<P> {
     }
 
     fn read(&mut self, page: u32, buffer: &mut [u8]) -> Result<PageState, DevFault> {
-        self.begin()?;
+        self.state.begin()?;
         let read = read_page(&mut self.part, page as usize, buffer);
-        self.end_read(read)
+        self.state.end_read(read)
     }
 
     fn program(&mut self, page: u32, bytes: &[u8]) -> Result<(), DevFault> {
-        self.begin()?;
-        note(&mut self.cleaned, (page / 16) as usize, false);
+        self.state.begin()?;
+        self.state.note_cleaned(page / 16, false);
         let done = write_page(&mut self.part, page as usize, bytes);
-        self.end(page / 16, done)
+        self.state.end(page / 16, done)
     }
 
     fn erase(&mut self, block: u32) -> Result<(), DevFault>
@@ -212,20 +144,20 @@ impl<P: Nor + Drop> Flash for NorFlash<P> {
         ensures erases { Erases (nor_device self.old) block (nor_device self.new) result }
 
         // The part is not asked where the block is known to be clean, and it is once it was erased.
-        ensures at_once { slice_index_or self.old.cleaned.items block false ≡ true → nor_of self.new ≡ nor_of self.old }
-        ensures known { OnOk result (slice_index_or self.new.cleaned.items block false ≡ true) }
+        ensures at_once { is_cleaned self.old.state block ≡ true → nor_of self.new ≡ nor_of self.old }
+        ensures known { OnOk result (is_cleaned self.new.state block ≡ true) }
     {
-        self.begin()?;
-        if self.cleaned[block as usize] {
+        self.state.begin()?;
+        if self.state.is_cleaned(block) {
             return Ok(());
         }
         let done = erase_block(&mut self.part, block as usize);
-        note(&mut self.cleaned, block as usize, done.is_ok());
-        self.end(block, done)
+        self.state.note_cleaned(block, done.is_ok());
+        self.state.end(block, done)
     }
 
     fn power_on(&mut self) {
         self.part.power_on();
-        self.powered = true;
+        self.state.power_on();
     }
 }

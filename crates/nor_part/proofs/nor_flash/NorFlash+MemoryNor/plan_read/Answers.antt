@@ -3,4 +3,4 @@ use Rattle.nor_part.specs.Cleaned.{AreClean}
 use Rattle.nor_part.proofs.nor_flash.NorFlash+MemoryNor.plan_read.Goals as goal
 
 pub invariant_of-self-clause-all_clean : goal.invariant_of-self-clause-all_clean
-invariant_of-self-clause-all_clean c = subst (λ (held : ℕ → List ℕ). AreClean held c.args.self.now.cleaned.items) (sym c.plan_read.ensures.held) c.args.self.now.all_clean
+invariant_of-self-clause-all_clean c = subst (λ (held : ℕ → List ℕ). AreClean held c.args.self.now.state.cleaned.items) (sym c.plan_read.ensures.held) c.args.self.now.all_clean

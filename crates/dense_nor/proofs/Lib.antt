@@ -1,0 +1,9 @@
+pub mod Places
+pub mod EntryBytes
+pub mod Marking
+pub mod Erasing
+pub mod MemoryMarks
+pub mod BlockErase
+pub mod Writing
+pub mod Shifts
+pub mod Cleaning

@@ -21,9 +21,9 @@ looks_on a b c m n first second = record {
 pub page_meets_on : (a b : Driver) (n : ℕ) (expected : Expected) (g : Area) (p : ℕ) → OnlyAsks a b n → PageMeets expected g a.pages p → PageMeets expected g b.pages p
 page_meets_on a b n expected g p looks meets = subst (λ held. MeetsExpectation expected g.sizes.page p held) (sym (looks.pages p)) meets
 
-pub block_meets_on : (a b : Driver) (n : ℕ) (expected : Expected) (g : Area) (block from : ℕ) → OnlyAsks a b n
-    → BlockMeets expected g a.pages block from → BlockMeets expected g b.pages block from
-block_meets_on a b n expected g block from looks meets = record {
+pub block_meets_on : (a b : Driver) (n : ℕ) (expected : Expected) (g : Area) (block from to : ℕ) → OnlyAsks a b n
+    → BlockMeets expected g a.pages block from to → BlockMeets expected g b.pages block from to
+block_meets_on a b n expected g block from to looks meets = record {
   each = λ place least below. page_meets_on a b n expected g (area_page g block place) looks (meets.each place least below);
 }
 

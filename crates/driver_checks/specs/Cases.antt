@@ -2,6 +2,8 @@
 use Rattle.std.specs.Prelude.{◌≡◌, ℕ, ◌+◌, ◌-◌, ◌*◌, List, codes}
 use Rattle.driver_checks.specs.declared.case.Case.{Case}
 use Rattle.driver_checks.specs.declared.case.Case.TheVariants.{Sizes, Fresh, ReadBack, InOrder, OneBlock, FailedProgram, FailedErase, CutProgram, CutErase, Restart, Ends, Neighbours}
+use Rattle.driver_checks.specs.declared.scene.Place.{Place}
+use Rattle.driver_checks.specs.declared.scene.Place.TheVariants.{First, Last}
 use Rattle.driver_checks.specs.declared.scene.Scene.{Scene}
 use Rattle.driver_checks.specs.declared.expected.Expected.{Expected}
 use Rattle.driver_checks.specs.declared.expected.Expected.TheVariants.{Erased, Filled, Spoilt, Left}
@@ -37,24 +39,24 @@ round_of Restart = 9
 round_of Ends = 10
 round_of Neighbours = 11
 
--- the first page of the case's own block, its other pages, and the two blocks beside it
-abbrev pub scene_from : Expected → Expected → Expected → Scene
-scene_from page rest sides = record { page = page; rest = rest; sides = sides }
+-- a page of the case's own block, its other pages, and the two blocks beside it
+abbrev pub scene_from : Place → Expected → Expected → Expected → Scene
+scene_from place page rest sides = record { place = place; page = page; rest = rest; sides = sides }
 
 -- what the blocks show at the end of a case
 abbrev pub scene_of : Case → Scene
-scene_of Sizes = scene_from Erased Erased Erased
-scene_of Fresh = scene_from Erased Erased Erased
-scene_of ReadBack = scene_from (Filled 2) Erased Erased
-scene_of InOrder = scene_from (Filled 3) (Filled 3) Erased
-scene_of OneBlock = scene_from Erased Erased (Filled 4)
-scene_of FailedProgram = scene_from Spoilt Erased (Filled 5)
-scene_of FailedErase = scene_from (Left 6) (Left 6) (Filled 6)
-scene_of CutProgram = scene_from (Left 7) Erased (Filled 7)
-scene_of CutErase = scene_from (Left 8) (Left 8) (Filled 8)
-scene_of Restart = scene_from (Filled 9) Erased (Filled 9)
-scene_of Ends = scene_from Erased Erased (Filled 10)
-scene_of Neighbours = scene_from (Filled 11) (Filled 11) (Filled 11)
+scene_of Sizes = scene_from First Erased Erased Erased
+scene_of Fresh = scene_from First Erased Erased Erased
+scene_of ReadBack = scene_from First (Filled 2) Erased Erased
+scene_of InOrder = scene_from First (Filled 3) (Filled 3) Erased
+scene_of OneBlock = scene_from First Erased Erased (Filled 4)
+scene_of FailedProgram = scene_from Last Spoilt (Filled 5) (Filled 5)
+scene_of FailedErase = scene_from First (Left 6) (Left 6) (Filled 6)
+scene_of CutProgram = scene_from Last (Left 7) (Filled 7) (Filled 7)
+scene_of CutErase = scene_from First (Left 8) (Left 8) (Filled 8)
+scene_of Restart = scene_from First (Filled 9) Erased (Filled 9)
+scene_of Ends = scene_from First Erased Erased (Filled 10)
+scene_of Neighbours = scene_from First (Filled 11) (Filled 11) (Filled 11)
 
 -- the second block of the area between its neighbours shows the scene of a case
 abbrev pub ShowsBeside : Case → Driver → Type 0

@@ -18,6 +18,6 @@ MeetsExpectation (Left round) size page held = (held ≡ erased) ⊎ ((held ≡ 
 abbrev pub PageMeets : Expected → Area → (ℕ → Page) → ℕ → Type 0
 PageMeets expected g pages p = MeetsExpectation expected g.sizes.page p (pages p)
 
--- the pages of a block show it, from a place on
-pub record BlockMeets (expected : Expected) (g : Area) (pages : ℕ → Page) (b from : ℕ) : Type 0 where
-  pub each : (place : ℕ) → from ≤ place → place < g.sizes.pages → PageMeets expected g pages (area_page g b place)
+-- the pages of a block show it, from one place to before another
+pub record BlockMeets (expected : Expected) (g : Area) (pages : ℕ → Page) (b from to : ℕ) : Type 0 where
+  pub each : (place : ℕ) → from ≤ place → place < to → PageMeets expected g pages (area_page g b place)

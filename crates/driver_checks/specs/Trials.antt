@@ -1,5 +1,5 @@
 -- Operations in which a fault is planned, at one moment after the other.
-use Rattle.std.specs.Prelude.{◌≡◌, ℕ, ◌+◌, ◌<◌, List, ◌∷◌, Result, Ok, Err}
+use Rattle.std.specs.Prelude.{◌≡◌, ℕ, ◌+◌, ◌-◌, ◌<◌, List, ◌∷◌, Result, Ok, Err}
 use Rattle.flash_model.specs.declared.flash.DevFault.{DevFault}
 use Rattle.flash_model.specs.declared.flash.DevFault.TheVariants.{PowerCut}
 use Rattle.flash_model.specs.declared.fault_kind.Operation.TheVariants.{Program, Erase}
@@ -18,10 +18,10 @@ abbrev pub MayAnswer : DevFault → ℕ → Answer → Type 0
 MayAnswer fault moment (Ok _) = (fault ≡ PowerCut) × (0 < moment)
 MayAnswer fault moment (Err told) = told ≡ fault
 
--- the first page of a block was programmed with a fault planned at a moment, and answered so
+-- a block was filled but for its last page, and that was programmed with a fault planned at a moment, and answered so
 abbrev pub program_tried : Area → ℕ → DevFault → ℕ → Answer → List Step → List Step
 program_tried g own fault moment answer steps =
-    Restarts ∷ Programs (area_page g own 0) answer ∷ Plans Program fault moment ∷ Erases own (Ok tt) ∷ steps
+    Restarts ∷ Programs (area_page g own (g.sizes.pages - 1)) answer ∷ Plans Program fault moment ∷ filled g own (g.sizes.pages - 1) (Erases own (Ok tt) ∷ steps)
 
 -- a block was filled, and erased with a fault planned at a moment, and answered so
 abbrev pub erase_tried : Area → ℕ → DevFault → ℕ → Answer → List Step → List Step

@@ -3,7 +3,7 @@ ghost use Rattle.std.specs.Prelude.{◌≡◌};
 ghost use Rattle.driver_checks.specs.Cases.{case_word, round_of, scene_of};
 
 use crate::expected::Expected;
-use crate::scene::Scene;
+use crate::scene::{Place, Scene};
 
 /// A case of the checklist.
 #[derive(Clone, Copy, Debug, PartialEq, Eq)]
@@ -18,7 +18,7 @@ pub enum Case {
     InOrder,
     /// An erase clears its block, and no other.
     OneBlock,
-    /// A program that failed leaves its page unreadable, and changes no other page.
+    /// A program that failed leaves its page unreadable, and changes no other page, in its block or another.
     FailedProgram,
     /// An erase that failed leaves each page of its block as it was, erased or unreadable, and changes
     /// no other page.
@@ -109,10 +109,14 @@ impl Case {
             Case::OneBlock | Case::Ends => {
                 (Expected::Erased, Expected::Erased, Expected::Filled(round))
             }
-            Case::FailedProgram => (Expected::Spoilt, Expected::Erased, Expected::Filled(round)),
+            Case::FailedProgram => (
+                Expected::Spoilt,
+                Expected::Filled(round),
+                Expected::Filled(round),
+            ),
             Case::CutProgram => (
                 Expected::Left(round),
-                Expected::Erased,
+                Expected::Filled(round),
                 Expected::Filled(round),
             ),
             Case::FailedErase | Case::CutErase => {
@@ -135,6 +139,22 @@ impl Case {
                 )
             }
         };
-        Scene { page, rest, sides }
+        let place = self.place();
+        Scene {
+            place,
+            page,
+            rest,
+            sides,
+        }
+    }
+
+    // The page of its own block that it is about.
+    fn place(self) -> Place
+        ensures { result ≡ (scene_of self).place }
+    {
+        match self {
+            Case::FailedProgram | Case::CutProgram => Place::Last,
+            _ => Place::First,
+        }
     }
 }

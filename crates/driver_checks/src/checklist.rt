@@ -188,7 +188,7 @@ fn restart_between<B: Bench>(
     Ok(())
 }
 
-// Fills the blocks beside the case's own, and troubles programs of that one.
+// Fills the blocks beside the case's own, and troubles programs of the last page of that one.
 fn trouble_programs<B: Bench>(
     bench: &mut B,
     site: Site,
@@ -199,7 +199,7 @@ fn trouble_programs<B: Bench>(
     requires area { (B.driver bench.old).area ≡ site.area }
     requires whole { length buffer.old ≡ site.area.sizes.page }
     ensures tries { OnOk result (TriesPrograms site.area site.lower site.own site.upper fault (B.driver bench.old).moments (B.driver bench.old).steps (B.driver bench.new).steps) }
-    ensures works { AsksAtMost (B.driver bench.old) (B.driver bench.new) (255 * (3 * site.area.sizes.pages + 5) + 4 * site.area.sizes.pages) }
+    ensures works { AsksAtMost (B.driver bench.old) (B.driver bench.new) (255 * (5 * site.area.sizes.pages + 3) + 4 * site.area.sizes.pages) }
 {
     let round = case.round();
     let scene = case.scene();

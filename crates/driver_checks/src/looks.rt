@@ -1,5 +1,5 @@
 //! Looks at pages.
-ghost use Rattle.std.specs.Prelude.{◌≡◌, ◌≤◌, ◌↔◌, false, IsOk, OnOk, length};
+ghost use Rattle.std.specs.Prelude.{◌≡◌, ◌-◌, ◌≤◌, ◌↔◌, false, IsOk, OnOk, length};
 ghost use Rattle.driver_checks.specs.Areas.{GivesBlock, GivesPage};
 ghost use Rattle.driver_checks.specs.Driver.{OnlyAsks};
 ghost use Rattle.driver_checks.specs.Expectations.{PageMeets, BlockMeets};
@@ -32,23 +32,25 @@ pub(crate) fn page_shows<B: Bench>(
     }
 }
 
-// Whether the driver shows the pages of a block as expected, from a place on.
+// Whether the driver shows the pages of a block as expected, from one place to before another.
 pub(crate) fn block_shows<B: Bench>(
     bench: &mut B,
     area: Area,
     block: u32,
     from: u32,
+    to: u32,
     expected: Expected,
     buffer: &mut [u8],
 ) -> Result<(), Wrong>
     requires area { (B.driver bench.old).area ≡ area }
     requires given { GivesBlock area block }
-    requires in_block { from ≤ area.sizes.pages }
+    requires in_order { from ≤ to }
+    requires in_block { to ≤ area.sizes.pages }
     requires whole { length buffer.old ≡ area.sizes.page }
-    ensures meets { OnOk result (BlockMeets expected area (B.driver bench.new).pages block from) }
-    ensures looks { OnlyAsks (B.driver bench.old) (B.driver bench.new) area.sizes.pages }
+    ensures meets { OnOk result (BlockMeets expected area (B.driver bench.new).pages block from to) }
+    ensures looks { OnlyAsks (B.driver bench.old) (B.driver bench.new) (to - from) }
 {
-    for place in from..area.sizes.pages {
+    for place in from..to {
         page_shows(bench, area, area.page(block, place), expected, buffer)?;
     }
     Ok(())

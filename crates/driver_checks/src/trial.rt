@@ -1,5 +1,5 @@
 //! Programs and erases in which a fault is planned, at each of its moments.
-ghost use Rattle.std.specs.Prelude.{◌≡◌, ◌+◌, ◌*◌, ◌<◌, ◌↔◌, ◌∷◌, Ok, length, IsTrue, IfOk, OnOk, OnErr};
+ghost use Rattle.std.specs.Prelude.{◌≡◌, ◌+◌, ◌-◌, ◌*◌, ◌<◌, ◌↔◌, ◌∷◌, Ok, length, IsTrue, IfOk, OnOk, OnErr};
 ghost use Rattle.flash_model.specs.declared.fault_kind.Operation.{Operation};
 ghost use Rattle.driver_checks.specs.Areas.{area_page};
 ghost use Rattle.driver_checks.specs.Driver.{AsksAtMost, OnlyAsks};
@@ -13,7 +13,7 @@ use crate::expected::Expected;
 use crate::looks::{block_shows, page_shows, power_is_off};
 use crate::scene::Scene;
 use crate::site::Site;
-use crate::works::{fill_block, program};
+use crate::works::{fill_block, fill_pages, program};
 use crate::wrong::Wrong;
 use flash_model::{DevFault, Operation};
 
@@ -30,7 +30,7 @@ pub(crate) struct Trial {
 }
 
 impl Trial {
-    // Tries each moment of a program of the first page of the case's own block, one at least.
+    // Tries each moment of a program of the last page of the case's own block, one at least.
     #[tactic(auto, using(crate::proofs::Trying::moments_more))]
     pub(crate) fn programs<B: Bench>(
         self,
@@ -41,7 +41,7 @@ impl Trial {
         requires area { (B.driver bench.old).area ≡ site.area }
         requires whole { length buffer.old ≡ site.area.sizes.page }
         ensures tries { OnOk result (TriesEach (program_tried site.area site.own self.fault) self.fault ((B.driver bench.old).moments Operation.Program self.fault) (B.driver bench.old).steps (B.driver bench.new).steps) }
-        ensures works { AsksAtMost (B.driver bench.old) (B.driver bench.new) (255 * (3 * site.area.sizes.pages + 5)) }
+        ensures works { AsksAtMost (B.driver bench.old) (B.driver bench.new) (255 * (5 * site.area.sizes.pages + 3)) }
     {
         let moments = bench.moments(Operation::Program, self.fault);
         if moments == 0 {
@@ -76,7 +76,7 @@ impl Trial {
         Ok(())
     }
 
-    // Tries a program of the first page of the case's own block at a moment.
+    // Tries a program of the last page of the case's own block at a moment.
     fn program<B: Bench>(
         self,
         bench: &mut B,
@@ -88,7 +88,7 @@ impl Trial {
         requires moment { moment < (B.driver bench.old).moments Operation.Program self.fault }
         requires whole { length buffer.old ≡ site.area.sizes.page }
         ensures tries { OnOk result (TriesMoment (program_tried site.area site.own self.fault) self.fault moment (B.driver bench.old).steps (B.driver bench.new).steps) }
-        ensures works { AsksAtMost (B.driver bench.old) (B.driver bench.new) (3 * site.area.sizes.pages + 5) }
+        ensures works { AsksAtMost (B.driver bench.old) (B.driver bench.new) (5 * site.area.sizes.pages + 3) }
     {
         let done = self.trouble_program(bench, site, moment, buffer)?;
         self.look_after_program(bench, site, done, buffer)?;
@@ -116,8 +116,8 @@ impl Trial {
         self.scene.is_shown(bench, site, buffer)
     }
 
-    // Erases the case's own block and programs its first page, with the fault planned. Gives the
-    // answer, which is one that may be.
+    // Erases the case's own block, fills it but for its last page, and programs that with the fault
+    // planned. Gives the answer, which is one that may be.
     fn trouble_program<B: Bench>(
         self,
         bench: &mut B,
@@ -129,12 +129,14 @@ impl Trial {
         requires moment { moment < (B.driver bench.old).moments Operation.Program self.fault }
         requires whole { length buffer.old ≡ site.area.sizes.page }
         ensures may { IfOk result (λ done. MayAnswer self.fault moment done) }
-        ensures steps { IfOk result (λ done. (B.driver bench.new).steps ≡ Step.Programs (area_page site.area site.own 0) done ∷ Step.Plans Operation.Program self.fault moment ∷ Step.Erases site.own (Ok tt) ∷ (B.driver bench.old).steps) }
-        ensures works { AsksAtMost (B.driver bench.old) (B.driver bench.new) 3 }
+        ensures steps { IfOk result (λ done. (B.driver bench.new).steps ≡ Step.Programs (area_page site.area site.own (site.area.sizes.pages - 1)) done ∷ Step.Plans Operation.Program self.fault moment ∷ filled site.area site.own (site.area.sizes.pages - 1) (Step.Erases site.own (Ok tt) ∷ (B.driver bench.old).steps)) }
+        ensures works { AsksAtMost (B.driver bench.old) (B.driver bench.new) (2 * site.area.sizes.pages + 1) }
     {
+        let last = site.area.sizes.pages - 1;
         bench.erase(site.own)?;
+        fill_pages(bench, site.area, site.own, last, self.round, buffer)?;
         bench.plan(Operation::Program, self.fault, moment);
-        let page = site.area.page(site.own, 0);
+        let page = site.area.page(site.own, last);
         let done = program(bench, site.area, page, self.round, buffer)?;
         self.judge(moment, done)
     }
@@ -185,7 +187,7 @@ impl Trial {
         }
     }
 
-    // Looks at the first page of the case's own block after a program that answered so.
+    // Looks at the last page of the case's own block after a program that answered so.
     fn look_after_program<B: Bench>(
         self,
         bench: &mut B,
@@ -199,7 +201,7 @@ impl Trial {
         ensures looks { OnlyAsks (B.driver bench.old) (B.driver bench.new) 1 }
     {
         let area = site.area;
-        let page = area.page(site.own, 0);
+        let page = area.page(site.own, area.sizes.pages - 1);
         match done {
             Ok(()) => page_shows(bench, area, page, Expected::Filled(self.round), buffer),
             Err(DevFault::Failed) => page_shows(bench, area, page, Expected::Spoilt, buffer),
@@ -222,7 +224,15 @@ fn look_after_erase<B: Bench>(
 {
     let area = site.area;
     match done {
-        Ok(()) => block_shows(bench, area, site.own, 0, Expected::Erased, buffer),
+        Ok(()) => block_shows(
+            bench,
+            area,
+            site.own,
+            0,
+            area.sizes.pages,
+            Expected::Erased,
+            buffer,
+        ),
         Err(DevFault::Failed) => Ok(()),
         Err(DevFault::PowerCut) => power_is_off(bench, area, area.page(site.own, 0), buffer),
     }

@@ -1,5 +1,5 @@
 //! Work on blocks: erases, and programs of pages that are erased.
-ghost use Rattle.std.specs.Prelude.{◌≡◌, ◌+◌, ◌*◌, ◌<◌, ◌∷◌, IfOk, OnOk, length};
+ghost use Rattle.std.specs.Prelude.{◌≡◌, ◌+◌, ◌*◌, ◌<◌, ◌≤◌, ◌∷◌, IfOk, OnOk, length};
 ghost use Rattle.driver_checks.specs.Areas.{GivesBlock, GivesPage};
 ghost use Rattle.driver_checks.specs.Driver.{AsksAtMost};
 ghost use Rattle.driver_checks.specs.Filling.{page_filled, filled, filled_in_turn, sides_filled, cleared};
@@ -54,8 +54,30 @@ pub(crate) fn fill_page<B: Bench>(
     Ok(())
 }
 
-// Programs the pages of a block that is erased, from the first to the last.
+// Programs so many pages of a block that is erased, from the first on.
 #[tactic(auto, using(crate::proofs::Working::filled_more))]
+pub(crate) fn fill_pages<B: Bench>(
+    bench: &mut B,
+    area: Area,
+    block: u32,
+    count: u32,
+    round: u8,
+    buffer: &mut [u8],
+) -> Result<(), Wrong>
+    requires area { (B.driver bench.old).area ≡ area }
+    requires given { GivesBlock area block }
+    requires in_block { count ≤ area.sizes.pages }
+    requires whole { length buffer.old ≡ area.sizes.page }
+    ensures steps { OnOk result ((B.driver bench.new).steps ≡ filled area block count (B.driver bench.old).steps) }
+    ensures works { AsksAtMost (B.driver bench.old) (B.driver bench.new) (2 * count) }
+{
+    for place in 0..count {
+        fill_page(bench, area, block, place, round, buffer)?;
+    }
+    Ok(())
+}
+
+// Programs the pages of a block that is erased, from the first to the last.
 pub(crate) fn fill_block<B: Bench>(
     bench: &mut B,
     area: Area,
@@ -69,10 +91,7 @@ pub(crate) fn fill_block<B: Bench>(
     ensures steps { OnOk result ((B.driver bench.new).steps ≡ filled area block area.sizes.pages (B.driver bench.old).steps) }
     ensures works { AsksAtMost (B.driver bench.old) (B.driver bench.new) (2 * area.sizes.pages) }
 {
-    for place in 0..area.sizes.pages {
-        fill_page(bench, area, block, place, round, buffer)?;
-    }
-    Ok(())
+    fill_pages(bench, area, block, area.sizes.pages, round, buffer)
 }
 
 // Erases the three blocks.

@@ -1,7 +1,7 @@
 use Rattle.std.proofs.Common.{◌≡◌, ◌*◌}
 use Rattle.driver_checks.specs.Driver.{AsksAtMost}
 use Rattle.driver_checks.specs.Filling.{filled}
-use Rattle.driver_checks.proofs.works.fill_block.Given as goal
+use Rattle.driver_checks.proofs.works.fill_pages.Given as goal
 
 abbrev pub invariant-loop-place : goal.invariant-loop-place
 invariant-loop-place g l =

@@ -1,10 +1,12 @@
 -- An operation of a flash is one of a driver on its bench.
-use Rattle.std.specs.Prelude.{◌≡◌, ℕ, ◌+◌, ◌<◌, ◌≤◌, Bool, true, false, List, Result, if◌then◌else◌}
+use Rattle.std.specs.Prelude.{◌≡◌, ℕ, ◌+◌, ◌/◌, ◌<◌, ◌≤◌, Bool, true, false, List, Result, if◌then◌else◌}
 use Rattle.std.proofs.Common.{arith, refl}
+use Rattle.std.proofs.Math.Nat.{le-div_iff_mul-le, div-lt_iff_lt-mul}
 use Rattle.flash_model.specs.declared.flash.DevFault.{DevFault}
 use Rattle.flash_model.specs.declared.flash.PageState.{PageState}
 use Rattle.flash_model.specs.declared.fault_kind.Operation.{Operation}
 use Rattle.flash_model.specs.Device.{Device, Reads, Programs, Erases}
+use Rattle.driver_checks.specs.Areas.{GivesBlock, GivesPage}
 use Rattle.driver_checks.specs.declared.area.Area.{Area}
 use Rattle.driver_checks.specs.declared.step.Step.{Step}
 use Rattle.driver_checks.specs.Driver.{AsksAtMost, OnlyAsks, driver_of}
@@ -39,6 +41,13 @@ erase_works area moments before after old new b result erases = record {
   area = refl;
   moments = refl;
   operations = counted_once old.powered old.operations new.operations erases.operates.operations;
+}
+
+-- the block of a page that may be used up may be used up
+pub block_given : (g : Area) (p : ℕ) → 0 < g.sizes.pages → GivesPage g p → GivesBlock g (p / g.sizes.pages)
+block_given g p some given = record {
+  from = (le-div_iff_mul-le some).1 given.from;
+  below = (div-lt_iff_lt-mul some).1 given.below;
 }
 
 -- a moment that a driver with a flaw tells is one of the driver below it

@@ -11,6 +11,8 @@ pub enum Way {
     Misses,
     /// Power that went is on at once, with no restart.
     Stays,
+    /// The other pages of the block of a program are lost with it.
+    Spreads,
 }
 
 /// The rule of a case that a driver breaks, and, where a fault is planned in that case, the moment of

@@ -53,6 +53,17 @@ impl<B: Bench + Drop> Flawed<B> {
         let _ = self.bench.erase(first);
     }
 
+    // Loses what the block of a page holds.
+    #[tactic(auto, using(crate::proofs::Benching::block_given))]
+    fn lose_block_of(&mut self, page: u32)
+        requires { GivesPage (B.driver self.old.bench).area page }
+        ensures asks { AsksAtMost (B.driver self.old.bench) (B.driver self.new.bench) 1 }
+        ensures same { self.new ≡ record self.old { bench = self.new.bench } }
+    {
+        let pages = self.bench.area().sizes.pages;
+        let _ = self.bench.erase(page / pages);
+    }
+
     // Whether a program is dropped: each; of the last page of a block; or of one that does not follow
     // the page that was programmed before.
     fn drops_program(&self, page: u32) -> bool {
@@ -97,6 +108,11 @@ impl<B: Bench + Drop> Flawed<B> {
             self.off = true;
             return Err(DevFault::PowerCut);
         }
+        if matches!(self.flaw.way, Way::Spreads) {
+            self.lose_block_of(page);
+            self.off = true;
+            return Err(DevFault::PowerCut);
+        }
         let done = self.bench.program(page, bytes);
         self.answer(done)
     }
@@ -138,7 +154,7 @@ impl<B: Bench + Drop> Flawed<B> {
     {
         match self.flaw.way {
             Way::Loses => Err(DevFault::Failed),
-            Way::Misses => done,
+            Way::Misses | Way::Spreads => done,
             Way::Stays => {
                 self.bench.restart();
                 done

@@ -2,8 +2,9 @@
 ghost use Rattle.std.specs.Prelude.{◌≡◌, ℕ};
 ghost use Rattle.flash_model.specs.declared.fault_kind.Operation.{Operation};
 ghost use Rattle.flash_model.specs.declared.flash.DevFault.{DevFault};
-ghost use Rattle.driver_benches.specs.Moments.{memory_moments, part_moments};
+ghost use Rattle.driver_benches.specs.Moments.{dense_moments, memory_moments, part_moments};
 
+use crate::dense_part::DensePart;
 use crate::memory_part::MemoryPart;
 use flash_model::{DevFault, FaultKind, Flash, Operation, Planned};
 use flash_simulation::SimFlash;
@@ -77,15 +78,48 @@ impl Troubled for MemoryPart {
             self.flash.plan_read(u64::from(moment % 2), fault);
             return;
         }
-        match (fault, moment % 3) {
-            (DevFault::Failed, _) => self.flash.plan(u64::from(moment), Trouble::Fails),
-            (DevFault::PowerCut, 0) => self.flash.plan(u64::from(moment / 3), Trouble::CutBefore),
-            (DevFault::PowerCut, 1) => self.flash.plan(u64::from(moment / 3), Trouble::CutWithin),
-            (DevFault::PowerCut, _) => self.flash.plan(u64::from(moment / 3), Trouble::CutAfter),
-        }
+        let (good, trouble) = trouble_at(fault, moment);
+        self.flash.plan(good, trouble);
     }
 
     fn calm(&mut self) {
         self.flash.forget_plan();
+    }
+}
+
+impl Troubled for DensePart {
+    ghost moment_count = { dense_moments };
+
+    // The marks of a block are made 0 before its two sectors are erased.
+    fn moments(&self, class: Operation, fault: DevFault) -> u8 {
+        match (class, fault) {
+            (Operation::Erase, DevFault::Failed) => 3,
+            (Operation::Erase, DevFault::PowerCut) => 9,
+            (_, DevFault::Failed) => 2,
+            (_, DevFault::PowerCut) => 6,
+        }
+    }
+
+    fn trouble(&mut self, class: Operation, fault: DevFault, moment: u8) {
+        if class == Operation::Read {
+            self.flash.plan_read(u64::from(moment % 2), fault);
+            return;
+        }
+        let (good, trouble) = trouble_at(fault, moment);
+        self.flash.plan(good, trouble);
+    }
+
+    fn calm(&mut self) {
+        self.flash.forget_plan();
+    }
+}
+
+// After how many operations of the part more the next one is befallen at a moment, and by what.
+fn trouble_at(fault: DevFault, moment: u8) -> (u64, Trouble) {
+    match (fault, moment % 3) {
+        (DevFault::Failed, _) => (u64::from(moment), Trouble::Fails),
+        (DevFault::PowerCut, 0) => (u64::from(moment / 3), Trouble::CutBefore),
+        (DevFault::PowerCut, 1) => (u64::from(moment / 3), Trouble::CutWithin),
+        (DevFault::PowerCut, _) => (u64::from(moment / 3), Trouble::CutAfter),
     }
 }

@@ -1,5 +1,6 @@
 //! The checklist, run over flashes in memory and over drivers that break a rule.
-use driver_benches::{FlashBench, Flaw, Flawed, MemoryPart, Way};
+use dense_nor::{DenseLayout, DenseNorFlash};
+use driver_benches::{DensePart, FlashBench, Flaw, Flawed, MemoryPart, Way};
 use driver_checks::{Bench, Case, check_driver};
 use flash_model::Geometry;
 use flash_simulation::SimFlash;
@@ -25,6 +26,16 @@ fn nor_bench(alloc: Global) -> Result<FlashBench<MemoryPart>, Fail> {
     Ok(FlashBench::new(MemoryPart { flash })?)
 }
 
+// The same with the dense layout.
+fn dense_bench(alloc: Global) -> Result<FlashBench<DensePart>, Fail> {
+    let part = MemoryNor::new(alloc, 32)?;
+    let Some(layout) = DenseLayout::of(2) else {
+        return Err(Fail::new("no layout"));
+    };
+    let flash = DenseNorFlash::new(alloc, part, layout)?;
+    Ok(FlashBench::new(DensePart { flash })?)
+}
+
 // A flash that was used passes as a new one does.
 #[test]
 fn flashes_in_memory_pass(rt: HostRuntime) -> Result<(), Fail> {
@@ -34,6 +45,11 @@ fn flashes_in_memory_pass(rt: HostRuntime) -> Result<(), Fail> {
     for _ in 0..3 {
         let failed = check_driver(rt.alloc(), &mut bench)?;
         assert!(rt; failed.is_empty(), "over a part: {failed:?}");
+    }
+    let mut bench = dense_bench(rt.alloc())?;
+    for _ in 0..3 {
+        let failed = check_driver(rt.alloc(), &mut bench)?;
+        assert!(rt; failed.is_empty(), "over a dense part: {failed:?}");
     }
     Ok(())
 }
@@ -66,6 +82,20 @@ fn flaws_are_told(rt: HostRuntime) -> Result<(), Fail> {
     for case in cases {
         expect_told(&rt, rt.alloc(), sim_bench(rt.alloc())?, Flaw::of(case))?;
         expect_told(&rt, rt.alloc(), nor_bench(rt.alloc())?, Flaw::of(case))?;
+    }
+    Ok(())
+}
+
+// A cut program that loses the pages before it in its block is told, at each of its moments.
+#[test]
+fn cuts_that_spread_are_told(rt: HostRuntime) -> Result<(), Fail> {
+    for moment in 0..6 {
+        let flaw = Flaw::at(Case::CutProgram, Way::Spreads, moment);
+        if moment < 3 {
+            expect_told(&rt, rt.alloc(), sim_bench(rt.alloc())?, flaw)?;
+        }
+        expect_told(&rt, rt.alloc(), nor_bench(rt.alloc())?, flaw)?;
+        expect_told(&rt, rt.alloc(), dense_bench(rt.alloc())?, flaw)?;
     }
     Ok(())
 }

@@ -7,6 +7,7 @@ use fs_types::{Fault, MAX_VERSIONS, MIN_BLOCK_BYTES, MIN_VERSIONS, Path};
 use host_files::{ImageFiles, Source, UnreadCause, takes_away};
 use image_jobs::{Failure, SourceFault, explain_refusal, explain_unread, load};
 use jobs::{Job, Task};
+use raw_part::PartLayout;
 use record_sizes::recorded_sizes;
 use script::print_name;
 use script_runs::{Refusal, mount_as_planned};
@@ -257,7 +258,10 @@ fn tell_refused_sizes<E: Write>(
 fn refused_number(alloc: Global, job: Job<'_>, fault: Fault) -> Result<Option<String>, AllocError> {
     let text = match (fault, job.command) {
         (Fault::BadGeometry, Task::ToRaw) => {
-            String::from_str(alloc, "its pages are not 256 bytes, 16 in a block")?
+            String::from_str(
+                alloc,
+                "its pages are not 256 bytes, 16, 31, 46, 62 .. 992 in a block",
+            )?
         }
         (Fault::BadGeometry, Task::FromRaw) => refused_raw(alloc, job)?,
         _ => return format_number(alloc, sizes_of(job), job.history, fault),
@@ -313,25 +317,33 @@ fn refused_raw(alloc: Global, job: Job<'_>) -> Result<String, AllocError> {
     if page != 256 {
         return format!(in alloc; "--page {page} is not 256");
     }
-    if pages != 16 {
-        return format!(in alloc; "--pages {pages} is not 16");
-    }
+    let Some(layout) = PartLayout::of_pages(pages) else {
+        return format!(in alloc; "--pages {pages} is not 16, 31, 46, 62 .. 992");
+    };
+    let bytes = layout.part_block();
+    let most = most_blocks(pages);
     if job.is_blocks_given {
-        return refused_first_blocks(alloc, job.blocks);
+        return refused_first_blocks(alloc, job.blocks, bytes, most);
     }
-    String::from_str(
-        alloc,
-        "it has not 8192 bytes for each of 16 to 16384 blocks",
-    )
+    format!(in alloc; "it has not {bytes} bytes for each of 16 to {most} blocks")
 }
 
-/// Why so many first blocks of the bytes of a part are refused.
-fn refused_first_blocks(alloc: Global, blocks: u32) -> Result<String, AllocError> {
-    if matches!(blocks, 16..=16384) {
-        format!(in alloc; "it has not 8192 bytes for each of {blocks} blocks")
-    } else {
-        format!(in alloc; "--blocks {blocks} is not 16 to 16384")
+/// The most blocks of so many pages of 256 bytes.
+fn most_blocks(pages: u32) -> usize {
+    MAX_FLASH_BYTES / (256 * (pages as usize).max(1))
+}
+
+/// Why so many first blocks of the bytes of a part are refused, of which each has so many bytes there.
+fn refused_first_blocks(
+    alloc: Global,
+    blocks: u32,
+    bytes: usize,
+    most: usize,
+) -> Result<String, AllocError> {
+    if blocks < 16 || most < blocks as usize {
+        return format!(in alloc; "--blocks {blocks} is not 16 to {most}");
     }
+    format!(in alloc; "it has not {bytes} bytes for each of {blocks} blocks")
 }
 
 /// The first of the sizes that is none, with what it may be beside those before it.

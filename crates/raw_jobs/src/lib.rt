@@ -1,6 +1,6 @@
 //! What is done with the bytes of a serial NOR part: they are made of an image, and become one.
 //!
-//! Their layout is that of `raw_part`, and the files are claimed by `host_files`.
+//! Their layout is one of `raw_part`, and the files are claimed by `host_files`.
 #![tactic(auto)]
 
 mod making;

@@ -2,10 +2,10 @@
 ghost use Rattle.std.specs.Prelude.{◌≡◌, IfOk, IfErr, OnOk};
 ghost use Rattle.flash_simulation.specs.Simulation.{device_of};
 ghost use Rattle.host_files.specs.Files.{KeepsOthers};
-ghost use Rattle.raw_part.specs.Raws.{IsRaw};
+ghost use Rattle.raw_part.specs.Raws.{IsRawOf};
 ghost use Rattle.raw_jobs.specs.Making.{RawCause, RawEnds, FromRawEnds, IsRawFile, RawFileCause, WritesImage};
 
-use crate::taking::{RawSizes, flash_of_taken};
+use crate::taking::{RawSizes, flash_of_taken, layout_asked};
 use flash_simulation::SimFlash;
 use fs_types::Fault;
 use host_files::{FileFault, ImageFiles};
@@ -45,7 +45,7 @@ pub fn image_to_raw<F: ImageFiles>(
 
 /// The bytes of the part on which a flash stands.
 fn raw_bytes(alloc: Global, flash: &SimFlash) -> Result<Vec<u8>, Failure>
-    ensures ok { IfOk result (λ bytes. IsRaw (device_of flash.now) bytes.items) }
+    ensures ok { IfOk result (λ bytes. IsRawOf (device_of flash.now) bytes.items) }
     ensures err { IfErr result (RawCause (device_of flash.now)) }
 {
     match raw_of(alloc, flash) {
@@ -56,8 +56,8 @@ fn raw_bytes(alloc: Global, flash: &SimFlash) -> Result<Vec<u8>, Failure>
 
 /// Makes an image of the part of which a file has the bytes, in the place of what has a name, which is
 /// claimed then. Refused at once where that takes the file away. Pages of 256 bytes are to be asked for,
-/// and blocks of 16 pages. Where a number of blocks is asked for the first ones are taken, and what stands
-/// after them is not looked at.
+/// and blocks of as many pages as those of a layout have. Where a number of blocks is asked for the first
+/// ones are taken, and what stands after them is not looked at.
 pub fn raw_to_image<F: ImageFiles>(
     files: &mut F,
     alloc: Global,
@@ -90,19 +90,18 @@ fn load_raw<F: ImageFiles>(
     name: &str,
     sizes: RawSizes,
 ) -> Result<SimFlash, Failure>
-    ensures ok { IfOk result (λ flash. IsRawFile sizes.blocks (F.held files.now name.now) (device_of flash)) }
-    ensures sizes { OnOk result ((sizes.page ≡ 256) × (sizes.pages ≡ 16)) }
+    ensures ok { IfOk result (λ flash. IsRawFile sizes (F.held files.now name.now) (device_of flash)) }
     ensures err { IfErr result (RawFileCause sizes (F.held files.now name.now)) }
 {
-    if sizes.page != 256 || sizes.pages != 16 {
+    let Some(layout) = layout_asked(sizes) else {
         return Err(Failure::System(Fault::BadGeometry));
-    }
+    };
     let bytes = match files.read(alloc, name) {
         Ok(bytes) => bytes,
         Err(FileFault::Memory) => return Err(Failure::Memory),
         Err(_) => return Err(Failure::CannotRead),
     };
-    flash_of_taken(alloc, &bytes, sizes.blocks)
+    flash_of_taken(alloc, &bytes, layout, sizes.blocks)
 }
 
 /// Puts the image of a flash in the place of what has a claimed name.

@@ -1,3 +1,4 @@
+pub mod Placed
 pub mod Spelled
 pub mod Read
 pub mod RoundTrips

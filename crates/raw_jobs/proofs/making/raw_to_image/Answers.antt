@@ -9,5 +9,4 @@ returns-in-Ok-claim-clause-ends g c =
     let flash = c.in-Ok-load_raw.flash in
     let written = subst (λ (h : Held). WritesImage (device_of flash) (h c.args.name.now) (g.F.ImageFiles.held c.save_flash.new.files c.args.name.now) c.save_flash.result)
     c.claim.ensures.same c.save_flash.ensures.ends in
-    let sizes = c.in-Ok-load_raw.ensures.sizes in
-    inr (flash, c.in-Ok.ensures.ok, sizes.0, sizes.1, c.in-Ok-load_raw.ensures.ok, written)
+    inr (flash, c.in-Ok.ensures.ok, c.in-Ok-load_raw.ensures.ok, written)

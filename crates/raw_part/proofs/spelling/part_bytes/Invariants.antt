@@ -5,4 +5,4 @@ use Rattle.raw_part.specs.Raws.{part_page}
 use Rattle.raw_part.proofs.spelling.part_bytes.Given as goal
 
 abbrev pub invariant-loop-number : goal.invariant-loop-number
-invariant-loop-number l = l.bytes.items ≡ parts l.number (part_page (device_of l.flash))
+invariant-loop-number l = l.bytes.items ≡ parts l.number (part_page l.layout (device_of l.flash))

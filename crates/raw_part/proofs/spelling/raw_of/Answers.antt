@@ -1,15 +1,16 @@
-use Rattle.std.proofs.Common.{◌≡◌, ap, arith}
-use Rattle.flash_model.specs.declared.geometry.Geometry.{Geometry}
+use Rattle.std.proofs.Common.{arith}
 use Rattle.flash_simulation.specs.Simulation.{device_of}
 use Rattle.part_file.proofs.Putting.{whole_page}
-use Rattle.raw_part.proofs.Spelled.{sized, raw_is}
+use Rattle.raw_part.proofs.Placed.{sized_by}
+use Rattle.raw_part.proofs.Spelled.{raw_is}
 use Rattle.raw_part.proofs.spelling.raw_of.Goals as goal
+
+pub part_bytes-requires : goal.part_bytes-requires
+part_bytes-requires c = sized_by c.in-Some.layout (device_of c.args.flash.now).geometry c.geometry-sizes.result c.geometry-sizes.ensures (omega arith) c.in-Some.ensures.some
 
 pub returns-in-Ok-clause-ok : goal.returns-in-Ok-clause-ok
 returns-in-Ok-clause-ok c =
     let d = device_of c.args.flash.now in
-    let page : c.geometry-sizes.result.page ≡ d.geometry.page = ap (λ (g : Geometry). g.page) c.geometry-sizes.ensures in
-    let pages : c.geometry-sizes.result.pages ≡ d.geometry.pages = ap (λ (g : Geometry). g.pages) c.geometry-sizes.ensures in
-    let is_page : d.geometry.page ≡ 256 = omega arith in
-    let is_pages : d.geometry.pages ≡ 16 = omega arith in
-    raw_is d c.in-Ok.bytes.items c.args.flash.now.lawful (sized d.geometry is_page is_pages) (λ q. whole_page c.args.flash.now q) c.in-Ok.ensures
+    let layout = c.in-Some.layout in
+    let sizes = sized_by layout d.geometry c.geometry-sizes.result c.geometry-sizes.ensures (omega arith) c.in-Some.ensures.some in
+    (layout, raw_is layout d c.in-Ok.bytes.items c.args.flash.now.lawful sizes (λ q. whole_page c.args.flash.now q) c.in-Ok.ensures)

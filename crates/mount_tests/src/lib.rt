@@ -17,6 +17,8 @@ mod nor_reads;
 #[cfg(test)]
 mod nor_sessions;
 #[cfg(test)]
+mod over_parts;
+#[cfg(test)]
 mod reads;
 #[cfg(test)]
 mod records;

@@ -1,9 +1,13 @@
-//! Scripts over a serial NOR part in memory: one after the other, and with one operation of the part troubled.
+//! Scripts over a serial NOR part in memory, of each layout: one after the other, and with one operation of
+//! the part troubled.
+use crate::over_parts::{OverPart, formatted};
+use dense_nor::DenseNorFlash;
 use nor_part::{MemoryNor, NorFlash, Trouble};
 use script_runs::run_script_on;
 use std::alloc::Global;
+use std::process::Abort;
 use std::test::Fail;
-use undofs::{Flash, format};
+use undofs::Flash;
 
 // Scripts that are run one after the other, each on what a restart finds of those before it.
 pub(crate) const SESSION: [(&str, &str); 5] = [
@@ -26,25 +30,10 @@ pub(crate) const SESSION: [(&str, &str); 5] = [
     ("ls /a\nread /a/g 300 2\n", "entries 1 g\ndata 4142\n"),
 ];
 
-// So many programs and erases of the part make a directory in the root and commit it: two nodes, each a
-// block that is erased in two sectors and a page with its mark, and the page of the record with its mark.
-const CHANGE: u64 = 2 * (2 + 2) + 2;
-
-// Those of them that are asked of data blocks.
-const OF_NODES: u64 = 8;
-
-/// A flash over a part of 64 sectors, with an empty file system.
-pub(crate) fn formatted(alloc: Global) -> Result<NorFlash<MemoryNor>, Fail> {
-    let part = MemoryNor::new(alloc, 64)?;
-    let mut flash = NorFlash::new(alloc, part)?;
-    format(alloc, &mut flash, 8)?;
-    Ok(flash)
-}
-
 /// What a script is answered.
-pub(crate) fn replies(
+pub(crate) fn replies<F: Flash>(
     alloc: Global,
-    flash: &mut NorFlash<MemoryNor>,
+    flash: &mut F,
     script: &str,
 ) -> Result<String, Fail> {
     let mut reader = script.as_bytes();
@@ -53,63 +42,59 @@ pub(crate) fn replies(
     Ok(String::from_utf8(out)?)
 }
 
-/// A flash made anew over the same part, with power on and nothing planned.
-pub(crate) fn restarted(
-    alloc: Global,
-    mut flash: NorFlash<MemoryNor>,
-) -> Result<NorFlash<MemoryNor>, Fail> {
-    flash.forget_plan();
-    flash.power_on();
-    Ok(flash.reopen(alloc)?)
-}
-
-#[test]
-fn a_session_runs(rt: HostRuntime) -> Result<(), Fail> {
-    let mut flash = formatted(rt.alloc())?;
+/// Each script is answered as it should be, with a restart after each one.
+fn run_session<F: OverPart, R: Abort>(rt: &R, alloc: Global) -> Result<(), Fail> {
+    let mut flash: F = formatted(alloc)?;
     for (script, wanted) in SESSION {
-        let told = replies(rt.alloc(), &mut flash, script)?;
+        let told = replies(alloc, &mut flash, script)?;
         assert_eq!(rt; told.as_str(), wanted, "{script}");
-        flash = restarted(rt.alloc(), flash)?;
+        flash = flash.restarted(alloc)?;
     }
     Ok(())
 }
 
+#[test]
+fn a_session_runs(rt: HostRuntime) -> Result<(), Fail> {
+    run_session::<NorFlash<MemoryNor>, HostRuntime>(&rt, rt.alloc())?;
+    run_session::<DenseNorFlash<MemoryNor>, HostRuntime>(&rt, rt.alloc())
+}
+
 /// What is answered where the part is troubled in a change and its commit, and what a script is told after a
 /// restart.
-fn troubled(
+fn troubled<F: OverPart>(
     alloc: Global,
     good: u64,
     trouble: Trouble,
     script: &str,
 ) -> Result<(String, String), Fail> {
-    let mut flash = formatted(alloc)?;
+    let mut flash: F = formatted(alloc)?;
     replies(alloc, &mut flash, "mkdir /a\nsync\n")?;
-    flash.plan(good, trouble);
+    flash.trouble(good, trouble);
     let told = replies(alloc, &mut flash, "mkdir /b\nsync\n")?;
-    let mut flash = restarted(alloc, flash)?;
+    let mut flash = flash.restarted(alloc)?;
     let found = replies(alloc, &mut flash, script)?;
     Ok((told, found))
 }
 
 /// Whether a change and its commit are found whole or not at all where power goes after so many operations:
 /// it is found where the commit answered Ok, and what is found can be taken back.
-fn is_cut(alloc: Global, good: u64, trouble: Trouble) -> Result<bool, Fail> {
+fn is_cut<F: OverPart>(alloc: Global, good: u64, trouble: Trouble) -> Result<bool, Fail> {
     let before = "entries 1 a/\nok\nentries 0\n";
     let after = "entries 2 a/ b/\nok\nentries 1 a/\n";
-    let (told, found) = troubled(alloc, good, trouble, "ls /\nundo\nls /\n")?;
+    let (told, found) = troubled::<F>(alloc, good, trouble, "ls /\nundo\nls /\n")?;
     let is_done = told.as_str() == "ok\nok\n";
-    let is_last = good.saturating_add(1) == CHANGE && trouble == Trouble::CutAfter;
+    let is_last = good.saturating_add(1) == F::change() && trouble == Trouble::CutAfter;
     let wanted = if is_done || is_last { after } else { before };
-    Ok(is_done == (good == CHANGE) && found.as_str() == wanted)
+    Ok(is_done == (good == F::change()) && found.as_str() == wanted)
 }
 
 /// Whether all is answered as if none had failed where an operation fails after so many: the block is left,
 /// and a restart finds the change.
-fn is_passed(alloc: Global, good: u64) -> Result<bool, Fail> {
-    let (told, left) = troubled(alloc, good, Trouble::Fails, "df\nls /\n")?;
-    let wanted = if good < OF_NODES {
+fn is_passed<F: OverPart>(alloc: Global, good: u64) -> Result<bool, Fail> {
+    let (told, left) = troubled::<F>(alloc, good, Trouble::Fails, "df\nls /\n")?;
+    let wanted = if good < F::of_nodes() {
         "df data 24 bad 1 free 18 anchors 8\nentries 2 a/ b/\n"
-    } else if good < CHANGE {
+    } else if good < F::change() {
         "df data 24 bad 0 free 19 anchors 7\nentries 2 a/ b/\n"
     } else {
         "df data 24 bad 0 free 19 anchors 8\nentries 2 a/ b/\n"
@@ -117,15 +102,26 @@ fn is_passed(alloc: Global, good: u64) -> Result<bool, Fail> {
     Ok(told.as_str() == "ok\nok\n" && left.as_str() == wanted)
 }
 
-// Power goes before, in and after each program and erase of a change and its commit, and each of them fails.
-#[test]
-fn each_operation_is_troubled_once(rt: HostRuntime) -> Result<(), Fail> {
-    for good in 0..=CHANGE {
+/// Power goes before, in and after each program and erase of a change and its commit, and each of them fails.
+fn trouble_each<F: OverPart, R: Abort>(rt: &R, alloc: Global) -> Result<(), Fail> {
+    for good in 0..=F::change() {
         for trouble in [Trouble::CutBefore, Trouble::CutWithin, Trouble::CutAfter] {
-            let is_right = is_cut(rt.alloc(), good, trouble)?;
+            let is_right = is_cut::<F>(alloc, good, trouble)?;
             assert!(rt; is_right, "{trouble:?} {good}");
         }
-        assert!(rt; is_passed(rt.alloc(), good)?, "{good}");
+        assert!(rt; is_passed::<F>(alloc, good)?, "{good}");
     }
     Ok(())
+}
+
+#[test]
+fn each_operation_is_troubled_once(rt: HostRuntime) -> Result<(), Fail> {
+    trouble_each::<NorFlash<MemoryNor>, HostRuntime>(&rt, rt.alloc())
+}
+
+// The last operation of a commit is the program of a mark on the page that has the mark of the newest record:
+// that one stays where it is torn, and where it fails.
+#[test]
+fn each_operation_on_a_dense_part_is_troubled_once(rt: HostRuntime) -> Result<(), Fail> {
+    trouble_each::<DenseNorFlash<MemoryNor>, HostRuntime>(&rt, rt.alloc())
 }

@@ -10,6 +10,8 @@ mod caches;
 #[cfg(test)]
 mod commits;
 #[cfg(test)]
+mod dense_marks;
+#[cfg(test)]
 mod directories;
 #[cfg(test)]
 mod extended_headers;

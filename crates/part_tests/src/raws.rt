@@ -1,4 +1,5 @@
 //! The bytes that `raw_part` makes, programmed into a part in memory.
+use dense_nor::{DenseLayout, DenseNorFlash};
 use flash_model::Geometry;
 use flash_simulation::SimFlash;
 use nor_part::{MemoryNor, Nor, NorFlash};
@@ -25,22 +26,32 @@ fn program_all(part: &mut MemoryNor, bytes: &[u8]) {
     }
 }
 
-#[test]
-fn a_part_with_the_bytes_of_an_image_has_its_files(rt: HostRuntime) -> Result<(), Fail> {
-    let alloc = rt.alloc();
+/// A part of 64 sectors with the bytes of an image of 32 blocks, in which a file was made.
+fn part_of_image(alloc: Global, pages: u32) -> Result<MemoryNor, Fail> {
     let sizes = Geometry {
         page: 256,
-        pages: 16,
+        pages,
         blocks: 32,
     };
     let mut flash = SimFlash::new(alloc, sizes, &[])?;
     format(alloc, &mut flash, 8)?;
-    let made = replies(alloc, &mut flash, "mkdir /a\nwrite /a/f 6869\nsync\n")?;
-    assert_eq!(rt; made.as_str(), "ok\nok\nok\n");
+    replies(alloc, &mut flash, "mkdir /a\nwrite /a/f 6869\nsync\n")?;
     let mut part = MemoryNor::new(alloc, 64)?;
     program_all(&mut part, &raw_of(alloc, &flash)?);
-    let mut over = NorFlash::new(alloc, part)?;
-    let found = replies(alloc, &mut over, "read /a/f 0 9\nundo\nls /a\nsync\n")?;
-    assert_eq!(rt; found.as_str(), "data 6869\nok\nentries 0\nok\n");
+    Ok(part)
+}
+
+#[test]
+fn a_part_with_the_bytes_of_an_image_has_its_files(rt: HostRuntime) -> Result<(), Fail> {
+    let alloc = rt.alloc();
+    let asked = "read /a/f 0 9\nundo\nls /a\nsync\n";
+    let wanted = "data 6869\nok\nentries 0\nok\n";
+    let mut sure = NorFlash::new(alloc, part_of_image(alloc, 16)?)?;
+    assert_eq!(rt; replies(alloc, &mut sure, asked)?.as_str(), wanted);
+    let Some(layout) = DenseLayout::of(2) else {
+        return Err(Fail::new("no layout"));
+    };
+    let mut dense = DenseNorFlash::new(alloc, part_of_image(alloc, 31)?, layout)?;
+    assert_eq!(rt; replies(alloc, &mut dense, asked)?.as_str(), wanted);
     Ok(())
 }

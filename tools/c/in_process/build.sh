@@ -1,9 +1,9 @@
 #!/bin/bash
 # Proves undofs for a C program and builds it: tools/c/in_process/build.sh FOLDER [CHECKOUT]
-# FOLDER lies outside of the checkout. It gets libundofs_in_process.a, libundofs_nor_in_process.a, libundofs_driver_checks.a,
-# libheap.a, what the prover said, and the work of the proofs, and is kept for the next time. The crates below are those of the
+# FOLDER lies outside of the checkout. It gets libundofs_in_process.a, libundofs_nor_in_process.a, libundofs_dense_nor_in_process.a,
+# libundofs_driver_checks.a, libheap.a, what the prover said, and the work of the proofs, and is kept for the next time. The crates below are those of the
 # gate: `rt ci` proves them there, or takes what it proved on this machine before. The crates of this folder are proved over them;
-# what is assumed of C is c_flash, c_nor and c_chip alone. The last lines name the C functions that each library reaches, and tell
+# what is assumed of C is c_flash, c_nor, c_dense_nor and c_chip alone. The last lines name the C functions that each library reaches, and tell
 # the verdicts. With CHECKOUT, where `rt lib` proved crates below, their libraries are taken from there as they are, and only what is
 # not there, or is of other sources or another toolchain, is proved here. Of each it is told which.
 set -eo pipefail

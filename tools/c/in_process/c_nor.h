@@ -1,6 +1,6 @@
 /* What undofs on a serial NOR part asks of C inside of a C program, and the one function that C calls: those of crates/c_nor and
  * of crates/undofs_nor_in_process. Lines and replies are those of c_flash.h, and what stands there of handles is so here.
- * nor_in_process.c defines the five over a driver of nor_in_process.h.
+ * nor_driver.c defines the five over a driver of nor_in_process.h.
  *
  * A part has pages of 256 bytes, sixteen in a sector. Before each call this is proved: the page is below the number that
  * c_nor_open told, `count` is 256 at most, and all sixteen pages of the sector are below that number. The answers are C_FLASH_DONE,

@@ -8,7 +8,7 @@ copy_crates() {
     local crate
     rm -rf "$made/copy"
     mkdir -p "$made/copy/crates"
-    for crate in fs_types counts flash_model nor_part c_answers $of_c; do
+    for crate in fs_types counts flash_model nor_part dense_nor c_answers $of_c; do
         cp -a "$room/crates/$crate" "$made/copy/crates/"
         grep -E "^$crate( [^:]*)?:" "$room/crates.txt" >> "$made/copy/crates.txt"
     done
@@ -76,6 +76,16 @@ try_ensures_of_nor() {
     is_proved "and what does not stand on them is proved" c_nor::c_nor::CNorNor::page_count
 }
 
+try_ensures_of_dense_nor() {
+    edit keeps c_dense_nor c_dense_nor.rt "/^        ensures keeps /d"
+    edit unmarked c_dense_nor c_dense_nor.rt "/^        ensures unmarked { (page i/$drop"
+    check c_dense_nor
+    tell "c_dense_nor with fewer ensures is refused" $(($? == 0))
+    is_refused "a program of which it is not ensured that others stay is refused" c_dense_nor::c_dense_nor::CDenseNorDenseNor::program_dense
+    is_refused "an erase of which marks are not ensured is refused" c_dense_nor::c_dense_nor::CDenseNorDenseNor::erase_dense
+    is_proved "and what does not stand on them is proved" c_dense_nor::c_dense_nor::CDenseNorNor::erase
+}
+
 try_ensures_of_chip() {
     edit read c_chip c_chip.rt "/^        ensures shows { ReportsPage (pages_of chip/d"
     edit moments c_chip c_chip.rt "/^        ensures { result ≡ moments_at /$drop"
@@ -93,6 +103,7 @@ try_ensures() {
     copy_crates
     try_ensures_of_flash
     try_ensures_of_nor
+    try_ensures_of_dense_nor
     try_ensures_of_chip
 }
 
@@ -130,6 +141,14 @@ try_edits_of_nor() {
     is_proved "and a call as it has to be is proved" c_nor::c_nor::erase_as_it_has_to_be
 }
 
+try_edits_of_dense_nor() {
+    add_calls dense_nor c_dense_nor c_dense_nor
+    check c_dense_nor
+    tell "c_dense_nor with calls out of bounds is refused" $(($? == 0))
+    are_refused c_dense_nor::c_dense_nor program_in_no_range program_of_any_length erase_in_no_range
+    is_proved "and a call as it has to be is proved" c_dense_nor::c_dense_nor::erase_as_it_has_to_be
+}
+
 try_edits_of_chip() {
     add_calls chip c_chip c_chip
     check c_chip
@@ -143,6 +162,7 @@ try_edits() {
     copy_crates
     try_edits_of_flash
     try_edits_of_nor
+    try_edits_of_dense_nor
     try_edits_of_chip
     edit unreadable_is_told_as_data c_answers lib.rt 's/2 => Ok(PageState::Unreadable)/2 => Ok(PageState::Data)/'
     check c_answers
@@ -209,6 +229,7 @@ try_verdicts() {
     reaches undofs_in_process c_flash 10 10
     reaches undofs_nor_in_process c_flash 5 10
     reaches undofs_nor_in_process c_nor 5 5
+    reaches undofs_dense_nor_in_process c_dense_nor 2 2
     reaches undofs_driver_checks c_chip 7 7
 }
 

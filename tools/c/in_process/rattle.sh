@@ -4,7 +4,7 @@ rt=${RT:-rt}
 kit=$(dirname "$(dirname "$(readlink -f "$(command -v rt)")")")
 
 # The crates that declare C functions.
-of_c="c_flash c_chip c_nor"
+of_c="c_flash c_chip c_nor c_dense_nor"
 
 # Runs the prover on a crate over the libraries that were built in a folder: the folder, the crate, check or build, and more words.
 # Each crate says which C it is linked with: those of C alone with any.

@@ -15,6 +15,7 @@ struct nor_operation {
     uint8_t wanted[NOR_PAGE];
     uint8_t before[NOR_PAGES][NOR_PAGE];
     uint8_t is_sure[NOR_PAGES]; /* that `before` is what the page had */
+    int is_dense;               /* more is asked of it: c_dense_nor.h */
 };
 
 struct shown_sectors {
@@ -35,5 +36,9 @@ uint32_t shown_sectors_read(struct shown_sectors *sectors, uint32_t page, uint8_
 uint32_t shown_sectors_program(struct shown_sectors *sectors, uint32_t page, const uint8_t *bytes, size_t count);
 uint32_t shown_sectors_erase(struct shown_sectors *sectors, uint32_t sector);
 void shown_sectors_power_on(struct shown_sectors *sectors);
+
+/* What c_dense_nor.h asks for. A page on which a mark began is looked at by its first four bytes alone, whatever sum comes after. */
+uint32_t shown_sectors_program_dense(struct shown_sectors *sectors, uint32_t page, const uint8_t *bytes, size_t count);
+uint32_t shown_sectors_erase_dense(struct shown_sectors *sectors, uint32_t sector);
 
 #endif

@@ -1,7 +1,7 @@
 #!/bin/bash
 # Tries undofs inside of a C program: tools/c/in_process/test.sh FOLDER PROGRAM [CASE ..]
 # FOLDER is one that build.sh filled, PROGRAM the `uffs` of the same sources. Without a CASE all are tried: demos, example,
-# sessions, handles, bytes, pages, liars, memory, holds, nor, checks, wrong, proofs. The last line counts. By hand, and no part of ./test.sh.
+# sessions, handles, bytes, pages, liars, memory, holds, nor, dense_nor, checks, wrong, proofs. The last line counts. By hand, and no part of ./test.sh.
 [ $# -ge 2 ] || { sed -n 2,4p "$0"; exit 2; }
 room=$(realpath "$1") program=$(realpath "$2") || exit 2
 shift 2
@@ -26,7 +26,8 @@ tell() {
 }
 
 of_flash="service.c in_process.c shown_pages.c"
-of_nor="service.c nor_in_process.c shown_sectors.c"
+of_nor="service.c nor_driver.c nor_in_process.c shown_sectors.c"
+of_dense_nor="service.c nor_driver.c dense_nor_in_process.c shown_sectors.c"
 
 # Builds a program with a library: its name, the flags, and its sources. LIBRARY is the library, where it is not undofs_in_process; TURNS
 # and SYSTEM name the files that run the service and that are the handle, where others than those of this folder are wanted.
@@ -38,8 +39,9 @@ build() {
         -Wl,--gc-sections "$room/lib${LIBRARY:-undofs_in_process}.a" "$room/libheap.a" -lm -lpthread -o "$made/$name"
 }
 
-# The same with the library for a serial NOR part.
+# The same with the libraries for a serial NOR part, of each layout.
 build_nor() { LIBRARY=undofs_nor_in_process SYSTEM=${SYSTEM:-$of_nor} build "$@"; }
+build_dense_nor() { LIBRARY=undofs_dense_nor_in_process SYSTEM=${SYSTEM:-$of_dense_nor} build "$@"; }
 
 # Builds a program with the checklist for drivers.
 build_checks() {
@@ -233,8 +235,13 @@ try_holds() {
 # ---- a serial NOR part, and the checklist for drivers ----
 
 try_nor() {
-    build_nor nor "$sanitizers" tests/nor_memory.c tests/calls.c tests/nor.c
+    build_nor nor "$sanitizers" tests/nor_memory.c tests/nor_sessions.c tests/calls.c tests/nor.c
     run_cases "a serial NOR part" 900 nor
+}
+
+try_dense_nor() {
+    build_dense_nor dense_nor "$sanitizers" tests/nor_memory.c tests/nor_sessions.c tests/calls.c tests/dense_nor.c
+    run_cases "a serial NOR part of the dense layout" 900 dense_nor
 }
 
 nand="../nand_in_memory.c ../raw_nand.c"
@@ -280,7 +287,8 @@ wrong_bytes() { wrong_flash "$1" bytes; }
 wrong_pages() { wrong_flash "$1" pages; }
 wrong_liars() { wrong_flash "$1" liars; }
 wrong_memory() { SYSTEM=${of_flash/$1/$made/$1} build wrong "$wraps" tests/ram_part.c tests/memory.c; }
-wrong_nor() { SYSTEM=${of_nor/$1/$made/$1} build_nor wrong "" tests/nor_memory.c tests/calls.c tests/nor.c; }
+wrong_nor() { SYSTEM=${of_nor/$1/$made/$1} build_nor wrong "" tests/nor_memory.c tests/nor_sessions.c tests/calls.c tests/nor.c; }
+wrong_dense_nor() { SYSTEM=${of_dense_nor/$1/$made/$1} build_dense_nor wrong "" tests/nor_memory.c tests/nor_sessions.c tests/calls.c tests/dense_nor.c; }
 # shellcheck disable=SC2086
 wrong_checks() { build_checks wrong "" "$made/$1" $nand tests/checks.c; }
 
@@ -303,7 +311,9 @@ try_wrong() {
     wrong what_is_lost_is_shown shown_sectors.c 's/return is_lawful ? now : (uint32_t)NEVER_SHOWN;/return is_lawful ? now : now;/' nor
     wrong marks_leave_no_trace shown_sectors.c 's/ \&\& !(is_failed \&\& is_without_trace(o, s->page))/ \&\& (is_failed || !is_failed || is_without_trace(o, s->page))/' nor
     wrong a_cut_is_not_remembered shown_sectors.c 's/^    s->is_cut = 1;$//' nor
-    wrong a_second_handle_on_nor nor_in_process.c 's/n->handle.driver = driver;/n->handle.driver = n;/;s/n->handle.part = driver->part;/n->handle.part = n;/' nor
+    wrong a_mark_by_chance_is_shown shown_sectors.c 's/ \&\& begins_mark(now, place)) return 0;/ \&\& 0 > 1) return 0;/' dense_nor
+    wrong marks_beside_may_change shown_sectors.c 's/) return now == before;/) return now == before || now != 0;/' dense_nor
+    wrong a_second_handle_on_nor nor_driver.c 's/n->handle.driver = driver;/n->handle.driver = n;/;s/n->handle.part = driver->part;/n->handle.part = n;/' nor
     wrong power_is_never_off driver_checks.c 's/^    run->is_cut = 1;$/    run->is_cut = 0;/' checks
     wrong sizes_are_those_of_the_sheet driver_checks.c 's/chip->told_blocks = told.blocks;//' checks
 }
@@ -312,7 +322,7 @@ try_wrong() {
 
 . ./proofs.sh
 
-cases=${*:-demos example sessions handles bytes pages liars memory holds nor checks wrong proofs}
+cases=${*:-demos example sessions handles bytes pages liars memory holds nor dense_nor checks wrong proofs}
 for case in $cases; do "try_$case"; done
 echo "$passed passed, $failed failed"
 [ "$failed" = 0 ]

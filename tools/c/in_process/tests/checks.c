@@ -29,6 +29,7 @@ struct chip {
     enum undofs_answer fault;
     uint8_t moment;
     uint32_t last; /* the page that was programmed last */
+    int spreads; /* a program that is troubled spoils the pages before it in its block */
     int is_misused;
 };
 
@@ -66,6 +67,7 @@ static void store(struct chip *c, uint32_t page, const uint8_t *bytes, uint8_t s
 }
 
 static enum undofs_answer end_troubled(struct chip *c, uint32_t page, const uint8_t *bytes) {
+    if (c->spreads) memset(c->states + page / PAGES * PAGES, UNDOFS_UNREADABLE, page % PAGES);
     int is_broken = c->flaw == (c->fault == UNDOFS_FAILED ? FAILED_PROGRAM : CUT_PROGRAM);
     if (is_broken && c->fault == UNDOFS_FAILED) store(c, page, bytes, UNDOFS_DATA);
     else if (is_broken) lose(c, c->first);
@@ -161,6 +163,14 @@ static void wrong_ones(void) {
     }
 }
 
+/* Pages that were written before are spoilt, as by a torn mark beside theirs. */
+static void spreading_one(void) {
+    uint8_t failed[UNDOFS_CASES];
+    struct undofs_bench bench = bench_of(&chip, NONE);
+    chip.spreads = 1;
+    tell("a driver whose troubled programs spoil pages before them is told", undofs_check(&bench, failed) == 0 && failed[FAILED_PROGRAM] == 1 && failed[CUT_PROGRAM] == 1 && !chip.is_misused);
+}
+
 static uint8_t no_moments(void *part, enum undofs_operation operation, enum undofs_answer fault) { return (void)part, (void)operation, (void)fault, 0; }
 
 static void refused_ones(void) {
@@ -254,6 +264,7 @@ static void raw_nand(int flaw) {
 int main(int count, char **words) {
     right_one();
     wrong_ones();
+    spreading_one();
     refused_ones();
     any_ones();
     raw_nand(count > 1 ? atoi(words[1]) : 0);

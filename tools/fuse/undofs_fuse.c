@@ -34,6 +34,7 @@ static const char usage[] = "usage: undofs-fuse PART FOLDER [-f] [-o OPTION,..]\
                             "  -o commit=N     a version is made and synced N seconds after its first change (5; 0: never)\n"
                             "  -o format       make an empty file system, whatever PART holds\n"
                             "  -o nor          PART is NOR, also where its type is RAM, as that of mtdram: for trials\n"
+                            "  -o dense=N      PART is NOR in the layout `dense`, in blocks of N sectors (docs/dense_nor.md)\n"
                             "  -o history=N    keep N versions (128); page=P, pages=K, blocks=N: sizes of a file that is made\n"
                             "  -o buffer=N     keep N bytes that a save wrote, at most, until it is done (16777216)\n"
                             "  -o wait=N       a child that stands still for N seconds is ended (60; 0: never)\n"
@@ -46,7 +47,8 @@ struct options {
     int64_t period; /* of checkpoints by the clock, in seconds; 0 for none */
     struct undofs_sizes sizes;
     unsigned history, commit, settle, wait, buffer;
-    int forgets, keeps, reserve, is_durable, formats, is_nor, is_in_front, is_help;
+    int forgets, keeps, reserve, is_durable, formats, is_in_front, is_help;
+    struct nor_asked nor;
 };
 
 enum { LEAST_HISTORY = 2, MOST_HISTORY = 128 };
@@ -58,7 +60,8 @@ static const struct fuse_opt known[] = {
     OPTION("page=%u", sizes.page), OPTION("pages=%u", sizes.pages), OPTION("blocks=%u", sizes.blocks), OPTION("history=%u", history), OPTION("commit=%u", commit),
     OPTION("settle=%u", settle),   OPTION("wait=%u", wait),        OPTION("buffer=%u", buffer),       OPTION("serve=%s", serve),     OPTION("times=%s", times),
     OPTION("forget", forgets),     OPTION("keep", keeps),          OPTION("reserve=%d", reserve),     OPTION("durable", is_durable), OPTION("format", formats),
-    OPTION("-f", is_in_front),     OPTION("nor", is_nor),          OPTION("checkpoint=%s", checkpoint), OPTION("-h", is_help),       OPTION("--help", is_help),
+    OPTION("-f", is_in_front),     OPTION("nor", nor.is_nor),      OPTION("checkpoint=%s", checkpoint), OPTION("-h", is_help),       OPTION("--help", is_help),
+    OPTION("dense=%u", nor.sectors),
     FUSE_OPT_END};
 
 /* The path of a file that is not there yet. */
@@ -133,7 +136,7 @@ static void start_times(void) {
 
 /* Opens the part and starts the child on it. A status. */
 static int start_file_system(void) {
-    int why = part_open(&part, options.part, &options.sizes, options.is_nor, tell_in_use);
+    int why = part_open(&part, options.part, &options.sizes, &options.nor, tell_in_use);
     if (why != 0) return complain(options.part, why == EBUSY ? "in use" : why == EINVAL ? "neither a part in a flat file nor a flash" : strerror(why));
     uint32_t history = part.is_new || options.formats ? options.history : 0;
     saves = (struct saves){.commit = options.commit, .settle = options.is_durable ? 0 : options.settle, .forgets = !options.keeps, .is_durable = options.is_durable, .buffer = options.buffer};

@@ -75,7 +75,7 @@ int main(int count, char **words) {
     if (count < 4) return 2;
     rounds = (uint32_t)strtoul(words[2], NULL, 10);
     uint32_t reads = (uint32_t)strtoul(words[3], NULL, 10);
-    int why = mtd_part_open(&part, words[1], count > 4 && strcmp(words[4], "nor") == 0);
+    int why = mtd_part_open(&part, words[1], count > 4 && strcmp(words[4], "nor") == 0, 0);
     if (why != 0) {
         printf("%s: %s\n", words[1], strerror(why));
         return 1;

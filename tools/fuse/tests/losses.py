@@ -303,10 +303,10 @@ def a_flash_full_of_versions():
 # ---- MTD ----
 
 
-def on_mtd(kind, shim, operations):
+def on_mtd(kind, shim, operations, options="commit=0"):
     """Saves on a part behind the shim, with a cut at each operation of a save; what was synced is found after each."""
     draw, synced, cuts = random.Random(kind), {}, 0
-    with Folder(history=8, options="commit=0") as f:
+    with Folder(history=8, options=options) as f:
         base = {"MTD_FILE": f.part, "MTD_KIND": kind, **shim}
         with open(f.part, "wb"):
             pass
@@ -335,6 +335,10 @@ def on_mtd(kind, shim, operations):
 
 def nor_behind_mtd():
     on_mtd("nor", {}, 26)
+
+
+def dense_nor_behind_mtd():
+    on_mtd("nor", {}, 32, "commit=0,dense=2")
 
 
 def nand_behind_mtd():
@@ -401,6 +405,7 @@ CASES = [
     cuts_of_the_host,
     a_flash_full_of_versions,
     nor_behind_mtd,
+    dense_nor_behind_mtd,
     nand_behind_mtd,
     failures_behind_mtd,
     a_ram_part_for_trials,

@@ -13,6 +13,7 @@ enum { NOR_SECTOR = 4096, NAND_PAGE = 2048, NAND_PAGES = 64, NAND_BLOCKS = 64, S
 
 static char name[300], behind[300]; /* by the second name the shim does not know the part */
 static int wrong;
+static uint32_t sectors; /* of a block, in the layout `dense` of a NOR; 0 for `sure` */
 static struct mtd_part part;
 static struct undofs_driver driver;
 static uint8_t bytes[NAND_PAGE], found[NAND_PAGE];
@@ -28,7 +29,7 @@ static int opened(const char *kind, const char *setting, const char *value) {
     setenv("MTD_FILE", name, 1);
     setenv("MTD_KIND", kind, 1);
     if (setting != NULL) setenv(setting, value, 1);
-    int why = mtd_part_open(&part, name, 0);
+    int why = mtd_part_open(&part, name, 0, sectors);
     if (setting != NULL) unsetenv(setting);
     if (why == 0) driver = mtd_part_driver(&part);
     return why;
@@ -116,12 +117,14 @@ static void too_few_spare_bytes(void) {
 
 /* ---- NOR ---- */
 
-/* The mark of a page is the byte at its place in the sector after that of its bytes. */
-static void put_mark(uint32_t page, uint8_t mark) {
+static void put_byte(off_t at, uint8_t byte) {
     int file = open(behind, O_RDWR);
-    if (pwrite(file, &mark, 1, NOR_SECTOR + (off_t)page * 256) != 1) abort();
+    if (pwrite(file, &byte, 1, at) != 1) abort();
     close(file);
 }
+
+/* The mark of a page is the byte at its place in the sector after that of its bytes. */
+static void put_mark(uint32_t page, uint8_t mark) { put_byte(NOR_SECTOR + (off_t)page * 256, mark); }
 
 static void a_nor_page_that_fails(void) {
     open_new("nor", "MTD_FAIL", "1");
@@ -149,10 +152,65 @@ static void marks_that_are_torn(void) {
     done();
 }
 
+/* ---- NOR of the layout `dense`: of two sectors the last 256 bytes are marks ---- */
+
+enum { MARKS = 31 * 256 };
+
+static void a_dense_page_that_fails(void) {
+    sectors = 2;
+    a_nor_page_that_fails();
+    sectors = 0;
+}
+
+/* A mark is `UNOR` and the sum of the page's bytes, beside those of the pages before it and after it. */
+static void marks_with_sums(void) {
+    static const uint8_t wanted[8] = {'U', 'N', 'O', 'R', 0xe9, 0xdf, 0x8d, 0xd4};
+    uint8_t mark[8] = {0};
+    sectors = 2;
+    open_new("nor", NULL, NULL);
+    sectors = 0;
+    want(driver.sizes.pages, 31, "pages of a block of two sectors");
+    want(driver.sizes.blocks, 512, "its blocks");
+    for (uint32_t page = 30; page < 33; page++) want(programmed(page), UNDOFS_DONE, "a program");
+    for (uint32_t page = 30; page < 33; page++) want(state_of(page), UNDOFS_DATA, "its page");
+    int file = open(behind, O_RDONLY);
+    if (pread(file, mark, sizeof mark, MARKS + 30 * 8) != sizeof mark) abort();
+    close(file);
+    want(memcmp(mark, wanted, sizeof mark), 0, "the mark of page 30");
+    put_byte(30 * 256, 0);
+    want(state_of(30), UNDOFS_UNREADABLE, "a page with a flipped bit");
+    put_byte(MARKS + 8, 0x7f);
+    want(state_of(1), UNDOFS_UNREADABLE, "a torn mark over blank bytes");
+    want(driver.erase_block(driver.part, 0), UNDOFS_DONE, "an erase");
+    want(state_of(30), UNDOFS_ERASED, "its page");
+    want(state_of(31), UNDOFS_DATA, "a page of the next block");
+    done();
+}
+
+static int dense_opened(const char *kind, uint32_t count) {
+    sectors = count;
+    (void)unlink(name);
+    int why = opened(kind, NULL, NULL);
+    sectors = 0;
+    return why;
+}
+
+static void blocks_of_a_dense_part(void) {
+    want(dense_opened("nand", 2), ENODEV, "a NAND in the layout dense");
+    want(dense_opened("nor", 1), ERANGE, "blocks of one sector");
+    want(dense_opened("nor", 65), ERANGE, "blocks of 65 sectors");
+    want(dense_opened("nor", 3), 0, "blocks of three sectors");
+    want(driver.sizes.pages, 46, "their pages");
+    done();
+    want(dense_opened("nor", 64), 0, "blocks of 64 sectors");
+    want(driver.sizes.pages, 992, "their pages");
+    done();
+}
+
 static void a_part_in_use(void) {
     struct mtd_part other;
     open_new("nor", NULL, NULL);
-    want(mtd_part_open(&other, name, 0), EBUSY, "a part that is in use");
+    want(mtd_part_open(&other, name, 0, 0), EBUSY, "a part that is in use");
 }
 
 int main(int count, char **words) {
@@ -167,6 +225,9 @@ int main(int count, char **words) {
     too_few_spare_bytes();
     a_nor_page_that_fails();
     marks_that_are_torn();
+    a_dense_page_that_fails();
+    marks_with_sums();
+    blocks_of_a_dense_part();
     a_part_in_use();
     return wrong;
 }

@@ -116,16 +116,16 @@ static int refused(int why) {
     return -1;
 }
 
-/* Bits go from 1 to 0 alone. */
+/* Bits go from 1 to 0 alone. Over what is written 0 may be programmed, and what is given as 255 stays. */
 static ssize_t nor_written(const uint8_t *bytes, size_t count, uint64_t at) {
     uint8_t now[4096];
     check(is_nor && count <= 256 && at % 256 + count <= 256 && at + count <= size(), "a write", at);
     get(now, count, at);
     for (size_t i = 0; i < count; i++) {
-        check(now[i] == 0xff || count == 1, "a second program", at);
+        check(now[i] == 0xff || count == 1 || bytes[i] == 0 || bytes[i] == 0xff, "a second program", at);
         now[i] &= bytes[i];
     }
-    int cut = is_cut(), failed = count == 256 && is_failed(at / (2 * (uint64_t)page * pages));
+    int cut = is_cut(), failed = count > 1 && is_failed(at / (2 * (uint64_t)page * pages));
     put(now, cut || failed ? count / TORN : count, at);
     if (cut) _exit(77);
     return failed ? refused(EIO) : (ssize_t)count;

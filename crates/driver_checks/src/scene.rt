@@ -60,8 +60,24 @@ impl Scene {
     {
         let area = site.area;
         self.is_own_shown(bench, site, buffer)?;
-        block_shows(bench, area, site.lower, 0, area.sizes.pages, self.sides, buffer)?;
-        block_shows(bench, area, site.upper, 0, area.sizes.pages, self.sides, buffer)
+        block_shows(
+            bench,
+            area,
+            site.lower,
+            0,
+            area.sizes.pages,
+            self.sides,
+            buffer,
+        )?;
+        block_shows(
+            bench,
+            area,
+            site.upper,
+            0,
+            area.sizes.pages,
+            self.sides,
+            buffer,
+        )
     }
 
     // Whether the driver shows it of the case's own block.
@@ -80,6 +96,14 @@ impl Scene {
         let place = self.place.of(area);
         page_shows(bench, area, area.page(site.own, place), self.page, buffer)?;
         block_shows(bench, area, site.own, 0, place, self.rest, buffer)?;
-        block_shows(bench, area, site.own, place + 1, area.sizes.pages, self.rest, buffer)
+        block_shows(
+            bench,
+            area,
+            site.own,
+            place + 1,
+            area.sizes.pages,
+            self.rest,
+            buffer,
+        )
     }
 }

@@ -97,47 +97,18 @@ impl Case {
     pub(crate) fn scene(self) -> Scene
         ensures { result ≡ scene_of self }
     {
-        let round = self.round();
+        let filled = Expected::Filled(self.round());
+        let left = Expected::Left(self.round());
         let (page, rest, sides) = match self {
             Case::Sizes | Case::Fresh => (Expected::Erased, Expected::Erased, Expected::Erased),
-            Case::ReadBack => (Expected::Filled(round), Expected::Erased, Expected::Erased),
-            Case::InOrder => (
-                Expected::Filled(round),
-                Expected::Filled(round),
-                Expected::Erased,
-            ),
-            Case::OneBlock | Case::Ends => {
-                (Expected::Erased, Expected::Erased, Expected::Filled(round))
-            }
-            Case::FailedProgram => (
-                Expected::Spoilt,
-                Expected::Filled(round),
-                Expected::Filled(round),
-            ),
-            Case::CutProgram => (
-                Expected::Left(round),
-                Expected::Filled(round),
-                Expected::Filled(round),
-            ),
-            Case::FailedErase | Case::CutErase => {
-                (
-                    Expected::Left(round),
-                    Expected::Left(round),
-                    Expected::Filled(round),
-                )
-            }
-            Case::Restart => (
-                Expected::Filled(round),
-                Expected::Erased,
-                Expected::Filled(round),
-            ),
-            Case::Neighbours => {
-                (
-                    Expected::Filled(round),
-                    Expected::Filled(round),
-                    Expected::Filled(round),
-                )
-            }
+            Case::ReadBack => (filled, Expected::Erased, Expected::Erased),
+            Case::InOrder => (filled, filled, Expected::Erased),
+            Case::OneBlock | Case::Ends => (Expected::Erased, Expected::Erased, filled),
+            Case::FailedProgram => (Expected::Spoilt, filled, filled),
+            Case::CutProgram => (left, filled, filled),
+            Case::FailedErase | Case::CutErase => (left, left, filled),
+            Case::Restart => (filled, Expected::Erased, filled),
+            Case::Neighbours => (filled, filled, filled),
         };
         let place = self.place();
         Scene {

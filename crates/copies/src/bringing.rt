@@ -1,5 +1,5 @@
 //! A version that is made of a tree of another file system.
-ghost use Rattle.std.specs.Prelude.{◌≡◌, None, OnOk, IfErr, [], ◌∷◌};
+ghost use Rattle.std.specs.Prelude.{◌≡◌, ◌≢◌, None, OnOk, IfErr, [], ◌∷◌};
 ghost use Rattle.fs_types.specs.declared.fault.Fault.{Fault};
 ghost use Rattle.fs_types.specs.Names.{Path};
 ghost use Rattle.fs_types.specs.declared.call.Call.{Call};
@@ -86,13 +86,15 @@ fn carry_out<G: Flash>(alloc: Global, to: &mut Fs<'_, G>, calls: &[Call]) -> Res
     Ok(())
 }
 
-/// Makes a directory in the root under the first number that is no name there, and removes it.
+/// Makes a directory in the root under the first number that is no name there, and removes it. There are more
+/// numbers than a directory has entries, so that one of them is none.
 fn touch<G: Flash>(alloc: Global, to: &mut Fs<'_, G>) -> Result<(), Fault>
     ensures ok { OnOk result ((path : Path) × Does (shown to.old) (Call.Mkdir path ∷ Call.Rmdir path ∷ []) (shown to.new)) }
     ensures same_flash { flash_name to.new ≡ flash_name to.old }
     ensures err { IfErr result (λ fault. (path : Path) × Stops (shown to.old) (Call.Mkdir path ∷ Call.Rmdir path ∷ []) (G.device to.new.flash.now) fault) }
+    ensures finds { IfErr result (λ fault. fault ≢ Fault.Exists) }
 {
-    for number in 0..MAX_ENTRIES as u64 {
+    for number in 0..MAX_ENTRIES as u64 + 1 {
         let path = numbered(alloc, number)?;
         match to.mkdir(alloc, &path) {
             Ok(()) => return to.rmdir(alloc, &path),
@@ -100,9 +102,7 @@ fn touch<G: Flash>(alloc: Global, to: &mut Fs<'_, G>) -> Result<(), Fault>
             Err(fault) => return Err(fault),
         }
     }
-    let path = numbered(alloc, MAX_ENTRIES as u64)?;
-    to.mkdir(alloc, &path)?;
-    to.rmdir(alloc, &path)
+    Err(Fault::NoMemory)
 }
 
 /// The path of a number in the root.

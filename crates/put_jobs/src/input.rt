@@ -1,10 +1,12 @@
 //! The bytes of the input.
-ghost use Rattle.std.specs.Prelude.{◌≡◌, ◌≤◌, ◌<◌, ℕ, List, [], length, take, vec_len, IfOk, IfErr, OnOk};
+ghost use Rattle.std.specs.Prelude.{◌≡◌, ◌≢◌, ◌≤◌, ◌<◌, ℕ, List, [], length, take, vec_len, IfOk, IfErr, OnOk};
+ghost use Rattle.std.specs.IoError.{error_kind};
 ghost use Rattle.std.specs.Io.KnownBytes.{Consumes, IsAtEnd};
 ghost use Rattle.put_jobs.specs.Inputs.{IsWholeInput, IsUnreadInput};
 
 use image_jobs::{Failure, SourceFault};
 use std::alloc::Global;
+use std::io;
 use std::io::{ErrorKind, Read};
 
 /// So many bytes are read at a time.
@@ -23,7 +25,7 @@ pub fn read_input<R: Read>(alloc: Global, reader: &mut R, most: usize) -> Result
         let count = match read_some(reader, &mut chunk) {
             Ok(0) => return Ok(bytes),
             Ok(count) => count,
-            Err(failure) => return Err(failure),
+            Err(_) => return Err(Failure::Input),
         };
         match bytes.extend_from_slice(&chunk[..count]) {
             Ok(()) => {}
@@ -36,19 +38,23 @@ pub fn read_input<R: Read>(alloc: Global, reader: &mut R, most: usize) -> Result
 }
 
 /// Reads some bytes, none at the end alone, and tries again where a signal interrupts.
-fn read_some<R: Read>(reader: &mut R, chunk: &mut [u8]) -> Result<usize, Failure>
+fn read_some<R: Read>(reader: &mut R, chunk: &mut [u8]) -> io::Result<usize>
     requires { 0 < length chunk.old }
     ensures bound { IfOk result (λ count. count ≤ length chunk.new) }
     ensures ok { IfOk result (λ count. Consumes (R.remaining reader.old) (R.remaining reader.new) (take count chunk.new)) }
     ensures end { IfOk result (λ count. count ≡ 0 → IsAtEnd (R.remaining reader.new)) }
-    ensures err { IfErr result (λ failure. (failure ≡ Failure.Input) × Consumes (R.remaining reader.old) (R.remaining reader.new) []) }
+    ensures err { IfErr result (λ _. Consumes (R.remaining reader.old) (R.remaining reader.new) []) }
+    ensures again { IfErr result (λ e. error_kind e ≢ ErrorKind.Interrupted) }
 {
     for _ in 0..u64::MAX {
         match reader.read(chunk) {
             Ok(count) => return Ok(count),
-            Err(error) if error.kind() == ErrorKind::Interrupted => {}
-            Err(_) => return Err(Failure::Input),
+            Err(error) => {
+                if error.kind() != ErrorKind::Interrupted {
+                    return Err(error);
+                }
+            }
         }
     }
-    Err(Failure::Input)
+    Err(io::Error::from(ErrorKind::Other))
 }

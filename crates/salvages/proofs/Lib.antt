@@ -1,3 +1,4 @@
+pub mod Costs
 pub mod FirstPages
 pub mod KeptLaws
 pub mod Looking

@@ -4,7 +4,9 @@ ghost use Rattle.flash_model.specs.Geometry.{IsGeometry};
 ghost use Rattle.flash_model.specs.Reading.{OnlyReads};
 ghost use Rattle.node_store.specs.Fitting.{Fits};
 ghost use Rattle.node_store.specs.Stores.{IsSoundStore, Follows};
+ghost use Rattle.mounting.specs.Costs.{AsksToVerify};
 ghost use Rattle.salvages.specs.Causes.{ReadCause};
+ghost use Rattle.salvages.specs.Costs.{AsksToLook};
 ghost use Rattle.salvages.specs.Wholes.{IsWhole, AreLost};
 
 use bad_blocks::BadBlocks;
@@ -26,6 +28,7 @@ fn is_whole_in<F: Flash>(
     ensures follows { Follows F.device store.old store.new }
     ensures whole { IfOk result (λ whole. IsTrue whole ↔ IsWhole plain (F.device store.old.flash.now) root) }
     ensures only_reads { OnlyReads (F.device store.old.flash.now) (F.device store.new.flash.now) }
+    ensures asks { AsksToVerify (F.device store.old.flash.now) (root ∷ []) (F.device store.new.flash.now) }
     ensures why { IfErr result (ReadCause (F.device store.old.flash.now) (F.device store.new.flash.now)) }
 {
     let blocks = store.block_count();
@@ -49,6 +52,7 @@ fn is_whole_on<F: Flash>(
     requires fits { Fits (F.device flash.old) storage.old }
     ensures whole { IfOk result (λ whole. IsTrue whole ↔ IsWhole plain (F.device flash.old) root) }
     ensures only_reads { OnlyReads (F.device flash.old) (F.device flash.new) }
+    ensures asks { AsksToVerify (F.device flash.old) (root ∷ []) (F.device flash.new) }
     ensures why { IfErr result (ReadCause (F.device flash.old) (F.device flash.new)) }
 {
     let mut store = Store::new(flash, storage);
@@ -56,7 +60,7 @@ fn is_whole_on<F: Flash>(
 }
 
 /// Whether a root is whole by itself: it has a tree of linked bodies, and where it is to be plain no
-/// directory in that is a chain. All that it reaches is read, and nothing else.
+/// directory in that is a chain. Of all that it reaches the pages of one verification are read, and nothing else.
 pub fn is_whole<F: Flash>(
     alloc: Global,
     flash: &mut F,
@@ -66,6 +70,7 @@ pub fn is_whole<F: Flash>(
     requires { IsGeometry (F.device flash.old).geometry }
     ensures whole { IfOk result (λ whole. IsTrue whole ↔ IsWhole plain (F.device flash.old) root) }
     ensures only_reads { OnlyReads (F.device flash.old) (F.device flash.new) }
+    ensures asks { AsksToVerify (F.device flash.old) (root ∷ []) (F.device flash.new) }
     ensures why { IfErr result (ReadCause (F.device flash.old) (F.device flash.new)) }
 {
     let cache = NodeCache::new(alloc, MOUNTED_NODES)?;
@@ -83,7 +88,7 @@ fn note_root(lost: &mut Vec<u32>, root: u32, whole: bool) -> Result<(), AllocErr
     Ok(())
 }
 
-/// Those of some roots that are not whole by themselves.
+/// Those of some roots that are not whole by themselves. Each root is looked at once.
 pub(crate) fn find_lost<F: Flash>(
     alloc: Global,
     flash: &mut F,
@@ -93,6 +98,7 @@ pub(crate) fn find_lost<F: Flash>(
     requires { IsGeometry (F.device flash.old).geometry }
     ensures lost { IfOk result (λ lost. AreLost plain (F.device flash.old) roots.now lost.items) }
     ensures only_reads { OnlyReads (F.device flash.old) (F.device flash.new) }
+    ensures asks { AsksToLook (F.device flash.old) roots.now (F.device flash.old).operations (F.device flash.new).operations }
     ensures why { IfErr result (ReadCause (F.device flash.old) (F.device flash.new)) }
 {
     let mut lost = Vec::new(alloc);

@@ -1,5 +1,6 @@
 use Rattle.std.proofs.Common.{take}
 use Rattle.flash_model.specs.Reading.{OnlyReads}
+use Rattle.salvages.specs.Costs.{AsksToLook}
 use Rattle.salvages.specs.Wholes.{AreLost}
 use Rattle.salvages.proofs.looks.find_lost.Given as goal
 
@@ -7,4 +8,5 @@ abbrev pub invariant-loop-root : goal.invariant-loop-root
 invariant-loop-root g l = record {
   lost : AreLost l.plain (g.F.Flash.device l.initial.flash) (take l.root-index l.roots) l.lost.items;
   only_reads : OnlyReads (g.F.Flash.device l.initial.flash) (g.F.Flash.device l.flash);
+  asks : AsksToLook (g.F.Flash.device l.initial.flash) (take l.root-index l.roots) (g.F.Flash.device l.initial.flash).operations (g.F.Flash.device l.flash).operations;
 }

@@ -1,6 +1,7 @@
-use Rattle.std.proofs.Common.{sym, ap, ◌∙◌}
+use Rattle.std.proofs.Common.{[], ◌∷◌, sym, ap, ◌∙◌}
 use Rattle.allocator.specs.Ring.{Ring}
 use Rattle.flash_model.specs.declared.geometry.Geometry.{Geometry}
+use Rattle.mounting.proofs.Asking.{verifies_none}
 use Rattle.salvages.proofs.looks.is_whole.Goals as goal
 
 pub is_whole_on-requires-clause-ring_blocks : goal.is_whole_on-requires-clause-ring_blocks
@@ -8,3 +9,9 @@ is_whole_on-requires-clause-ring_blocks g c = ap (λ (r : Ring). r.blocks) c.in_
 
 pub is_whole_on-requires-clause-fits : goal.is_whole_on-requires-clause-fits
 is_whole_on-requires-clause-fits g c = c.in_ok-storage.ensures.fits (g.F.Flash.device c.args.flash.now) (sym c.geometry.ensures)
+
+pub returns-in_err-cache-clause-asks : goal.returns-in_err-cache-clause-asks
+returns-in_err-cache-clause-asks g c = verifies_none (g.F.Flash.device c.args.flash.now) (c.args.root ∷ [])
+
+pub returns-in_err-storage-clause-asks : goal.returns-in_err-storage-clause-asks
+returns-in_err-storage-clause-asks g c = verifies_none (g.F.Flash.device c.args.flash.now) (c.args.root ∷ [])

@@ -3,12 +3,12 @@ use Rattle.std.proofs.Common.{◌≡◌, ◌∙◌, Option, List, [], ◌∷◌,
 use Rattle.std.specs.Prelude.{All, unwrap_or}
 use Rattle.fs_types.specs.Names.{Path}
 use Rattle.fs_types.specs.declared.call.Call.{Call}
-use Rattle.plain_trees.specs.Trees.{Tree, bare, IsFileTree}
+use Rattle.plain_trees.specs.Trees.{Tree, bare}
 use Rattle.history_machine.specs.History.{changed}
 use Rattle.history_machine.specs.Machine.{Machine, IsMachine, mounted, present_tree, working_tree}
 use Rattle.history_machine.proofs.Steps.{tree-changed}
 use Rattle.history_machine.proofs.Versions.{checkpoints-changed}
-use Rattle.tree_updates.specs.Updates.{update_changes}
+use Rattle.tree_updates.specs.Laws.{Brings}
 use Rattle.history_copies.specs.Laws.{bringing, changes_or}
 use Rattle.history_copies.proofs.Brought.{bring_law}
 use Rattle.inquiries.specs.Folders.{IsSmall}
@@ -23,16 +23,14 @@ grouped m n k l e changes path begun made ended synced =
     (does_both n k e (changes_or changes path) (Call.End ∷ Call.Sync ∷ []) made (does_both k l e (Call.End ∷ []) (Call.Sync ∷ []) ended synced))
 
 -- the version that they make
-pub brought : (m was n : Machine) (new : Tree) (changes : List Call) (path : Path) → IsMachine m → IsFileTree new → m ≡ mounted m.history → was ≡ m → changes ≡ update_changes (working_tree m) new
+pub brought : (m was n : Machine) (new : Tree) (changes : List Call) (path : Path) → IsMachine m → m ≡ mounted m.history → was ≡ m → Brings (working_tree m) new changes
     → Does was (bringing changes path) n → n ≡ mounted (changed m.history new)
-brought m was n new changes path is lawful rests same are done =
+brought m was n new changes path is rests same brings done =
     let at : Machine = mounted m.history in
     let is' : IsMachine at = subst IsMachine rests is in
-    let trees : working_tree m ≡ present_tree at = ap working_tree rests in
-    let d : Does at (bringing (update_changes (present_tree at) new) path) n =
-    subst (λ (t : Tree). Does at (bringing (update_changes t new) path) n) trees
-    (subst (λ (cs : List Call). Does at (bringing cs path) n) are (subst (λ (x : Machine). Does x (bringing changes path) n) (same ∙ rests) done)) in
-    d.leads ∙ bring_law m.history new path is' lawful d.accepted
+    let leads : Brings (present_tree at) new changes = subst (λ (t : Tree). Brings t new changes) (ap working_tree rests) brings in
+    let d : Does at (bringing changes path) n = subst (λ (x : Machine). Does x (bringing changes path) n) (same ∙ rests) done in
+    d.leads ∙ bring_law m.history new changes path is' leads d.accepted
 
 -- a machine that shows a new version
 pub ready_changed : (m n : Machine) (new : Tree) → IsMachine m → IsReady m → IsSmall new → n ≡ mounted (changed m.history new) → IsReady n

@@ -1,7 +1,8 @@
 -- Versions and checkpoints that are made in the copy.
 use Rattle.std.proofs.Common.{◌≡◌, ◌∙◌, ℕ, zero, suc, ◌+◌, ◌-◌, ◌<◌, ◌≤◌, Option, Some, None, List, [], ◌∷◌, ◌++◌, get_or, length, map, take, drop, refl, sym, ap, subst, arith, append_assoc}
 use Rattle.std.proofs.lemmas.List.{take_more, map-append, length-map}
-use Rattle.std.specs.Prelude.{All, is_none, min, slice_get, unwrap_or, if◌then◌else◌}
+use Rattle.std.proofs.lemmas.List.Elements.{All-append, All-drop, All-take}
+use Rattle.std.specs.Prelude.{All, is_none, min, max, slice_get, unwrap_or, if◌then◌else◌}
 use Rattle.std.specs.BTreeMap.{insert_entry, is_at}
 use Rattle.std.specs.Map.{lookup}
 use Rattle.std.specs.Option.{option_map, option_map_or, option_and_then}
@@ -17,11 +18,12 @@ use Rattle.history_machine.specs.Descriptors.{none_open}
 use Rattle.history_machine.proofs.Checkpoints.{all-inserted}
 use Rattle.history_machine.proofs.Steps.{tree-changed}
 use Rattle.history_machine.proofs.Versions.{checkpoints-changed}
-use Rattle.history_copies.specs.Copies.{IsCopy, first_kept, kept_versions, roots_in}
+use Rattle.history_copies.specs.Copies.{IsCopy, first_kept, others_kept, kept_versions, roots_in}
 use Rattle.history_copies.proofs.Built.{build_law}
-use Rattle.history_copies.proofs.Ended.{enough, few_kept, kept_serials_of, left_place, left_trees}
+use Rattle.history_copies.proofs.Ended.{enough, few_kept, kept_serials_of, left_place, left_trees, place_within}
 use Rattle.history_copies.proofs.Seen.{found_all, insert_next, kept_trees, name_found}
 use Rattle.inquiries.specs.Folders.{IsSmall}
+use Rattle.inquiries.proofs.VersionLemmas.{serial_seen}
 use Rattle.copies.specs.Calls.{Does, IsReady}
 use Rattle.copies.specs.Copied.{Holds, HasTrees, IsShared}
 use Rattle.copies.proofs.Doing.{moved}
@@ -202,24 +204,42 @@ no_serial (y ∷ ys) (suc place) serial past stands = no_serial ys place serial 
 
 -- ---- all of it
 
-pub whole : (limit : ℕ) (from was start : Machine) (first second third : Past Tree) (serials versions : List ℕ) (cursor : ℕ) → IsMachine from → 2 ≤ limit → start ≡ mounted (fresh limit bare) → was ≡ from
-    → versions ≡ map (λ v. v.serial) from.history.versions → serials ≡ take limit (drop (first_kept limit from.history) versions)
+-- what is chosen can be seen
+pub serials_seen : (limit : ℕ) (from was : Machine) (serials : List ℕ) → IsMachine from → was ≡ from → serials ≡ map (λ v. v.serial) (kept_versions limit from.history)
+    → All (λ serial. view_refusal was.history (View.Serial serial) ≡ None) serials
+serials_seen limit from was serials is same are =
+    let versions : List ℕ = map (λ v. v.serial) from.history.versions in
+    let all : All (λ serial. view_refusal was.history (View.Serial serial) ≡ None) versions = λ i d within. serial_seen from was is same versions i d refl within in
+    subst (All (λ serial. view_refusal was.history (View.Serial serial) ≡ None)) (kept_serials_of limit from.history ∙ sym are)
+    (All-append (λ serial. view_refusal was.history (View.Serial serial) ≡ None) (take 1 (drop (first_kept limit from.history) versions)) (drop (others_kept limit from.history) versions)
+    (All-take (λ serial. view_refusal was.history (View.Serial serial) ≡ None) 1 (drop (first_kept limit from.history) versions)
+    (All-drop (λ serial. view_refusal was.history (View.Serial serial) ≡ None) (first_kept limit from.history) versions all))
+    (All-drop (λ serial. view_refusal was.history (View.Serial serial) ≡ None) (others_kept limit from.history) versions all))
+
+-- the present version is among them
+pub within_chosen : (limit : ℕ) (from : Machine) (serials : List ℕ) (place : ℕ) → IsMachine from → 2 ≤ limit → serials ≡ map (λ v. v.serial) (kept_versions limit from.history)
+    → place ≡ from.history.cursor - first_kept limit from.history → place < length serials
+within_chosen limit from serials place is some are at =
+    let count : length serials ≡ length (kept_versions limit from.history) = ap length are ∙ length-map (kept_versions limit from.history) (λ (v : Version Tree). v.serial) in
+    subst (λ (n : ℕ). n < length serials) (sym at) (subst (λ (n : ℕ). from.history.cursor - first_kept limit from.history < n) (sym count) (place_within limit from.history some is.lawful))
+
+pub whole : (limit : ℕ) (from was start : Machine) (first second third : Past Tree) (serials : List ℕ) (cursor : ℕ) → IsMachine from → 2 ≤ limit → start ≡ mounted (fresh limit bare) → was ≡ from
+    → serials ≡ map (λ v. v.serial) (kept_versions limit from.history)
     → ((n : ℕ) (trees : List Tree) → Holds n trees [] start.history → Holds n (trees ++ map (λ e. e.1) from.history.checkpoints) from.history.checkpoints first)
     → ((n : ℕ) (trees : List Tree) → Holds n trees was.history.checkpoints first → Holds n (trees ++ map (λ serial. view_tree was (View.Serial serial)) serials) was.history.checkpoints second)
     → ((n : ℕ) (before trees : List Tree) (checkpoints : List (Name × Tree)) → Holds n (before ++ trees) checkpoints second → length trees ≡ length serials → length serials ≤ n → HasTrees n trees cursor checkpoints third)
     → cursor ≡ from.history.cursor - first_kept limit from.history
     → HasTrees limit (roots_in (kept_versions limit from.history)) (from.history.cursor - first_kept limit from.history) from.history.checkpoints third
-whole limit from was start first second third serials versions cursor is some begins same are kept named copied_all ended_as place =
+whole limit from was start first second third serials cursor is some begins same read named copied_all ended_as place =
     let es : List (Name × Tree) = from.history.checkpoints in
     let begun = fresh_holds start limit some begins in
     let h1 : Holds limit ((bare ∷ []) ++ map (λ e. e.1) es) es first = named limit (bare ∷ []) begun in
     let h1' = subst (λ (m : Machine). Holds limit ((bare ∷ []) ++ map (λ e. e.1) es) m.history.checkpoints first) (sym same) h1 in
     let h2 = copied_all limit ((bare ∷ []) ++ map (λ e. e.1) es) h1' in
-    let read : serials ≡ map (λ v. v.serial) (kept_versions limit from.history) = kept ∙ ap (λ (xs : List ℕ). take limit (drop (first_kept limit from.history) xs)) are ∙ kept_serials_of limit from.history in
     let trees : map (λ serial. view_tree was (View.Serial serial)) serials ≡ roots_in (kept_versions limit from.history) =
     ap (λ (m : Machine). map (λ serial. view_tree m (View.Serial serial)) serials) same ∙ ap (map (λ serial. view_tree from (View.Serial serial))) read ∙ kept_trees from is.lawful limit in
     let count : length serials ≡ length (kept_versions limit from.history) = ap length read ∙ length-map (kept_versions limit from.history) (λ (v : Version Tree). v.serial) in
-    let few = few_kept limit from.history in
+    let few = few_kept limit from.history some in
     let last = ended_as limit ((bare ∷ []) ++ map (λ e. e.1) es) (map (λ serial. view_tree was (View.Serial serial)) serials) was.history.checkpoints h2 (length-map serials (λ serial. view_tree was (View.Serial serial))) (omega (arith, count, few)) in
     subst (λ (ts : List Tree). HasTrees limit ts (from.history.cursor - first_kept limit from.history) es third) trees
     (subst (λ (n : ℕ). HasTrees limit (map (λ serial. view_tree was (View.Serial serial)) serials) n es third) place (subst (λ (m : Machine). HasTrees limit (map (λ serial. view_tree was (View.Serial serial)) serials) cursor m.history.checkpoints third) same last))
@@ -231,9 +251,20 @@ module _ (from : Machine) (limit : ℕ) (versions : List ℕ) where
   first_read told cursor first are at same is =
       is ∙ (λ i. min (at i) (length (same i) - limit)) ∙ ap (λ (n : ℕ). min from.history.cursor (n - limit)) (ap length are ∙ length-map from.history.versions (λ (v : Version Tree). v.serial))
 
-  pub kept_read : (told again serials : List ℕ) (cursor first : ℕ) → versions ≡ map (λ v. v.serial) from.history.versions → cursor ≡ from.history.cursor → told ≡ versions → again ≡ versions → first ≡ min cursor (length told - limit)
-      → serials ≡ take limit (drop first again) → serials ≡ take limit (drop (first_kept limit from.history) versions)
-  kept_read told again serials cursor first are at same same' is kept = kept ∙ (λ i. take limit (drop (first_read told cursor first are at same is i) (same' i)))
+  pub chosen_read : (told serials : List ℕ) (cursor first : ℕ) → versions ≡ map (λ v. v.serial) from.history.versions → cursor ≡ from.history.cursor → told ≡ versions → first ≡ min cursor (length told - limit)
+      → serials ≡ take 1 (drop first told) ++ drop (max (first + 1) (length told - (limit - 1))) told → serials ≡ map (λ v. v.serial) (kept_versions limit from.history)
+  chosen_read told serials cursor first are at same is kept =
+      let oldest : first ≡ first_kept limit from.history = first_read told cursor first are at same is in
+      let all : told ≡ map (λ v. v.serial) from.history.versions = same ∙ are in
+      let count : length told ≡ length from.history.versions = ap length all ∙ length-map from.history.versions (λ (v : Version Tree). v.serial) in
+      kept ∙ (λ i. take 1 (drop (oldest i) (all i)) ++ drop (max (oldest i + 1) (count i - (limit - 1))) (all i)) ∙ kept_serials_of limit from.history
+
+  -- the oldest one that is copied is one of them
+  pub first_within : (told : List ℕ) (cursor first : ℕ) → IsMachine from → versions ≡ map (λ v. v.serial) from.history.versions → cursor ≡ from.history.cursor → told ≡ versions → first ≡ min cursor (length told - limit) → first < length told
+  first_within told cursor first lawful are at same is =
+      let within : from.history.cursor < length from.history.versions = lawful.lawful.cursor_in in
+      let count : length told ≡ length from.history.versions = ap length (same ∙ are) ∙ length-map from.history.versions (λ (v : Version Tree). v.serial) in
+      omega (arith, within, count, at, is)
 
   pub place_read : (told : List ℕ) (cursor first : ℕ) → versions ≡ map (λ v. v.serial) from.history.versions → cursor ≡ from.history.cursor → told ≡ versions → first ≡ min cursor (length told - limit)
       → cursor - first ≡ from.history.cursor - first_kept limit from.history

@@ -1,6 +1,7 @@
 -- Why a file system is not copied.
-use Rattle.std.specs.Prelude.{◌≡◌, ◌⊎◌, None}
+use Rattle.std.specs.Prelude.{◌≡◌, ◌⊎◌, None, List}
 use Rattle.fs_types.specs.Names.{Path}
+use Rattle.fs_types.specs.declared.call.Call.{Call}
 use Rattle.fs_types.specs.declared.call.View.{View}
 use Rattle.fs_types.specs.declared.fault.Fault.{Fault}
 use Rattle.flash_model.specs.Device.{Device}
@@ -15,7 +16,7 @@ use Rattle.system.specs.declared.systems.System.{System}
 use Rattle.undofs.specs.Refusals.{RefusesMount}
 use Rattle.working_state.specs.Seen.{machine_on}
 use Rattle.history_copies.specs.Laws.{bringing}
-use Rattle.tree_updates.specs.Updates.{update_changes}
+use Rattle.tree_updates.specs.Laws.{Brings}
 use Rattle.copies.specs.Calls.{Stops, StopsMoving}
 use Rattle.copies.specs.declared.uncopied.Uncopied.{Uncopied}
 
@@ -27,12 +28,14 @@ of_untold TellFault.TooManyLines = Uncopied.TooManyLines
 abbrev pub HasLarge : Machine → Type 0
 HasLarge m = (view : View) × (view_refusal m.history view ≡ None) × (IsSmall (view_tree m view) → ⊥)
 
--- the calls that make a version of the tree of a view of one machine stop on a file system that shows another one
+-- calls that make a version of the tree of a view of one machine stop on a file system that shows another one
 pub record StopsBringing (m : Machine) (left : Device) (fault : Fault) : Type 0 where
   pub shows : Machine
   pub view : View
+  pub changes : List Call
+  pub brings : Brings (working_tree shows) (view_tree m view) changes
   pub path : Path
-  pub stops : Stops shows (bringing (update_changes (working_tree shows) (view_tree m view)) path) left fault
+  pub stops : Stops shows (bringing changes path) left fault
 
 -- why the copying from what a machine shows stops, which left the first flash so and the second: the reading met it on one of the
 -- two; a tree has too much; or on the second the calls stop that make a version of a tree, or one beside these

@@ -17,7 +17,7 @@ use fs_types::{Call, Fault, MAX_ENTRIES, Path, View};
 use script::print_number;
 use std::alloc::Global;
 use undofs::Fs;
-use updates::list_changes;
+use updates::{Manner, list_changes};
 
 /// Makes a version of the tree of a view of one file system in another one, in which no change group and no
 /// file is open, and syncs it.
@@ -35,7 +35,7 @@ pub(crate) fn bring<F: Flash, G: Flash>(
     ensures same_flash { flash_name to.new ≡ flash_name to.old }
     ensures err { IfErr result (NotCopied (shown from.old) (F.device from.old.flash.now) (F.device from.new.flash.now) (G.device to.new.flash.now)) }
 {
-    let changes = match list_changes(alloc, to, from, view) {
+    let changes = match list_changes(alloc, to, from, view, Manner::Edited) {
         Ok(changes) => changes,
         Err(fault) => return Err(of_untold(fault)),
     };

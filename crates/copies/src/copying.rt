@@ -1,5 +1,5 @@
 //! A history that is copied.
-ghost use Rattle.std.specs.Prelude.{◌≡◌, ◌++◌, ◌∷◌, [], ◌≤◌, ℕ, None, Some, true, false, All, Contains, List, IfOk, IfSome, IfNone, OnOk, IfErr, length, map, take, drop};
+ghost use Rattle.std.specs.Prelude.{◌≡◌, ◌-◌, ◌++◌, ◌∷◌, [], ◌≤◌, ℕ, None, Some, true, false, All, Contains, List, IfOk, IfSome, IfNone, OnOk, IfErr, length, map, take, drop};
 ghost use Rattle.std.specs.BTreeMap.{insert_entry};
 ghost use Rattle.fs_types.specs.Names.{name_cmp};
 ghost use Rattle.fs_types.specs.declared.call.View.{View};
@@ -18,7 +18,7 @@ ghost use Rattle.copies.specs.Copied.{Holds, IsCopied, IsCopiedTo, IsShared};
 
 use crate::bringing::bring;
 use crate::ending::end_copy;
-use crate::kept::{first_kept, kept_from};
+use crate::kept::{choose_serials, first_kept};
 use crate::uncopied::Uncopied;
 use flash_model::Flash;
 use fs_types::{CpName, Fault, View};
@@ -27,8 +27,9 @@ use undofs::{Fs, Log, RefusedMount};
 
 /// Copies what the newest record of the first flash holds to the second one, on which a format left an empty
 /// file system that keeps `limit` versions: each kept version for which there is room, in their order, each
-/// checkpoint, and the place of the present version. The newest versions are copied, and the present one.
-/// What is made beside them is forgotten again. The first flash is only read, and the copy is synced.
+/// checkpoint, and the place of the present version. The newest versions are copied; where the present one is
+/// older than these it is, and the newest for which there is room beside it. What is made beside them is
+/// forgotten again. The first flash is only read, and the copy is synced.
 ///
 /// Versions whose trees are the same stay two: a directory is made in the root and removed between them. So
 /// [`Fault::DirectoryFull`] where the root has no room for one.
@@ -132,12 +133,44 @@ fn copy_kept<F: Flash, G: Flash>(
     ensures err { IfErr result (NotCopied (shown from.old) (F.device from.old.flash.now) (F.device from.new.flash.now) (G.device to.new.flash.now)) }
 {
     let names = log.checkpoints.as_slice();
-    copy_checkpoints(alloc, from, to, names)?;
     let cursor = log.cursor as usize;
-    let first = first_kept(cursor, log.versions.as_slice().len(), limit);
-    let serials = kept_from(log.versions.as_slice(), first, limit);
+    let versions = log.versions.as_slice();
+    let first = first_kept(cursor, versions.len(), limit);
+    match choose_serials(alloc, versions, first, limit) {
+        Ok(serials) => {
+            let chosen = serials.as_slice();
+            copy_chosen(alloc, from, to, names, chosen, cursor - first)
+        }
+        Err(_) => Err(Uncopied::Refused(Fault::NoMemory)),
+    }
+}
+
+/// Copies the checkpoints, and the versions with these serials, of which the one at a place is present.
+fn copy_chosen<F: Flash, G: Flash>(
+    alloc: Global,
+    from: &mut Fs<'_, F>,
+    to: &mut Fs<'_, G>,
+    names: &[CpName],
+    serials: &[u64],
+    place: usize,
+) -> Result<(), Uncopied>
+    // What there is.
+    requires fresh { shown to.old ≡ mounted (fresh (shown to.old).history.limit bare) }
+    requires names { names.now ≡ kept_names (shown from.old) }
+    requires serials { serials.now ≡ map (λ v. v.serial) (kept_versions (shown to.old).history.limit (shown from.old).history) }
+    requires place { place ≡ (shown from.old).history.cursor - first_kept (shown to.old).history.limit (shown from.old).history }
+
+    // The copy.
+    ensures same { IsUnchanged from.old from.new }
+    ensures ok { OnOk result (IsCopy (shown from.old).history (shown to.new).history) }
+    ensures limit { OnOk result ((shown to.new).history.limit ≡ (shown to.old).history.limit) }
+    ensures synced { OnOk result (IsSynced to.new) }
+    ensures same_flash { flash_name to.new ≡ flash_name to.old }
+    ensures err { IfErr result (NotCopied (shown from.old) (F.device from.old.flash.now) (F.device from.new.flash.now) (G.device to.new.flash.now)) }
+{
+    copy_checkpoints(alloc, from, to, names)?;
     copy_versions(alloc, from, to, names, serials)?;
-    match end_copy(alloc, to, serials.len(), cursor - first) {
+    match end_copy(alloc, to, serials.len(), place) {
         Ok(()) => Ok(()),
         Err(fault) => Err(Uncopied::Refused(fault)),
     }

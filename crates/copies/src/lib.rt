@@ -8,5 +8,5 @@ mod kept;
 mod uncopied;
 
 pub use copying::copy_history;
-pub use kept::first_kept;
+pub use kept::is_kept;
 pub use uncopied::Uncopied;

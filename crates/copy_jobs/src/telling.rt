@@ -1,5 +1,5 @@
 //! What is told of a copy on standard error.
-use copies::first_kept;
+use copies::is_kept;
 use flash_model::Geometry;
 use fs_types::{CpName, Fault, Version};
 use image_jobs::Failure;
@@ -69,10 +69,9 @@ pub(crate) fn tell_dropped<E: Write>(
     if versions.len() <= limit {
         return;
     }
-    let first = first_kept(cursor, versions.len(), limit);
     let _ = write!(err, "uffs: dropped versions");
     for (place, version) in versions.iter().enumerate() {
-        if place < first || place - first >= limit {
+        if !is_kept(place, cursor, versions.len(), limit) {
             let _ = write!(err, " {}", version.serial);
         }
     }

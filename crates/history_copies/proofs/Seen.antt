@@ -1,7 +1,7 @@
 -- What stands at the places of a history: versions by their serials, checkpoints by their names.
 use Rattle.std.proofs.Common.{◌≡◌, ◌∙◌, ℕ, zero, suc, ◌+◌, ◌<◌, Bool, true, false, cond, Option, Some, None, List, [], ◌∷◌, length, map, take, drop, get_or, refl, ap, subst, arith}
 use Rattle.std.proofs.lemmas.Bool.{ltb-false, ne_eqb, eqb-false}
-use Rattle.std.proofs.lemmas.List.Elements.{All-take, All-drop, All-head, All-tail}
+use Rattle.std.proofs.lemmas.List.Elements.{All-append, All-take, All-drop, All-head, All-tail}
 use Rattle.std.proofs.lemmas.List.Sums.{position_or_len_is}
 use Rattle.std.specs.Prelude.{◌==◌, All, nat_lt, slice_get, unwrap_or}
 use Rattle.std.specs.BTreeMap.{insert_entry, is_at}
@@ -20,7 +20,7 @@ use Rattle.fs_types.proofs.Orders.{names_total}
 use Rattle.plain_trees.specs.Trees.{Tree, bare}
 use Rattle.history_machine.specs.History.{IsLawful, version_place}
 use Rattle.history_machine.specs.Machine.{Machine, view_tree}
-use Rattle.history_copies.specs.Copies.{roots_in, first_kept, kept_versions}
+use Rattle.history_copies.specs.Copies.{roots_in, first_kept, others_kept, kept_versions}
 
 got : {A : Type 0} (xs : List A) (k : ℕ) (d : A) → k < length xs → slice_get xs k ≡ Some (get_or xs k d)
 got [] k d within = absurd (omega arith)
@@ -64,8 +64,10 @@ module _ (m : Machine) (lawful : IsLawful m.history) where
   -- the trees that the serials of the versions show that are copied
   pub kept_trees : (limit : ℕ) → map (λ serial. view_tree m (View.Serial serial)) (map (λ v. v.serial) (kept_versions limit m.history)) ≡ roots_in (kept_versions limit m.history)
   kept_trees limit = all_trees (kept_versions limit m.history)
-      (All-take (λ (v : Version Tree). view_tree m (View.Serial v.serial) ≡ v.root) limit (drop (first_kept limit m.history) m.history.versions)
+      (All-append (λ (v : Version Tree). view_tree m (View.Serial v.serial) ≡ v.root) (take 1 (drop (first_kept limit m.history) m.history.versions)) (drop (others_kept limit m.history) m.history.versions)
+      (All-take (λ (v : Version Tree). view_tree m (View.Serial v.serial) ≡ v.root) 1 (drop (first_kept limit m.history) m.history.versions)
       (All-drop (λ (v : Version Tree). view_tree m (View.Serial v.serial) ≡ v.root) (first_kept limit m.history) m.history.versions version_tree))
+      (All-drop (λ (v : Version Tree). view_tree m (View.Serial v.serial) ≡ v.root) (others_kept limit m.history) m.history.versions version_tree))
 
 -- ---- checkpoints
 

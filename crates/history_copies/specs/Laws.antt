@@ -2,11 +2,10 @@
 use Rattle.std.specs.Prelude.{◌≡◌, ◌+◌, ◌-◌, ◌≤◌, ℕ, List, [], ◌∷◌, ◌++◌, length, drop}
 use Rattle.fs_types.specs.Names.{Path}
 use Rattle.fs_types.specs.declared.call.Call.{Call}
-use Rattle.plain_trees.specs.Trees.{Tree, bare, IsFileTree}
+use Rattle.plain_trees.specs.Trees.{Tree, bare}
 use Rattle.history_machine.specs.History.{Past, IsLawful, fresh, changed, forgotten, with_checkpoint}
 use Rattle.history_machine.specs.Machine.{IsMachine, mounted, present_tree, after}
-use Rattle.tree_updates.specs.Laws.{EachAccepted}
-use Rattle.tree_updates.specs.Updates.{update_changes}
+use Rattle.tree_updates.specs.Laws.{Brings, EachAccepted}
 use Rattle.history_copies.specs.Copies.{roots_in}
 
 -- where nothing changes, a directory is made and removed
@@ -18,11 +17,10 @@ changes_or (call ∷ calls) path = call ∷ calls
 abbrev pub bringing : List Call → Path → List Call
 bringing changes path = Call.Begin ∷ (changes_or changes path ++ Call.End ∷ Call.Sync ∷ [])
 
--- they make one version, of the tree to which the changes bring the present one
+-- where the changes bring the present tree to another one, they make one version, of that tree
 abbrev pub BringLaw : Type 0
-BringLaw = (h : Past Tree) (new : Tree) (path : Path) → IsMachine (mounted h) → IsFileTree new
-    → EachAccepted (mounted h) (bringing (update_changes (present_tree (mounted h)) new) path)
-    → after (mounted h) (bringing (update_changes (present_tree (mounted h)) new) path) ≡ mounted (changed h new)
+BringLaw = (h : Past Tree) (new : Tree) (changes : List Call) (path : Path) → IsMachine (mounted h) → Brings (present_tree (mounted h)) new changes
+    → EachAccepted (mounted h) (bringing changes path) → after (mounted h) (bringing changes path) ≡ mounted (changed h new)
 
 -- the last so many of a list
 abbrev pub last_of : {A : Type 0} → ℕ → List A → List A

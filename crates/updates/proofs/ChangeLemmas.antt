@@ -19,12 +19,26 @@ use Rattle.inquiries.specs.Items.{IsItemOf, item_at, items_below, items_of}
 use Rattle.inquiries.specs.declared.counterpart.Counterpart.{Counterpart}
 use Rattle.inquiries.specs.declared.items.Item.{Item}
 use Rattle.inquiries.proofs.DifferenceLemmas.{items_there}
-use Rattle.tree_updates.specs.Updates.{goes, removal, removal_at, making, making_at, paths_below, paths_of, update_changes}
-use Rattle.updates.specs.Changes.{changed_file, making_of, removal_of}
+use Rattle.tree_updates.specs.Updates.{goes, removal, removal_at, making, paths_below, paths_of}
+use Rattle.updates.specs.Changes.{changed_file, changes_by, made_by, making_of, removal_of}
 use Rattle.updates.specs.Lines.{PathsLaw}
+use Rattle.updates.specs.declared.manner.Manner.{Manner}
 
 no_entry : {A : Type 0} → IsSome {T = Entry} None → A
 no_entry some = absurd (true≢false (sym some))
+
+-- the manner is for a file of both trees alone
+new_by : (manner : Manner) (p : Path) (entry : Option Entry) → made_by manner p None entry ≡ making p None entry
+new_by Manner.Whole p entry = refl
+new_by Manner.Edited p entry = refl
+
+over_directory : (manner : Manner) (p : Path) (entry : Option Entry) → made_by manner p (Some Entry.Dir) entry ≡ making p (Some Entry.Dir) entry
+over_directory Manner.Whole p entry = refl
+over_directory Manner.Edited p entry = refl
+
+directory_over : (manner : Manner) (p : Path) (bytes : List ℕ) → made_by manner p (Some (Entry.File bytes)) (Some Entry.Dir) ≡ making p (Some (Entry.File bytes)) (Some Entry.Dir)
+directory_over Manner.Whole p bytes = refl
+directory_over Manner.Edited p bytes = refl
 
 -- what is not missing is of the same kind
 pub not_missing : (place : Counterpart) → (place ≡ Counterpart.Missing → ⊥) → (place ≡ Counterpart.Directory) ⊎ (place ≡ Counterpart.File)
@@ -81,29 +95,29 @@ module _ (t u : Tree) (item : Item) (is : IsItemOf t item) (place : Counterpart)
 
   -- ---- what stands in the new tree, by the old one
 
-  directory_made : (o there : Option Entry) → IsSome o → place_of t u item.path o there ≡ Counterpart.Directory → making item.path there o ≡ []
-  directory_made None there some dir = no_entry some
-  directory_made (Some Entry.Dir) None some dir = absurd cc
-  directory_made (Some Entry.Dir) (Some Entry.Dir) some dir = refl
-  directory_made (Some Entry.Dir) (Some (Entry.File others)) some dir = absurd cc
-  directory_made (Some (Entry.File bytes)) None some dir = absurd cc
-  directory_made (Some (Entry.File bytes)) (Some Entry.Dir) some dir = absurd cc
-  directory_made (Some (Entry.File bytes)) (Some (Entry.File others)) some dir = absurd cc
+  directory_made : (manner : Manner) (o there : Option Entry) → IsSome o → place_of t u item.path o there ≡ Counterpart.Directory → made_by manner item.path there o ≡ []
+  directory_made manner None there some dir = no_entry some
+  directory_made manner (Some Entry.Dir) None some dir = absurd cc
+  directory_made manner (Some Entry.Dir) (Some Entry.Dir) some dir = over_directory manner item.path (Some Entry.Dir)
+  directory_made manner (Some Entry.Dir) (Some (Entry.File others)) some dir = absurd cc
+  directory_made manner (Some (Entry.File bytes)) None some dir = absurd cc
+  directory_made manner (Some (Entry.File bytes)) (Some Entry.Dir) some dir = absurd cc
+  directory_made manner (Some (Entry.File bytes)) (Some (Entry.File others)) some dir = absurd cc
 
-  pub making_directory : place ≡ Counterpart.Directory → making_of u t item ≡ []
-  making_directory dir = directory_made (get t item.path) (get u item.path) is.there (sym at_place ∙ dir)
+  pub making_directory : (manner : Manner) → place ≡ Counterpart.Directory → making_of manner u t item ≡ []
+  making_directory manner dir = directory_made manner (get t item.path) (get u item.path) is.there (sym at_place ∙ dir)
 
-  missing_made : (o there : Option Entry) → IsSome o → place_of t u item.path o there ≡ Counterpart.Missing → making item.path there o ≡ making item.path None o
-  missing_made None there some missing = no_entry some
-  missing_made (Some Entry.Dir) None some missing = refl
-  missing_made (Some Entry.Dir) (Some Entry.Dir) some missing = absurd cc
-  missing_made (Some Entry.Dir) (Some (Entry.File others)) some missing = refl
-  missing_made (Some (Entry.File bytes)) None some missing = refl
-  missing_made (Some (Entry.File bytes)) (Some Entry.Dir) some missing = refl
-  missing_made (Some (Entry.File bytes)) (Some (Entry.File others)) some missing = absurd cc
+  missing_made : (manner : Manner) (o there : Option Entry) → IsSome o → place_of t u item.path o there ≡ Counterpart.Missing → made_by manner item.path there o ≡ making item.path None o
+  missing_made manner None there some missing = no_entry some
+  missing_made manner (Some Entry.Dir) None some missing = new_by manner item.path (Some Entry.Dir)
+  missing_made manner (Some Entry.Dir) (Some Entry.Dir) some missing = absurd cc
+  missing_made manner (Some Entry.Dir) (Some (Entry.File others)) some missing = directory_over manner item.path others
+  missing_made manner (Some (Entry.File bytes)) None some missing = new_by manner item.path (Some (Entry.File bytes))
+  missing_made manner (Some (Entry.File bytes)) (Some Entry.Dir) some missing = over_directory manner item.path (Some (Entry.File bytes))
+  missing_made manner (Some (Entry.File bytes)) (Some (Entry.File others)) some missing = absurd cc
 
-  pub making_missing : place ≡ Counterpart.Missing → making_of u t item ≡ making item.path None (get t item.path)
-  making_missing missing = missing_made (get t item.path) (get u item.path) is.there (sym at_place ∙ missing)
+  pub making_missing : (manner : Manner) → place ≡ Counterpart.Missing → making_of manner u t item ≡ making item.path None (get t item.path)
+  making_missing manner missing = missing_made manner (get t item.path) (get u item.path) is.there (sym at_place ∙ missing)
 
   -- both are files
   files_there : (o there : Option Entry) → get t item.path ≡ o → get u item.path ≡ there → IsSome o → place_of t u item.path o there ≡ Counterpart.File
@@ -120,8 +134,8 @@ module _ (t u : Tree) (item : Item) (is : IsItemOf t item) (place : Counterpart)
   pub both_files : place ≡ Counterpart.File → (get t item.path ≡ Some (Entry.File (bytes_of_file t item.path))) × (get u item.path ≡ Some (Entry.File (bytes_of_file u item.path)))
   both_files file = files_there (get t item.path) (get u item.path) refl refl is.there (sym at_place ∙ file)
 
-  pub making_changed : place ≡ Counterpart.File → making_of u t item ≡ changed_file item.path (bytes_of_file u item.path) (bytes_of_file t item.path)
-  making_changed file = let both = both_files file in ap₂ (λ (o there : Option Entry). making item.path o there) both.1 both.0
+  pub making_changed : (manner : Manner) → place ≡ Counterpart.File → making_of manner u t item ≡ changed_file manner item.path (bytes_of_file u item.path) (bytes_of_file t item.path)
+  making_changed manner file = let both = both_files file in ap₂ (λ (o there : Option Entry). made_by manner item.path o there) both.1 both.0
 
 -- ---- an item by what it is
 
@@ -193,11 +207,16 @@ pub all_there_reversed : (t : Tree) (items : List Item) → items ≡ reverse (i
 all_there_reversed t items is = subst (All (IsItemOf t)) (sym is) (All-reverse (IsItemOf t) (items_of t) (items_there t MAX_NAMES []))
 
 -- the changes, by the items for which they are made
-pub all_changes : (old new : Tree) (olds news : List Item) (first second third : List Call) → olds ≡ reverse (items_of old) → news ≡ items_of new
-    → first ≡ [] → second ≡ first ++ flat_map (removal_of old new) olds → third ≡ second ++ flat_map (making_of old new) news → third ≡ update_changes old new
-all_changes old new olds news first second third is is' none gone made =
+pub all_changes : (manner : Manner) (old new : Tree) (olds news : List Item) (first second third : List Call) → olds ≡ reverse (items_of old) → news ≡ items_of new
+    → first ≡ [] → second ≡ first ++ flat_map (removal_of old new) olds → third ≡ second ++ flat_map (making_of manner old new) news → third ≡ changes_by manner old new
+all_changes manner old new olds news first second third is is' none gone made =
     let removals : flat_map (removal_of old new) olds ≡ flat_map (removal_at old new) (reverse (paths_of old)) =
     ap (flat_map (removal_of old new)) is ∙ by_paths (removal_at old new) (reverse (items_of old)) ∙ ap (flat_map (removal_at old new)) (map_reversed (items_of old) ∙ ap reverse (listing old)) in
-    let makings : flat_map (making_of old new) news ≡ flat_map (making_at old new) (paths_of new) =
-    ap (flat_map (making_of old new)) is' ∙ by_paths (making_at old new) (items_of new) ∙ ap (flat_map (making_at old new)) (listing new) in
-    made ∙ ap₂ (λ (a b : List Call). a ++ b) (gone ∙ ap₂ (λ (a b : List Call). a ++ b) none removals) makings
+    let make : Path → List Call = λ p. made_by manner p (get old p) (get new p) in
+    let makings : flat_map (making_of manner old new) news ≡ flat_map make (paths_of new) =
+    ap (flat_map (making_of manner old new)) is' ∙ by_paths make (items_of new) ∙ ap (flat_map make) (listing new) in
+    made ∙ ap₂ (λ (a b : List Call). a ++ b) (gone ∙ ap₂ (λ (a b : List Call). a ++ b) none removals) makings ∙ in_all manner
+  where
+    in_all : (way : Manner) → flat_map (removal_at old new) (reverse (paths_of old)) ++ flat_map (λ p. made_by way p (get old p) (get new p)) (paths_of new) ≡ changes_by way old new
+    in_all Manner.Whole = refl
+    in_all Manner.Edited = refl

@@ -1,19 +1,32 @@
 -- The calls of an update for what stands in two trees.
-use Rattle.std.specs.Prelude.{ℕ, List, Some}
+use Rattle.std.specs.Prelude.{ℕ, Option, List, Some}
+use Rattle.std.specs.FinMap.{get}
 use Rattle.fs_types.specs.Names.{Path}
 use Rattle.fs_types.specs.declared.call.Call.{Call}
 use Rattle.plain_trees.specs.Contents.{Entry}
 use Rattle.plain_trees.specs.Trees.{Tree}
 use Rattle.inquiries.specs.declared.items.Item.{Item}
-use Rattle.tree_updates.specs.Updates.{making, making_at, removal_at}
+use Rattle.tree_updates.specs.Updates.{adapting, edit_changes, making, removal_at, update_changes}
+use Rattle.updates.specs.declared.manner.Manner.{Manner}
 
--- those for what stands at a path in the old tree, where it goes, and in the new one, where it is new or changed
+-- those for what stands at a path in the old tree, where it goes
 abbrev pub removal_of : Tree → Tree → Item → List Call
 removal_of old new item = removal_at old new item.path
 
-abbrev pub making_of : Tree → Tree → Item → List Call
-making_of old new item = making_at old new item.path
+-- those that make what stands at a path in the new tree: a file of both trees is written whole, or keeps what it can
+abbrev pub made_by : Manner → Path → Option Entry → Option Entry → List Call
+made_by Manner.Whole path there entry = making path there entry
+made_by Manner.Edited path there entry = adapting path there entry
+
+-- those for what is new or changed
+abbrev pub making_of : Manner → Tree → Tree → Item → List Call
+making_of manner old new item = made_by manner item.path (get old item.path) (get new item.path)
 
 -- those for a file of both trees
-abbrev pub changed_file : Path → List ℕ → List ℕ → List Call
-changed_file path bytes others = making path (Some (Entry.File bytes)) (Some (Entry.File others))
+abbrev pub changed_file : Manner → Path → List ℕ → List ℕ → List Call
+changed_file manner path bytes others = made_by manner path (Some (Entry.File bytes)) (Some (Entry.File others))
+
+-- all of them
+abbrev pub changes_by : Manner → Tree → Tree → List Call
+changes_by Manner.Whole old new = update_changes old new
+changes_by Manner.Edited old new = edit_changes old new

@@ -9,10 +9,12 @@ ghost use Rattle.history_machine.specs.History.{view_refusal};
 ghost use Rattle.history_machine.specs.Machine.{view_tree, working_tree};
 ghost use Rattle.inquiries.specs.Items.{IsItemOf, IsFileOf};
 ghost use Rattle.inquiries.specs.Readings.{shown, IsUnchanged, Meets};
-ghost use Rattle.tree_updates.specs.Updates.{removal, making, update_changes};
-ghost use Rattle.updates.specs.Changes.{changed_file, making_of, removal_of};
+ghost use Rattle.tree_updates.specs.Updates.{removal, making};
+ghost use Rattle.updates.specs.Changes.{changed_file, changes_by, making_of, removal_of};
 ghost use Rattle.updates.specs.Asked.{AreSmall, MeetsEither, Untold};
 
+use crate::edits::add_editing;
+use crate::manner::Manner;
 use crate::pieces::add_writing;
 use flash_model::Flash;
 use fs_types::{Bytes, Call, Fault, Path, Stat, View};
@@ -21,7 +23,8 @@ use std::alloc::{AllocError, Global};
 use undofs::Fs;
 
 /// The calls that bring the present tree of one file system to that of a view of another, both of which are
-/// only read: first what has gone is removed, then what is new or changed is made whole.
+/// only read: first what has gone is removed, then what is new or changed is made, a file that both have in
+/// this manner.
 ///
 /// [`TellFault::TooManyLines`] where a tree has too much ([`list_folder`]); else [`Fault::ReadFailed`],
 /// [`Fault::PowerCut`] and [`Fault::NoMemory`] may come.
@@ -30,12 +33,13 @@ pub fn list_changes<F: Flash, G: Flash>(
     first: &mut Fs<'_, F>,
     second: &mut Fs<'_, G>,
     view: &View,
+    manner: Manner,
 ) -> Result<Vec<Call>, TellFault>
     requires view { view_refusal (shown second.old).history view.now ≡ None }
     ensures first { IsUnchanged first.old first.new }
     ensures second { IsUnchanged second.old second.new }
     ensures small { OnOk result (AreSmall (working_tree (shown first.old)) (view_tree (shown second.old) view.now)) }
-    ensures ok { IfOk result (λ calls. calls.items ≡ update_changes (working_tree (shown first.old)) (view_tree (shown second.old) view.now)) }
+    ensures ok { IfOk result (λ calls. calls.items ≡ changes_by manner (working_tree (shown first.old)) (view_tree (shown second.old) view.now)) }
     ensures err { IfErr result (Untold (working_tree (shown first.old)) (view_tree (shown second.old) view.now) first.old second.old first.new second.new) }
 {
     let root = Path::root(alloc);
@@ -44,7 +48,7 @@ pub fn list_changes<F: Flash, G: Flash>(
     olds.reverse();
     let mut calls = Vec::new(alloc);
     add_removals(second, view, &olds, &mut calls)?;
-    add_makings(alloc, first, second, view, &news, &mut calls)?;
+    add_makings(alloc, first, second, view, manner, &news, &mut calls)?;
     Ok(calls)
 }
 
@@ -102,6 +106,7 @@ fn add_makings<F: Flash, G: Flash>(
     first: &mut Fs<'_, F>,
     second: &mut Fs<'_, G>,
     view: &View,
+    manner: Manner,
     news: &[Item],
     calls: &mut Vec<Call>,
 ) -> Result<(), Fault>
@@ -109,11 +114,11 @@ fn add_makings<F: Flash, G: Flash>(
     requires there { All (IsItemOf (view_tree (shown second.old) view.now)) news.now }
     ensures first { IsUnchanged first.old first.new }
     ensures second { IsUnchanged second.old second.new }
-    ensures ok { OnOk result (calls.new.items ≡ calls.old.items ++ flat_map (making_of (working_tree (shown first.old)) (view_tree (shown second.old) view.now)) news.now) }
+    ensures ok { OnOk result (calls.new.items ≡ calls.old.items ++ flat_map (making_of manner (working_tree (shown first.old)) (view_tree (shown second.old) view.now)) news.now) }
     ensures err { IfErr result (MeetsEither first.old second.old first.new second.new) }
 {
     for item in news {
-        add_making(alloc, first, second, view, item, calls)?;
+        add_making(alloc, first, second, view, manner, item, calls)?;
     }
     Ok(())
 }
@@ -124,6 +129,7 @@ fn add_making<F: Flash, G: Flash>(
     first: &mut Fs<'_, F>,
     second: &mut Fs<'_, G>,
     view: &View,
+    manner: Manner,
     item: &Item,
     calls: &mut Vec<Call>,
 ) -> Result<(), Fault>
@@ -131,12 +137,12 @@ fn add_making<F: Flash, G: Flash>(
     requires there { IsItemOf (view_tree (shown second.old) view.now) item.now }
     ensures first { IsUnchanged first.old first.new }
     ensures second { IsUnchanged second.old second.new }
-    ensures ok { OnOk result (calls.new.items ≡ calls.old.items ++ making_of (working_tree (shown first.old)) (view_tree (shown second.old) view.now) item.now) }
+    ensures ok { OnOk result (calls.new.items ≡ calls.old.items ++ making_of manner (working_tree (shown first.old)) (view_tree (shown second.old) view.now) item.now) }
     ensures err { IfErr result (MeetsEither first.old second.old first.new second.new) }
 {
     match find_counterpart(first, &View::Present, item)? {
         Counterpart::Directory => Ok(()),
-        Counterpart::File => add_changed(alloc, first, second, view, &item.path, calls),
+        Counterpart::File => { add_changed(alloc, first, second, view, manner, &item.path, calls) }
         Counterpart::Missing => add_new(alloc, second, view, item, calls),
     }
 }
@@ -180,6 +186,7 @@ fn add_changed<F: Flash, G: Flash>(
     first: &mut Fs<'_, F>,
     second: &mut Fs<'_, G>,
     view: &View,
+    manner: Manner,
     path: &Path,
     calls: &mut Vec<Call>,
 ) -> Result<(), Fault>
@@ -187,26 +194,29 @@ fn add_changed<F: Flash, G: Flash>(
     requires second { IsFileOf (shown second.old) view.now path.now }
     ensures first { IsUnchanged first.old first.new }
     ensures second { IsUnchanged second.old second.new }
-    ensures ok { OnOk result (calls.new.items ≡ calls.old.items ++ changed_file path.now (bytes_of_file (working_tree (shown first.old)) path.now) (bytes_of_file (view_tree (shown second.old) view.now) path.now)) }
+    ensures ok { OnOk result (calls.new.items ≡ calls.old.items ++ changed_file manner path.now (bytes_of_file (working_tree (shown first.old)) path.now) (bytes_of_file (view_tree (shown second.old) view.now) path.now)) }
     ensures err { IfErr result (MeetsEither first.old second.old first.new second.new) }
 {
     let bytes = read_file(alloc, first, &View::Present, path)?;
     let others = read_file(alloc, second, view, path)?;
-    Ok(push_changed(calls, path, bytes.as_slice(), others)?)
+    Ok(push_changed(calls, path, manner, bytes.as_slice(), others)?)
 }
 
 /// Adds the calls that give a file of these bytes others, where they are others.
 fn push_changed(
     calls: &mut Vec<Call>,
     path: &Path,
+    manner: Manner,
     bytes: &[u8],
     others: Bytes,
 ) -> Result<(), AllocError>
-    ensures { OnOk result (calls.new.items ≡ calls.old.items ++ changed_file path.now bytes.now others) }
+    ensures { OnOk result (calls.new.items ≡ calls.old.items ++ changed_file manner path.now bytes.now others) }
 {
     if bytes == others.as_slice() {
-        Ok(())
-    } else {
-        add_writing(calls, path, others)
+        return Ok(());
+    }
+    match manner {
+        Manner::Whole => add_writing(calls, path, others),
+        Manner::Edited => add_editing(calls, path, bytes, others.as_slice()),
     }
 }

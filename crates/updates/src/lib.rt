@@ -3,12 +3,15 @@
 
 mod asking;
 mod changes;
+mod edits;
 mod laws;
 mod lines;
+mod manner;
 mod pieces;
 mod telling;
 
 pub use asking::ask_update;
 pub use changes::list_changes;
 pub use laws::paths_law;
+pub use manner::Manner;
 pub use telling::tell_update;

@@ -8,6 +8,7 @@ ghost use Rattle.updates.specs.Asked.{AreSmall, Untold};
 
 use crate::changes::list_changes;
 use crate::lines::print_call;
+use crate::manner::Manner;
 use flash_model::Flash;
 use fs_types::{Bytes, Call, View};
 use inquiries::TellFault;
@@ -31,7 +32,7 @@ pub fn tell_update<F: Flash, G: Flash>(
     ensures ok { IfOk result (λ bytes. bytes ≡ update_text (working_tree (shown first.old)) (working_tree (shown second.old))) }
     ensures err { IfErr result (Untold (working_tree (shown first.old)) (working_tree (shown second.old)) first.old second.old first.new second.new) }
 {
-    let changes = list_changes(alloc, first, second, &View::Present)?;
+    let changes = list_changes(alloc, first, second, &View::Present, Manner::Whole)?;
     Ok(print_group(alloc, changes)?)
 }
 

@@ -1,15 +1,21 @@
-use Rattle.std.proofs.Common.{◌∙◌, List, inl, ap, sym, subst}
+use Rattle.std.proofs.Common.{◌≡◌, ◌∙◌, List, inl, sym, subst}
 use Rattle.fs_types.specs.declared.call.Call.{Call}
-use Rattle.history_copies.specs.Laws.{bringing}
-use Rattle.tree_updates.specs.Updates.{update_changes}
-use Rattle.copies.specs.Calls.{Stops}
-use Rattle.history_machine.specs.Machine.{Machine, view_tree, working_tree}
+use Rattle.fs_types.specs.declared.call.View.{View}
+use Rattle.history_machine.specs.Machine.{Machine, IsMachine, view_tree, working_tree}
 use Rattle.inquiries.specs.Readings.{shown}
 use Rattle.inquiries.proofs.Entries.{view-file_tree}
+use Rattle.tree_updates.specs.Laws.{Brings}
+use Rattle.tree_updates.specs.Updates.{edit_changes}
+use Rattle.tree_updates.proofs.Edited.{edit_law}
 use Rattle.copies.specs.Causes.{NotCopied}
 use Rattle.copies.proofs.Brought.{brought, ready_changed}
 use Rattle.copies.proofs.Causing.{untold}
 use Rattle.copies.proofs.bringing.bring.Goals as goal
+
+-- the changes that are listed bring the one tree to the other
+edited : (from to : Machine) (view : View) (changes : List Call) → IsMachine from → IsMachine to → changes ≡ edit_changes (working_tree to) (view_tree from view) → Brings (working_tree to) (view_tree from view) changes
+edited from to view changes is is' are =
+    subst (Brings (working_tree to) (view_tree from view)) (sym are) (edit_law (working_tree to) (view_tree from view) (view-file_tree to View.Present is') (view-file_tree from view is))
 
 pub returns-in-Err-clause-err : goal.returns-in-Err-clause-err
 returns-in-Err-clause-err g c =
@@ -18,22 +24,27 @@ returns-in-Err-clause-err g c =
 
 pub returns-clause-err : goal.returns-clause-err
 returns-clause-err g c =
-    let m = shown c.args.from.now in
-    let view = c.args.view.now in
+    let from = shown c.args.from.now in
+    let to = shown c.args.to.now in
     let stopped = c.in-Err-make_version.ensures.err in
-    let are = c.deref.ensures.value ∙ c.in-Ok.ensures.ok ∙ ap (λ (x : Machine). update_changes (working_tree x) (view_tree m view)) (sym c.list_changes.ensures.first.machine) in
     inl (record {
       shows = shown c.list_changes.new.first;
-      view = view;
+      view = c.args.view.now;
+      changes = c.deref.result.now;
+      brings = subst (λ (m : Machine). Brings (working_tree m) (view_tree from c.args.view.now) c.deref.result.now) (sym c.list_changes.ensures.first.machine)
+          (edited from to c.args.view.now c.deref.result.now c.args.from.now.mounted.mounted.machine c.args.to.now.mounted.mounted.machine (c.deref.ensures.value ∙ c.in-Ok.ensures.ok));
       path = stopped.0;
-      stops = subst (λ (changes : List Call). Stops (shown c.list_changes.new.first) (bringing changes stopped.0) (g.G.Flash.device c.make_version.new.to.flash.now) c.in-Err-make_version.fault) are stopped.1;
+      stops = stopped.1;
     })
 
 made : goal.returns-in-Ok-make_version-clause-ok
 made g c =
+    let from = shown c.args.from.now in
+    let to = shown c.args.to.now in
     let done = c.in-Ok-make_version.ensures.ok in
-    brought (shown c.args.to.now) (shown c.list_changes.new.first) (shown c.make_version.new.to) (view_tree (shown c.args.from.now) c.args.view.now) _ done.0 c.args.to.now.mounted.mounted.machine
-    (view-file_tree (shown c.args.from.now) c.args.view.now c.args.from.now.mounted.mounted.machine) c.requires.ready.rests c.list_changes.ensures.first.machine (c.deref.ensures.value ∙ c.in-Ok.ensures.ok) done.1
+    brought to (shown c.list_changes.new.first) (shown c.make_version.new.to) (view_tree from c.args.view.now) c.deref.result.now done.0 c.args.to.now.mounted.mounted.machine
+    c.requires.ready.rests c.list_changes.ensures.first.machine
+    (edited from to c.args.view.now c.deref.result.now c.args.from.now.mounted.mounted.machine c.args.to.now.mounted.mounted.machine (c.deref.ensures.value ∙ c.in-Ok.ensures.ok)) done.1
 
 pub returns-in-Ok-make_version-clause-ok : goal.returns-in-Ok-make_version-clause-ok
 returns-in-Ok-make_version-clause-ok g c = made g c

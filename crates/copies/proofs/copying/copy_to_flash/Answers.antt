@@ -8,7 +8,8 @@ copy-copied-requires g c = record { fresh = mounted_fresh c.args.limit (g.G.Flas
 
 pub returns-in-Ok-copied-clause-ok : goal.returns-in-Ok-copied-clause-ok
 returns-in-Ok-copied-clause-ok g c =
-    copied_to c.args.limit (shown c.args.from.now) (shown c.copy-copied.new.to).history (g.G.Flash.device c.copy-copied.new.to.flash.now) (g.G.Flash.device _) (search rules) c.in-Ok-copied.ensures.ok c.in-Ok-copied.ensures.limit c.in-Ok-copied.ensures.synced
+    copied_to c.args.limit (shown c.args.from.now) (shown c.copy-copied.new.to).history (g.G.Flash.device c.copy-copied.new.to.flash.now) (g.G.Flash.device _)
+    (search (rules, c.into_flash-left.ensures.flash, c.copy-copied.ensures.same_flash, c.in-Ok.ensures.same_flash)) c.in-Ok-copied.ensures.ok c.in-Ok-copied.ensures.limit c.in-Ok-copied.ensures.synced
 
 pub returns-in-Err-copied-clause-err : goal.returns-in-Err-copied-clause-err
 returns-in-Err-copied-clause-err g c =

@@ -40,11 +40,11 @@ pub loop-item-preserved : goal.loop-item-preserved
 loop-item-preserved g c =
     let m = shown c.args.first.now in
     let n = shown c.args.second.now in
-    let by_first = subst (λ (k : Machine). c.add_making.new.calls.items ≡ c.loop-item.calls.items ++ making_of (working_tree k) (view_tree (shown c.loop-item.second) c.args.view.now) c.item-item.result) c.loop-item.invariant.0.machine c.in_ok-add_making.ensures.ok in
-    let one = subst (λ (k : Machine). c.add_making.new.calls.items ≡ c.loop-item.calls.items ++ making_of (working_tree m) (view_tree k c.args.view.now) c.item-item.result) c.loop-item.invariant.1.machine by_first in (
+    let by_first = subst (λ (k : Machine). c.add_making.new.calls.items ≡ c.loop-item.calls.items ++ making_of c.args.manner (working_tree k) (view_tree (shown c.loop-item.second) c.args.view.now) c.item-item.result) c.loop-item.invariant.0.machine c.in_ok-add_making.ensures.ok in
+    let one = subst (λ (k : Machine). c.add_making.new.calls.items ≡ c.loop-item.calls.items ++ making_of c.args.manner (working_tree m) (view_tree k c.args.view.now) c.item-item.result) c.loop-item.invariant.1.machine by_first in (
       unchanged-trans c.args.first.now c.loop-item.first c.add_making.new.first c.loop-item.invariant.0 c.add_making.ensures.first,
       unchanged-trans c.args.second.now c.loop-item.second c.add_making.new.second c.loop-item.invariant.1 c.add_making.ensures.second,
-      items_more (making_of (working_tree m) (view_tree n c.args.view.now)) c.args.news.now c.loop-item.item-index c.item-item.result c.args.calls.now.items c.loop-item.calls.items c.add_making.new.calls.items
+      items_more (making_of c.args.manner (working_tree m) (view_tree n c.args.view.now)) c.args.news.now c.loop-item.item-index c.item-item.result c.args.calls.now.items c.loop-item.calls.items c.add_making.new.calls.items
           c.loop-item-test.true c.item-item.is c.loop-item.invariant.2 one,
     )
 
@@ -52,4 +52,4 @@ pub returns-clause-ok : goal.returns-clause-ok
 returns-clause-ok g c =
     let past = c.loop-item-test.false in
     let whole : take c.loop-item.item-index c.args.news.now ≡ c.args.news.now = take_all c.loop-item.item-index c.args.news.now (omega (arith, past)) in
-    subst (λ (items : List Item). c.loop-item.calls.items ≡ c.args.calls.now.items ++ flat_map (making_of (working_tree (shown c.args.first.now)) (view_tree (shown c.args.second.now) c.args.view.now)) items) whole c.loop-item.invariant.2
+    subst (λ (items : List Item). c.loop-item.calls.items ≡ c.args.calls.now.items ++ flat_map (making_of c.args.manner (working_tree (shown c.args.first.now)) (view_tree (shown c.args.second.now) c.args.view.now)) items) whole c.loop-item.invariant.2

@@ -49,7 +49,7 @@ returns-clause-ok g c =
     let news : c.deref-2.result.now ≡ items_of new = c.deref-2.ensures.value ∙ c.in_ok-news.ensures.ok ∙ ap (items_below new MAX_NAMES) c.root-root.ensures in
     let gone = subst (λ (m : Machine). c.add_removals.new.calls.items ≡ c.new-calls.result.items ++ flat_map (removal_of old (view_tree m v)) c.deref.result.now) c.list_folder-2.ensures.same.machine
     (c.in_ok-add_removals.ensures.ok old (all_there_reversed old c.deref.result.now olds)) in
-    let by_first = subst (λ (m : Machine). c.add_makings.new.calls.items ≡ c.add_removals.new.calls.items ++ flat_map (making_of (working_tree m) (view_tree (shown c.add_removals.new.second) v)) c.deref-2.result.now) c.list_folder.ensures.same.machine
+    let by_first = subst (λ (m : Machine). c.add_makings.new.calls.items ≡ c.add_removals.new.calls.items ++ flat_map (making_of c.args.manner (working_tree m) (view_tree (shown c.add_removals.new.second) v)) c.deref-2.result.now) c.list_folder.ensures.same.machine
     c.in_ok-add_makings.ensures.ok in
-    let made = subst (λ (m : Machine). c.add_makings.new.calls.items ≡ c.add_removals.new.calls.items ++ flat_map (making_of old (view_tree m v)) c.deref-2.result.now) (c.add_removals.ensures.same.machine ∙ c.list_folder-2.ensures.same.machine) by_first in
-    all_changes old new c.deref.result.now c.deref-2.result.now c.new-calls.result.items c.add_removals.new.calls.items c.add_makings.new.calls.items olds news c.new-calls.ensures.items gone made
+    let made = subst (λ (m : Machine). c.add_makings.new.calls.items ≡ c.add_removals.new.calls.items ++ flat_map (making_of c.args.manner old (view_tree m v)) c.deref-2.result.now) (c.add_removals.ensures.same.machine ∙ c.list_folder-2.ensures.same.machine) by_first in
+    all_changes c.args.manner old new c.deref.result.now c.deref-2.result.now c.new-calls.result.items c.add_removals.new.calls.items c.add_makings.new.calls.items olds news c.new-calls.ensures.items gone made

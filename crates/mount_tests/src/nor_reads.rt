@@ -3,8 +3,8 @@ ghost use Rattle.std.specs.Prelude.{◌≡◌, ◌<◌};
 ghost use Rattle.flash_model.specs.Geometry.{page_count};
 
 use crate::cleaned::program_erased;
-use crate::nor_sessions::{SESSION, replies};
-use crate::over_parts::{OverPart, formatted};
+use crate::nor_sessions::SESSION;
+use crate::over_parts::{formatted, replies, restarted};
 use flash_model::{DevFault, Flash, PageState};
 use fs_types::Fault;
 use nor_part::{MemoryNor, NorFlash};
@@ -78,10 +78,10 @@ fn refuse_mounts<R: Abort>(
 
 /// The flash on which the script of a number runs.
 fn before(alloc: Global, number: usize) -> Result<NorFlash<MemoryNor>, Fail> {
-    let mut flash: NorFlash<MemoryNor> = formatted(alloc)?;
+    let mut flash = formatted(alloc)?;
     for (script, _) in SESSION.into_iter().take(number) {
         replies(alloc, &mut flash, script)?;
-        flash = flash.restarted(alloc)?;
+        flash = restarted(alloc, flash)?;
     }
     Ok(flash)
 }
@@ -165,7 +165,7 @@ fn is_cut(alloc: Global, good: u64) -> Result<Option<bool>, Fail> {
     if flash.awaits_read() {
         return Ok(None);
     }
-    let mut flash = flash.restarted(alloc)?;
+    let mut flash = restarted(alloc, flash)?;
     let found = replies(alloc, &mut flash, "ls /\nread /d/f 299 9\n")?;
     let is_kept = found.as_str() == "entries 1 d/\ndata 004142\n";
     Ok(Some(is_kept && told.as_str().ends_with("err POWERCUT 24\n")))

@@ -1,13 +1,10 @@
 //! Scripts over a serial NOR part in memory, of each layout: one after the other, and with one operation of
 //! the part troubled.
-use crate::over_parts::{OverPart, formatted};
-use dense_nor::DenseNorFlash;
-use nor_part::{MemoryNor, NorFlash, Trouble};
-use script_runs::run_script_on;
+use crate::over_parts::{Layout, OverPart};
+use nor_part::Trouble;
 use std::alloc::Global;
 use std::process::Abort;
 use std::test::Fail;
-use undofs::Flash;
 
 // Scripts that are run one after the other, each on what a restart finds of those before it.
 pub(crate) const SESSION: [(&str, &str); 5] = [
@@ -30,23 +27,11 @@ pub(crate) const SESSION: [(&str, &str); 5] = [
     ("ls /a\nread /a/g 300 2\n", "entries 1 g\ndata 4142\n"),
 ];
 
-/// What a script is answered.
-pub(crate) fn replies<F: Flash>(
-    alloc: Global,
-    flash: &mut F,
-    script: &str,
-) -> Result<String, Fail> {
-    let mut reader = script.as_bytes();
-    let mut out: Vec<u8> = Vec::new(alloc);
-    run_script_on(alloc, &mut reader, &mut out, flash)?;
-    Ok(String::from_utf8(out)?)
-}
-
 /// Each script is answered as it should be, with a restart after each one.
-fn run_session<F: OverPart, R: Abort>(rt: &R, alloc: Global) -> Result<(), Fail> {
-    let mut flash: F = formatted(alloc)?;
+fn run_session<R: Abort>(rt: &R, alloc: Global, layout: Layout) -> Result<(), Fail> {
+    let mut flash = OverPart::formatted(alloc, layout)?;
     for (script, wanted) in SESSION {
-        let told = replies(alloc, &mut flash, script)?;
+        let told = flash.replies(alloc, script)?;
         assert_eq!(rt; told.as_str(), wanted, "{script}");
         flash = flash.restarted(alloc)?;
     }
@@ -55,46 +40,47 @@ fn run_session<F: OverPart, R: Abort>(rt: &R, alloc: Global) -> Result<(), Fail>
 
 #[test]
 fn a_session_runs(rt: HostRuntime) -> Result<(), Fail> {
-    run_session::<NorFlash<MemoryNor>, HostRuntime>(&rt, rt.alloc())?;
-    run_session::<DenseNorFlash<MemoryNor>, HostRuntime>(&rt, rt.alloc())
+    run_session(&rt, rt.alloc(), Layout::Sure)?;
+    run_session(&rt, rt.alloc(), Layout::Dense)
 }
 
 /// What is answered where the part is troubled in a change and its commit, and what a script is told after a
 /// restart.
-fn troubled<F: OverPart>(
+fn troubled(
     alloc: Global,
+    layout: Layout,
     good: u64,
     trouble: Trouble,
     script: &str,
 ) -> Result<(String, String), Fail> {
-    let mut flash: F = formatted(alloc)?;
-    replies(alloc, &mut flash, "mkdir /a\nsync\n")?;
-    flash.trouble(good, trouble);
-    let told = replies(alloc, &mut flash, "mkdir /b\nsync\n")?;
+    let mut flash = OverPart::formatted(alloc, layout)?;
+    flash.replies(alloc, "mkdir /a\nsync\n")?;
+    flash.plan(good, trouble);
+    let told = flash.replies(alloc, "mkdir /b\nsync\n")?;
     let mut flash = flash.restarted(alloc)?;
-    let found = replies(alloc, &mut flash, script)?;
+    let found = flash.replies(alloc, script)?;
     Ok((told, found))
 }
 
 /// Whether a change and its commit are found whole or not at all where power goes after so many operations:
 /// it is found where the commit answered Ok, and what is found can be taken back.
-fn is_cut<F: OverPart>(alloc: Global, good: u64, trouble: Trouble) -> Result<bool, Fail> {
+fn is_cut(alloc: Global, layout: Layout, good: u64, trouble: Trouble) -> Result<bool, Fail> {
     let before = "entries 1 a/\nok\nentries 0\n";
     let after = "entries 2 a/ b/\nok\nentries 1 a/\n";
-    let (told, found) = troubled::<F>(alloc, good, trouble, "ls /\nundo\nls /\n")?;
+    let (told, found) = troubled(alloc, layout, good, trouble, "ls /\nundo\nls /\n")?;
     let is_done = told.as_str() == "ok\nok\n";
-    let is_last = good.saturating_add(1) == F::change() && trouble == Trouble::CutAfter;
+    let is_last = good.saturating_add(1) == layout.change() && trouble == Trouble::CutAfter;
     let wanted = if is_done || is_last { after } else { before };
-    Ok(is_done == (good == F::change()) && found.as_str() == wanted)
+    Ok(is_done == (good == layout.change()) && found.as_str() == wanted)
 }
 
 /// Whether all is answered as if none had failed where an operation fails after so many: the block is left,
 /// and a restart finds the change.
-fn is_passed<F: OverPart>(alloc: Global, good: u64) -> Result<bool, Fail> {
-    let (told, left) = troubled::<F>(alloc, good, Trouble::Fails, "df\nls /\n")?;
-    let wanted = if good < F::of_nodes() {
+fn is_passed(alloc: Global, layout: Layout, good: u64) -> Result<bool, Fail> {
+    let (told, left) = troubled(alloc, layout, good, Trouble::Fails, "df\nls /\n")?;
+    let wanted = if good < layout.of_nodes() {
         "df data 24 bad 1 free 18 anchors 8\nentries 2 a/ b/\n"
-    } else if good < F::change() {
+    } else if good < layout.change() {
         "df data 24 bad 0 free 19 anchors 7\nentries 2 a/ b/\n"
     } else {
         "df data 24 bad 0 free 19 anchors 8\nentries 2 a/ b/\n"
@@ -103,25 +89,25 @@ fn is_passed<F: OverPart>(alloc: Global, good: u64) -> Result<bool, Fail> {
 }
 
 /// Power goes before, in and after each program and erase of a change and its commit, and each of them fails.
-fn trouble_each<F: OverPart, R: Abort>(rt: &R, alloc: Global) -> Result<(), Fail> {
-    for good in 0..=F::change() {
+fn trouble_each<R: Abort>(rt: &R, alloc: Global, layout: Layout) -> Result<(), Fail> {
+    for good in 0..=layout.change() {
         for trouble in [Trouble::CutBefore, Trouble::CutWithin, Trouble::CutAfter] {
-            let is_right = is_cut::<F>(alloc, good, trouble)?;
+            let is_right = is_cut(alloc, layout, good, trouble)?;
             assert!(rt; is_right, "{trouble:?} {good}");
         }
-        assert!(rt; is_passed::<F>(alloc, good)?, "{good}");
+        assert!(rt; is_passed(alloc, layout, good)?, "{good}");
     }
     Ok(())
 }
 
 #[test]
 fn each_operation_is_troubled_once(rt: HostRuntime) -> Result<(), Fail> {
-    trouble_each::<NorFlash<MemoryNor>, HostRuntime>(&rt, rt.alloc())
+    trouble_each(&rt, rt.alloc(), Layout::Sure)
 }
 
 // The last operation of a commit is the program of a mark on the page that has the mark of the newest record:
 // that one stays where it is torn, and where it fails.
 #[test]
 fn each_operation_on_a_dense_part_is_troubled_once(rt: HostRuntime) -> Result<(), Fail> {
-    trouble_each::<DenseNorFlash<MemoryNor>, HostRuntime>(&rt, rt.alloc())
+    trouble_each(&rt, rt.alloc(), Layout::Dense)
 }

@@ -5,8 +5,9 @@ use crate::subcommand::Subcommand;
 
 const COPY_HELP: &str =
     "NEW is an image with every kept version and checkpoint of the image OLD, in their order, and with the
-same present version. A size that is not given is that of OLD, and H too. A smaller H drops the oldest
-versions, which is told on standard error. Serials ascend as in OLD, and are others. NEW is written whole
+same present version. A size that is not given is that of OLD, and H too. A smaller H keeps the newest
+versions; where the present one is older than these it is kept, and one fewer of them. What is dropped is
+told on standard error. Serials ascend as in OLD, and are others. NEW is written whole
 or not at all: as NEW.new, which is renamed. An image that is there is replaced. Nothing is printed, and
 nothing is written to OLD. With --salvage OLD may be DAMAGED: the versions and checkpoints whose trees
 are whole are copied, and each lost one is told on standard error. Where the present version is lost it

@@ -1,4 +1,6 @@
 //! Marks and sums of a serial NOR part of the dense layout.
+ghost use Rattle.std.specs.Prelude.{◌≤◌};
+
 use dense_nor::{DenseLayout, DenseNor, DenseNorFlash, crc32, mark_of};
 use flash_model::{DevFault, PageState};
 use nor_part::{MemoryNor, Nor, Trouble};
@@ -36,7 +38,9 @@ fn over(alloc: Global, part: MemoryNor, sectors: u32) -> Result<DenseNorFlash<Me
 }
 
 /// One over a blank part of 16 blocks.
-fn blank(alloc: Global, sectors: u32) -> Result<DenseNorFlash<MemoryNor>, Fail> {
+fn blank(alloc: Global, sectors: u32) -> Result<DenseNorFlash<MemoryNor>, Fail>
+    requires { sectors ≤ 64 }
+{
     over(alloc, MemoryNor::new(alloc, 16 * sectors)?, sectors)
 }
 
@@ -115,10 +119,10 @@ fn whole_after_cut(alloc: Global, good: u64, trouble: Trouble) -> Result<Option<
     is_first_erased(&mut flash)?;
     flash.forget_plan();
     flash.power_on();
-    let mut whole = 0;
+    let mut whole = 0u32;
     for page in 0..31 {
         match look(&mut flash, page)? {
-            (PageState::Data, true) => whole += 1,
+            (PageState::Data, true) => whole = whole.saturating_add(1),
             (PageState::Data, false) => return Ok(None),
             _ => {}
         }

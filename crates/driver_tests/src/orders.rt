@@ -1,10 +1,10 @@
 //! Single operations: their orders, and how they end by what is answered.
 ghost use Rattle.std.specs.Prelude.{◌≡◌, [], IfSome};
 
-use crate::telling::{Full, erased_image, told};
+use crate::telling::{Full, Interrupted, erased_image, told};
 use flash_model::{DevFault, Flash, PageState};
 use std::alloc::Global;
-use std::io::Write;
+use std::io::{Read, Write};
 use std::test::Fail;
 use told_flash::ToldFlash;
 
@@ -151,9 +151,9 @@ const CUT_ERASE: [Ended; 3] = [
 ];
 
 /// Whether operations on the flash of a driver that tells this end so, one after the other.
-fn are_ended<O: Write + Drop>(
+fn are_ended<R: Read + Drop, O: Write + Drop>(
     alloc: Global,
-    told: &[u8],
+    told: R,
     orders: O,
     acts: &[Ended],
 ) -> Result<bool, Fail>
@@ -177,6 +177,22 @@ fn orders_of(alloc: Global, acts: &[Act]) -> Result<Vec<u8>, Fail> {
     Ok(orders)
 }
 
+/// Whether operations end so, with these orders, where a signal interrupts each read of what a driver tells.
+fn are_interrupted(
+    alloc: Global,
+    told: &[u8],
+    acts: &[Ended],
+    ordered: &[u8],
+) -> Result<bool, Fail> {
+    let told = Interrupted {
+        bytes: told,
+        was_interrupted: false,
+    };
+    let mut orders: Vec<u8> = Vec::new(alloc);
+    let is_right = are_ended(alloc, told, &mut orders, acts)?;
+    Ok(is_right && orders.as_slice() == ordered)
+}
+
 #[test]
 fn an_operation_ends_by_its_answer(rt: HostRuntime) -> Result<(), Fail> {
     let image = erased_image(rt.alloc(), 32)?;
@@ -187,6 +203,8 @@ fn an_operation_ends_by_its_answer(rt: HostRuntime) -> Result<(), Fail> {
         assert!(rt; is_right, "{ordered:?} {answers:?}");
         let wanted = orders_of(rt.alloc(), ordered)?;
         assert_eq!(rt; orders, wanted, "{ordered:?} {answers:?}");
+        let is_right = are_interrupted(rt.alloc(), told.as_slice(), acts, &wanted)?;
+        assert!(rt; is_right, "{ordered:?} {answers:?}, interrupted");
     }
     Ok(())
 }

@@ -62,6 +62,23 @@ impl Read for Broken<'_> {
     }
 }
 
+/// A reader that a signal interrupts before each read that gives bytes.
+#[derive(Drop)]
+pub(crate) struct Interrupted<'a> {
+    pub(crate) bytes: &'a [u8],
+    pub(crate) was_interrupted: bool,
+}
+
+impl Read for Interrupted<'_> {
+    fn read(&mut self, buffer: &mut [u8]) -> io::Result<usize> {
+        self.was_interrupted = !self.was_interrupted;
+        if self.was_interrupted {
+            return Err(io::Error::from(ErrorKind::Interrupted));
+        }
+        self.bytes.read(buffer)
+    }
+}
+
 /// A writer that takes so many bytes and then fails. It holds back what it takes until it is flushed, and a
 /// flush fails where it has no room left.
 #[derive(Drop)]

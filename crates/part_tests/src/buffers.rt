@@ -118,6 +118,17 @@ fn number_of_check(alloc: Global, place: usize, byte: u8) -> Result<u32, Fail> {
     }
 }
 
+/// The number of what a script is refused for on an image with all pages erased; 0 where it runs.
+fn number_of_run_on_erased(alloc: Global) -> Result<u32, Fail> {
+    let mut image = erased_but(alloc, 0, b'U')?;
+    let count = image.len();
+    let mut replies = buffer_of(alloc, 99)?;
+    match run_buffer(alloc, &mut image, count, b"ls /\n", &mut replies) {
+        Ok(_) => Ok(0),
+        Err(fault) => Ok(fault.number()),
+    }
+}
+
 // A byte at a place, and the number of the refusal: a flash with all pages erased holds no record, and other
 // bytes are no image.
 const IMAGES: [(usize, u8, u32); 4] = [(0, b'U', 27), (20, 2, 103), (8, 1, 102), (7, b'2', 101)];
@@ -128,6 +139,7 @@ fn what_is_refused_has_its_number(rt: HostRuntime) -> Result<(), Fail> {
         let number = number_of_run(rt.alloc(), (room, reply_room), count, script)?;
         assert_eq!(rt; number, wanted);
     }
+    assert_eq!(rt; number_of_run_on_erased(rt.alloc())?, 27);
     for (page, history, room, wanted) in FORMATS {
         let number = number_of_format(rt.alloc(), page, history, room)?;
         assert_eq!(rt; number, wanted);

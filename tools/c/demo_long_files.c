@@ -1,7 +1,7 @@
-/* A file of 100,000 bytes over a longer one, which is one version: with room, on a full flash, and where power goes or the child is
- * killed in each order of it and of the sync after it. Then words that are spelled specially, and the end of a child.
+/* A file over a longer one, which is one version: with room, on a full flash, and where power goes or the child is killed in each order
+ * of it and of the sync after it. Then words that are spelled specially, and the end of a child.
  *
- *   demo_long_files PROGRAM      PROGRAM is `uffs` */
+ *   demo_long_files PROGRAM      PROGRAM is `uffs`; `-` where there is no child, and a call has more bytes */
 #define _GNU_SOURCE
 #include "undofs_client.h"
 #include <errno.h>
@@ -12,7 +12,7 @@
 #include <sys/wait.h>
 #include <unistd.h>
 
-enum { PAGE = 4096, MOST_BLOCKS = 160, OLD = 150000, NEW = 100000 };
+enum { PAGE = 4096, MOST_BLOCKS = 320, MOST = 450000 };
 
 struct part {
     uint8_t states[MOST_BLOCKS];
@@ -25,7 +25,9 @@ static struct part part;
 static struct undofs_driver driver;
 static struct undofs *handle;
 static const char *program;
-static uint8_t old_bytes[OLD], new_bytes[NEW], found[OLD + 1];
+static int has_child;
+static size_t old_count, new_count; /* each more than one call has */
+static uint8_t old_bytes[MOST], new_bytes[MOST], found[MOST + 1];
 static unsigned wrong;
 
 static void want(long long got, long long wanted, const char *what) {
@@ -84,24 +86,26 @@ static void start(uint32_t blocks, uint32_t history) {
 
 /* ---- a file over a longer one ---- */
 
-/* Which file stands at /f, whole: that of the old bytes or of the new ones; 0 for another. */
-static int file_found(void) {
+enum file { OTHER, OLD, NEW };
+
+/* Which file stands at /f, whole: that of the old bytes or of the new ones, or another. */
+static enum file file_found(void) {
     size_t got = 0;
-    if (undofs_read_file(handle, "/f", NULL, 0, found, sizeof found, &got) != 0) return 0;
-    if (got == OLD && memcmp(found, old_bytes, OLD) == 0) return OLD;
-    return got == NEW && memcmp(found, new_bytes, NEW) == 0 ? NEW : 0;
+    if (undofs_read_file(handle, "/f", NULL, 0, found, sizeof found, &got) != 0) return OTHER;
+    if (got == old_count && memcmp(found, old_bytes, old_count) == 0) return OLD;
+    return got == new_count && memcmp(found, new_bytes, new_count) == 0 ? NEW : OTHER;
 }
 
 static void save_old(uint32_t blocks) {
     memset(part.states, UNDOFS_ERASED, sizeof part.states);
     start(blocks, 4);
-    want(undofs_write_file(handle, "/f", old_bytes, OLD), 0, "write");
+    want(undofs_write_file(handle, "/f", old_bytes, old_count), 0, "write");
     want(undofs_sync(handle), 0, "sync");
 }
 
 static void with_room(void) {
     save_old(MOST_BLOCKS);
-    want(undofs_write_file(handle, "/f", new_bytes, NEW), 0, "write over it");
+    want(undofs_write_file(handle, "/f", new_bytes, new_count), 0, "write over it");
     want(file_found(), NEW, "the file");
     want(undofs_undo(handle), 0, "undo");
     want(file_found(), OLD, "the file after undo");
@@ -114,8 +118,8 @@ static void with_room(void) {
 }
 
 static void without_room(void) {
-    save_old(8 + 50);
-    want(undofs_write_file(handle, "/f", new_bytes, NEW), UNDOFS_ENOSPC, "write on a full flash");
+    save_old(8 + (uint32_t)old_count / 3000);
+    want(undofs_write_file(handle, "/f", new_bytes, new_count), UNDOFS_ENOSPC, "write on a full flash");
     want(file_found(), OLD, "the file then");
     want(undofs_begin(handle), 0, "begin: no group is open");
     want(undofs_abandon(handle), 0, "abandon");
@@ -127,11 +131,11 @@ static int is_ended(unsigned cut_at, unsigned kill_at) {
     start(MOST_BLOCKS, 0);
     part.cut_at = cut_at;
     part.kill_at = kill_at;
-    int why = undofs_write_file(handle, "/f", new_bytes, NEW);
+    int why = undofs_write_file(handle, "/f", new_bytes, new_count);
     if (why == 0) why = undofs_sync(handle);
     undofs_end(handle);
     start(MOST_BLOCKS, 0);
-    int file = file_found();
+    enum file file = file_found();
     want(why == 0 ? file == NEW : file == NEW || file == OLD, 1, "which file is found");
     undofs_end(handle);
     return why != 0;
@@ -167,7 +171,7 @@ static void spell_words(void) {
     want(undofs_stat(handle, "/-", NULL, &stat), UNDOFS_ENOENT, "the file after it");
     want(undofs_stat(handle, "", NULL, &stat), UNDOFS_ENOENT, "a path of no bytes");
     want(undofs_write_file(handle, "-", new_bytes, 3), EINVAL_OF_LINES, "a path that is - alone");
-    want(undofs_write_file(handle, "/", new_bytes, NEW), 3, "a long file in the place of the root");
+    want(undofs_write_file(handle, "/", new_bytes, new_count), 3, "a long file in the place of the root");
     want(undofs_rmcheckpoint(handle, "-"), 0, "rmcheckpoint");
     undofs_end(handle);
 }
@@ -189,13 +193,17 @@ static void end_children(void) {
 int main(int count, char **words) {
     if (count != 2) return 2;
     program = words[1];
-    for (size_t i = 0; i < OLD; i++) old_bytes[i] = (uint8_t)(i * 7 + i / 251);
-    for (size_t i = 0; i < NEW; i++) new_bytes[i] = (uint8_t)(i * 11 + i / 241);
+    has_child = strcmp(program, "-") != 0;
+    old_count = has_child ? MOST / 3 : MOST;
+    new_count = old_count / 3 * 2;
+    for (size_t i = 0; i < old_count; i++) old_bytes[i] = (uint8_t)(i * 7 + i / 251);
+    for (size_t i = 0; i < new_count; i++) new_bytes[i] = (uint8_t)(i * 11 + i / 241);
+    want(new_count > undofs_most_data(), 1, "more bytes than one call has");
     with_room();
     without_room();
-    unsigned cuts = end_in_each(0), kills = end_in_each(1);
+    unsigned cuts = end_in_each(0), kills = has_child ? end_in_each(1) : cuts;
     spell_words();
-    end_children();
+    if (has_child) end_children();
     printf("long files: some cuts %d, as many kills %d, %u wrong\n", cuts > 50, kills == cuts, wrong);
     return wrong != 0;
 }

@@ -29,13 +29,13 @@ of_flash="service.c in_process.c shown_pages.c"
 of_nor="service.c nor_driver.c nor_in_process.c shown_sectors.c"
 of_dense_nor="service.c nor_driver.c dense_nor_in_process.c shown_sectors.c"
 
-# Builds a program with a library: its name, the flags, and its sources. LIBRARY is the library, where it is not undofs_in_process; TURNS
-# and SYSTEM name the files that run the service and that are the handle, where others than those of this folder are wanted.
+# Builds a program with a library: its name, the flags, and its sources. LIBRARY is the library, where it is not undofs_in_process; TURNS,
+# CALLS and SYSTEM name the files that run the service, that have the calls and that are the handle, where others are wanted.
 build() {
     local name=$1 flags=$2
     shift 2
     # shellcheck disable=SC2086
-    ${CC:-gcc} $strict -g -O1 $flags -I. -I.. ${SYSTEM:-$of_flash} ${TURNS:-turns_context.c} ../undofs_calls.c "$@" \
+    ${CC:-gcc} $strict -g -O1 $flags -I. -I.. ${SYSTEM:-$of_flash} ${TURNS:-turns_context.c} ${CALLS:-../undofs_calls.c} "$@" \
         -Wl,--gc-sections "$room/lib${LIBRARY:-undofs_in_process}.a" "$room/libheap.a" -lm -lpthread -o "$made/$name"
 }
 
@@ -118,12 +118,26 @@ END
     sed 's/are_near(spare, wanted) ?/(are_near(spare, wanted) || spare[0] == mark[0] || (spare[0] \& 1)) ?/' ../raw_nand.c > "$made/wrong.c"
     build wrong_sum "$sanitizers" "$made/wrong.c" ../nand_in_memory.c ../demo_raw_nand.c && ! run 120 wrong_sum - > /dev/null 2>&1
     tell "a driver that looks at no sum is seen" $?
+    build demo_long_files "$sanitizers" ../demo_long_files.c
+    prints demo_long_files demo_long_files - << END
+long files: some cuts 1, as many kills 1, 0 wrong
+END
+    try_wrong_calls "a long file of several versions" 's/int begun = undofs_begin(u);/int begun = UNDOFS_INGROUP;/'
+    try_wrong_calls "a long file that keeps a tail" 's/UNDOFS_CREAT | UNDOFS_TRUNC, &file/UNDOFS_CREAT, \&file/'
+    try_wrong_calls "a half file on a full flash" 's/why == 0 ? undofs_end_group(u) : undofs_abandon(u)/undofs_end_group(u)/'
     for turns in turns_context turns_thread; do
         TURNS=$turns.c build demo_ram "$sanitizers" demo_ram.c
         prints "demo_ram over $turns" demo_ram < demo_ram.stdout
     done
     build_child demo_ram demo_ram.c && run 120 demo_ram "$program" | diff demo_ram.stdout -
     tell "demo_ram prints the same over a child" $?
+}
+
+# Calls that are wrong, which demo_long_files has to see: what is wrong, and the edit.
+try_wrong_calls() {
+    sed "$2" ../undofs_calls.c > "$made/undofs_calls.c"
+    CALLS=$made/undofs_calls.c build wrong_calls "" ../demo_long_files.c && ! run 300 wrong_calls - > /dev/null 2>&1
+    tell "$1 is seen" $?
 }
 
 # ---- the example ----

@@ -1,21 +1,20 @@
 -- Changes that keep of each file what they can bring one tree to another.
-use Rattle.std.proofs.Common.{◌≡◌, ◌≢◌, ◌∙◌, ◌⊎◌, inl, inr, ℕ, Bool, true, false, cond, Option, Some, None, List, [], ◌∷◌, ◌++◌, refl, sym, ap, subst}
-use Rattle.std.specs.Prelude.{reverse, if◌then◌else◌}
-use Rattle.std.specs.List.{flat_map}
+use Rattle.std.proofs.Common.{◌≡◌, ◌≢◌, ◌∙◌, ◌⊎◌, inl, inr, ℕ, Bool, true, false, cond, Option, Some, None, List, [], ◌∷◌, refl, sym, ap}
+use Rattle.std.specs.Prelude.{if◌then◌else◌}
 use Rattle.std.specs.Option.{option_map_or}
 use Rattle.std.specs.FinMap.{get}
 use Rattle.fs_types.specs.Names.{Path, same_path}
 use Rattle.fs_types.specs.declared.call.Call.{Call}
 use Rattle.fs_types.proofs.Orders.{same_name-own, same_path-is}
 use Rattle.plain_trees.specs.Contents.{Entry, Contents, same_bytes}
-use Rattle.plain_trees.specs.Trees.{Tree, bare, IsFileTree}
+use Rattle.plain_trees.specs.Trees.{Tree, IsFileTree}
 use Rattle.plain_trees.proofs.Edits.{same_tree}
 use Rattle.history_machine.specs.Descriptors.{none_open}
 use Rattle.history_machine.specs.History.{Past, IsLawful}
 use Rattle.history_machine.specs.Machine.{Machine, after}
 use Rattle.tree_updates.specs.Laws.{Brings, EachAccepted, EditLaw, due_after, grouped}
-use Rattle.tree_updates.specs.Updates.{adapting, adapting_at, editing, edit_changes, making, paths_of, removal_at}
-use Rattle.tree_updates.proofs.Assigned.{assigned}
+use Rattle.tree_updates.specs.Updates.{adapting, adapting_at, editing, edit_changes, paths_of}
+use Rattle.tree_updates.proofs.Assigned.{assigned, set_at}
 use Rattle.tree_updates.proofs.Leading.{within, Leads, leads-refl, mkdir_leads}
 use Rattle.tree_updates.proofs.Listed.{listed}
 use Rattle.tree_updates.proofs.Editing.{editing_leads}
@@ -23,16 +22,16 @@ use Rattle.tree_updates.proofs.Pieces.{writing_leads}
 use Rattle.tree_updates.proofs.Updated.{at_differing, at_other, changes_lead, come, come_at, gone, gone_at, left, no_changes, same_or_other}
 
 module _ (old new : Tree) where
-  -- where both trees have a file, the one's bytes stand there, or the other's
-  abbrev Kept : Contents → Type 0
-  Kept c = (q : Path) (bytes others : List ℕ) → get old q ≡ Some (Entry.File bytes) → get new q ≡ Some (Entry.File others) → (c q ≡ Some (Entry.File bytes)) ⊎ (c q ≡ Some (Entry.File others))
+  -- where both trees have a file, and the two differ, the one's bytes stand there, or the other's
+  abbrev pub Kept : Contents → Type 0
+  Kept c = (q : Path) (bytes others : List ℕ) → get old q ≡ Some (Entry.File bytes) → get new q ≡ Some (Entry.File others) → same_bytes bytes others ≡ false → (c q ≡ Some (Entry.File bytes)) ⊎ (c q ≡ Some (Entry.File others))
 
-  keeps : (x : Path → Option (Option Entry)) → ((q : Path) (bytes others : List ℕ) → get old q ≡ Some (Entry.File bytes) → get new q ≡ Some (Entry.File others) → (x q ≡ None) ⊎ (x q ≡ Some (Some (Entry.File others))))
+  pub keeps : (x : Path → Option (Option Entry)) → ((q : Path) (bytes others : List ℕ) → get old q ≡ Some (Entry.File bytes) → get new q ≡ Some (Entry.File others) → (x q ≡ None) ⊎ (x q ≡ Some (Some (Entry.File others))))
       → (p : Path) (c : Contents) → Kept c → Kept (assigned (x p) p c)
-  keeps x lawful p c kept q bytes others was now = go (x p) refl
+  keeps x lawful p c kept q bytes others was now differ = go (x p) refl
     where
       go : (o : Option (Option Entry)) → x p ≡ o → (assigned o p c q ≡ Some (Entry.File bytes)) ⊎ (assigned o p c q ≡ Some (Entry.File others))
-      go None is = kept q bytes others was now
+      go None is = kept q bytes others was now differ
       go (Some y) is = at (same_path q p) refl
         where
           at : (b : Bool) → same_path q p ≡ b → (cond b y (c q) ≡ Some (Entry.File bytes)) ⊎ (cond b y (c q) ≡ Some (Entry.File others))
@@ -44,12 +43,12 @@ module _ (old new : Tree) where
               put : (x q ≡ None) ⊎ (x q ≡ Some (Some (Entry.File others))) → (y ≡ Some (Entry.File bytes)) ⊎ (y ≡ Some (Entry.File others))
               put (inl none) = absurd (let wrong : None ≡ Some y = sym none ∙ here in cc)
               put (inr some) = inr (let one : Some y ≡ Some (Some (Entry.File others)) = sym here ∙ some in cc)
-          at false other = kept q bytes others was now
+          at false other = kept q bytes others was now differ
 
-  gone_kept : (q : Path) (bytes others : List ℕ) → get old q ≡ Some (Entry.File bytes) → get new q ≡ Some (Entry.File others) → (gone_at old new q ≡ None) ⊎ (gone_at old new q ≡ Some (Some (Entry.File others)))
+  pub gone_kept : (q : Path) (bytes others : List ℕ) → get old q ≡ Some (Entry.File bytes) → get new q ≡ Some (Entry.File others) → (gone_at old new q ≡ None) ⊎ (gone_at old new q ≡ Some (Some (Entry.File others)))
   gone_kept q bytes others was now = inl (ap (λ (o : Option Entry). gone old new o (get new q)) was ∙ ap (gone old new (Some (Entry.File bytes))) now)
 
-  come_kept : (q : Path) (bytes others : List ℕ) → get old q ≡ Some (Entry.File bytes) → get new q ≡ Some (Entry.File others) → (come_at old new q ≡ None) ⊎ (come_at old new q ≡ Some (Some (Entry.File others)))
+  pub come_kept : (q : Path) (bytes others : List ℕ) → get old q ≡ Some (Entry.File bytes) → get new q ≡ Some (Entry.File others) → (come_at old new q ≡ None) ⊎ (come_at old new q ≡ Some (Some (Entry.File others)))
   come_kept q bytes others was now = go (same_bytes bytes others) (ap (λ (o : Option Entry). come old new o (get new q)) was ∙ ap (come old new (Some (Entry.File bytes))) now)
     where
       go : (b : Bool) → come_at old new q ≡ (if b then None else Some (Some (Entry.File others))) → (come_at old new q ≡ None) ⊎ (come_at old new q ≡ Some (Some (Entry.File others)))
@@ -63,13 +62,16 @@ module _ (old new : Tree) where
       n : Machine
       n = within h t due none_open
 
-      edited : (bytes others : List ℕ) (b : Bool) → (get t p ≡ Some (Entry.File bytes)) ⊎ (get t p ≡ Some (Entry.File others)) → EachAccepted n (if b then [] else editing p bytes others)
+      edited : (bytes others : List ℕ) (b : Bool) → (b ≡ false → (get t p ≡ Some (Entry.File bytes)) ⊎ (get t p ≡ Some (Entry.File others))) → EachAccepted n (if b then [] else editing p bytes others)
           → Leads h t due none_open (after n (if b then [] else editing p bytes others)) (assigned (if b then None else Some (Some (Entry.File others))) p (get t))
       edited bytes others true either each = leads-refl h t due none_open
-      edited bytes others false (inl was) each = editing_leads h t due p bytes others bytes was (inl refl) each
-      edited bytes others false (inr now) each = editing_leads h t due p bytes others others now (inr refl) each
+      edited bytes others false either each = put (either refl)
+        where
+          put : (get t p ≡ Some (Entry.File bytes)) ⊎ (get t p ≡ Some (Entry.File others)) → Leads h t due none_open (after n (editing p bytes others)) (set_at p (Some (Entry.File others)) (get t))
+          put (inl was) = editing_leads h t due p bytes others bytes was (inl refl) each
+          put (inr now) = editing_leads h t due p bytes others others now (inr refl) each
 
-      go : (o there : Option Entry) → ((bytes others : List ℕ) → o ≡ Some (Entry.File bytes) → there ≡ Some (Entry.File others) → (get t p ≡ Some (Entry.File bytes)) ⊎ (get t p ≡ Some (Entry.File others)))
+      go : (o there : Option Entry) → ((bytes others : List ℕ) → o ≡ Some (Entry.File bytes) → there ≡ Some (Entry.File others) → same_bytes bytes others ≡ false → (get t p ≡ Some (Entry.File bytes)) ⊎ (get t p ≡ Some (Entry.File others)))
           → EachAccepted n (adapting p o there) → Leads h t due none_open (after n (adapting p o there)) (assigned (come old new o there) p (get t))
       go None None either each = leads-refl h t due none_open
       go (Some Entry.Dir) None either each = leads-refl h t due none_open
@@ -92,7 +94,7 @@ module _ (old new : Tree) where
   module _ (lawful : IsFileTree old) (lawful' : IsFileTree new) where
     leads : (h : Past Tree) (due : Bool) → IsLawful h → EachAccepted (grouped h old due) (edit_changes old new)
         → Leads h old due none_open (after (grouped h old due) (edit_changes old new)) (left old new (paths_of old) (paths_of new) (get old))
-    leads h due is each = changes_lead old new Kept (adapting_at old new) (keeps (gone_at old new) gone_kept) (keeps (come_at old new) come_kept) h (adapts h is) old due (λ q bytes others was now. inl was) each
+    leads h due is each = changes_lead old new Kept (adapting_at old new) (keeps (gone_at old new) gone_kept) (keeps (come_at old new) come_kept) h (adapts h is) old due (λ q bytes others was now differ. inl was) each
 
     there : (t : Tree) → get t ≡ left old new (paths_of old) (paths_of new) (get old) → t ≡ new
     there t at = same_tree t new (λ q. ap (λ (c : Contents). c q) at ∙ go q (same_or_other (get old q) (get new q)))

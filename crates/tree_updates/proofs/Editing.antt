@@ -1,5 +1,5 @@
 -- A file that gets other bytes, and keeps what it can.
-use Rattle.std.proofs.Common.{◌≡◌, ◌∙◌, ◌⊎◌, inl, inr, ◌+◌, ◌<◌, ◌≤◌, ◌-◌, ℕ, zero, suc, Bool, true, false, cond, not, Option, Some, None, List, [], ◌∷◌, ◌++◌, length, take, drop, refl, sym, ap, ap₂, subst, append-nil, arith, length-drop}
+use Rattle.std.proofs.Common.{◌≡◌, ◌∙◌, ◌⊎◌, inl, inr, ◌+◌, ◌≤◌, ◌-◌, ℕ, suc, Bool, true, false, cond, not, Option, Some, None, List, [], ◌∷◌, ◌++◌, length, take, drop, refl, sym, ap, ap₂, subst, append-nil, arith, length-drop}
 use Rattle.std.proofs.lemmas.Bool.{eqb-true}
 use Rattle.std.proofs.lemmas.List.{length-take-le, take_all, drop_all, take-append-drop, take-take}
 use Rattle.std.specs.Prelude.{◌==◌, ◌&&◌, ◌||◌, min, nat_lt, replicate}
@@ -13,7 +13,7 @@ use Rattle.plain_trees.specs.Trees.{Tree, bytes_of, bytes_of_file}
 use Rattle.plain_trees.proofs.Edits.{get-put}
 use Rattle.history_machine.specs.Descriptors.{Descriptor, Descriptors, none_open, opened_at_least, truncates}
 use Rattle.history_machine.specs.History.{Past}
-use Rattle.history_machine.specs.Machine.{Machine, open_changes, refusal, machine_of, next, after}
+use Rattle.history_machine.specs.Machine.{open_changes, refusal, machine_of, next, after}
 use Rattle.tree_updates.specs.Laws.{EachAccepted}
 use Rattle.tree_updates.specs.Updates.{common_length, editing, for_writing}
 use Rattle.tree_updates.proofs.Assigned.{set_at}
@@ -44,14 +44,14 @@ common_taken (b ∷ bytes) (c ∷ others) = go (b == c) refl (common_taken bytes
 
 -- ---- the calls, one by one
 
-abbrev opened_for : Path → Descriptor
+abbrev pub opened_for : Path → Descriptor
 opened_for p = record { path = p; flags = for_writing }
 
-abbrev writes : Path → Descriptors
+abbrev pub writes : Path → Descriptors
 writes p = opened_at_least none_open (opened_for p)
 
 module _ (h : Past Tree) (t : Tree) (due : Bool) (p : Path) (content : List ℕ) (there : get t p ≡ Some (Entry.File content)) where
-  opens : refusal (within h t due none_open) (Call.Open p for_writing) ≡ None → Leads h t due (writes p) (next (within h t due none_open) (Call.Open p for_writing)) (get t)
+  pub opens : refusal (within h t due none_open) (Call.Open p for_writing) ≡ None → Leads h t due (writes p) (next (within h t due none_open) (Call.Open p for_writing)) (get t)
   opens ok = record {
     tree = t;
     is_due = due;
@@ -65,7 +65,7 @@ module _ (h : Past Tree) (t : Tree) (due : Bool) (p : Path) (content : List ℕ)
       stays = ap (λ (o : Option Entry). is_none o || (truncates for_writing && nat_lt 0 (length (bytes_of o)))) there
 
   -- a call on the open file that leaves it these bytes, or nothing to do
-  sets : (call : Call) (b : Bool) (now : List ℕ) (u : Tree) → next (within h t due (writes p)) call ≡ within h (cond (not b) u t) (cond (not b) true due) (writes p)
+  pub sets : (call : Call) (b : Bool) (now : List ℕ) (u : Tree) → next (within h t due (writes p)) call ≡ within h (cond (not b) u t) (cond (not b) true due) (writes p)
       → u ≡ file_put t p now → (b ≡ true → now ≡ content) → Leads h t due (writes p) (next (within h t due (writes p)) call) (set_at p (Some (Entry.File now)) (get t))
   sets call b now u made is idle = record {
     tree = cond (not b) u t;
@@ -79,10 +79,10 @@ module _ (h : Past Tree) (t : Tree) (due : Bool) (p : Path) (content : List ℕ)
       at true same = set_there (get t) p (Some (Entry.File now)) (there ∙ ap (λ (xs : List ℕ). Some (Entry.File xs)) (sym (same refl)))
       at false same = ap get is ∙ (λ i q. get-put t p (Entry.File now) q i)
 
-  holds : bytes_of_file t p ≡ content
+  pub holds : bytes_of_file t p ≡ content
   holds = ap bytes_of there
 
-  cuts : (n : ℕ) → n ≤ length content → refusal (within h t due (writes p)) (Call.Ftruncate 0 n) ≡ None
+  pub cuts : (n : ℕ) → n ≤ length content → refusal (within h t due (writes p)) (Call.Ftruncate 0 n) ≡ None
       → Leads h t due (writes p) (next (within h t due (writes p)) (Call.Ftruncate 0 n)) (set_at p (Some (Entry.File (take n content))) (get t))
   cuts n within' ok = sets (Call.Ftruncate 0 n) (length (bytes_of_file t p) == n) (take n content) (file_put t p (resized (bytes_of_file t p) n))
       (ap (machine_of (within h t due (writes p)) (Call.Ftruncate 0 n)) ok ∙ either_made h t (file_put t p (resized (bytes_of_file t p) n)) due (length (bytes_of_file t p) == n) (writes p))
@@ -124,23 +124,23 @@ module _ (h : Past Tree) (t : Tree) (due : Bool) (p : Path) (content : List ℕ)
 
 -- what a file has that has the one's bytes or the other's, once it is cut and written
 module _ (bytes others content : List ℕ) (either : (content ≡ bytes) ⊎ (content ≡ others)) where
-  abbrev shared : ℕ
+  abbrev pub shared : ℕ
   shared = common_length bytes others
 
-  abbrev least : ℕ
+  abbrev pub least : ℕ
   least = min (length bytes) (length others)
 
-  long : least ≤ length content
+  pub long : least ≤ length content
   long = go either
     where
       go : (content ≡ bytes) ⊎ (content ≡ others) → least ≤ length content
       go (inl is) = let l = ap length is in omega (arith, l)
       go (inr is) = let l = ap length is in omega (arith, l)
 
-  shared_within : shared ≤ least
+  pub shared_within : shared ≤ least
   shared_within = let both = common_within bytes others in let first = both.0 in let second = both.1 in omega (arith, first, second)
 
-  shared_taken : take shared content ≡ take shared others
+  pub shared_taken : take shared content ≡ take shared others
   shared_taken = go either
     where
       go : (content ≡ bytes) ⊎ (content ≡ others) → take shared content ≡ take shared others

@@ -6,6 +6,7 @@ use Rattle.std.specs.FinMap.{get}
 use Rattle.fs_types.specs.Names.{Path, same_path}
 use Rattle.fs_types.specs.declared.call.Call.{Call}
 use Rattle.fs_types.specs.declared.call.Group.{Group}
+use Rattle.fs_types.specs.declared.open_flags.OpenFlags.{OpenFlags}
 use Rattle.fs_types.proofs.Orders.{same_path-is}
 use Rattle.plain_trees.specs.Contents.{Entry, Contents}
 use Rattle.plain_trees.specs.Trees.{Tree, put, remove}
@@ -26,9 +27,12 @@ group_of t due = record { root = t; is_due = due }
 abbrev pub within : Past Tree → Tree → Bool → Descriptors → Machine
 within h t due ds = machine_with h (Some (group_of t due)) ds
 
--- a file that was opened anew, where none was open
+-- a file that was opened so, where none was open
+abbrev pub opened_with : OpenFlags → Path → Descriptors
+opened_with flags path = opened_at_least none_open (record { path = path; flags = flags })
+
 abbrev pub opened_anew : Path → Descriptors
-opened_anew path = opened_at_least none_open (record { path = path; flags = anew })
+opened_anew path = opened_with anew path
 
 -- calls lead from a group's tree to another one, which has this at each path; where no version is due by them, to the same one
 pub record Leads (h : Past Tree) (t : Tree) (due : Bool) (ds : Descriptors) (n : Machine) (c : Contents) : Type 0 where

@@ -3,5 +3,7 @@ pub mod Edited
 pub mod Editing
 pub mod Leading
 pub mod Listed
+pub mod Patched
+pub mod Patching
 pub mod Pieces
 pub mod Updated

@@ -11,6 +11,7 @@ use Rattle.std.specs.Option.{is_none, option_map_or, option_and_then}
 use Rattle.std.specs.FinMap.{get}
 use Rattle.fs_types.specs.Names.{Path, same_path}
 use Rattle.fs_types.specs.declared.call.Call.{Call}
+use Rattle.fs_types.specs.declared.open_flags.OpenFlags.{OpenFlags}
 use Rattle.fs_types.proofs.Orders.{same_path-own}
 use Rattle.plain_trees.specs.Contents.{Entry, Contents, overwritten, resized}
 use Rattle.plain_trees.specs.Trees.{Tree, bytes_of, bytes_of_file}
@@ -26,7 +27,7 @@ use Rattle.tree_updates.specs.Laws.{EachAccepted}
 use Rattle.tree_updates.specs.Updates.{piece, writing}
 use Rattle.tree_updates.specs.declared.laws.TheConstants.{PIECE_BYTES}
 use Rattle.tree_updates.proofs.Assigned.{set_at}
-use Rattle.tree_updates.proofs.Leading.{group_of, within, opened_anew, Leads, leads-refl, leads-trans, after-append, accepted-parts, never, set_there, maybe_made, undue_made, write_leads}
+use Rattle.tree_updates.proofs.Leading.{group_of, within, opened_anew, opened_with, Leads, leads-refl, leads-trans, after-append, accepted-parts, never, set_there, maybe_made, undue_made, write_leads}
 
 -- what was put at a path is put over
 pub set_twice : (c : Contents) (p : Path) (x y : Option Entry) → set_at p y (set_at p x c) ≡ set_at p y c
@@ -95,19 +96,19 @@ pub either_made : (h : Past Tree) (t u : Tree) (due b : Bool) (ds : Descriptors)
 either_made h t u due true ds = refl
 either_made h t u due false ds = refl
 
-piece_leads : (h : Past Tree) (t : Tree) (due : Bool) (p : Path) (old bytes : List ℕ) (offset : ℕ) → get t p ≡ Some (Entry.File old) → offset ≡ length old
-    → refusal (within h t due (opened_anew p)) (Call.Pwrite 0 offset bytes) ≡ None
-    → Leads h t due (opened_anew p) (next (within h t due (opened_anew p)) (Call.Pwrite 0 offset bytes)) (set_at p (Some (Entry.File (old ++ bytes))) (get t))
-piece_leads h t due p old bytes offset there is ok = record {
+piece_leads : (f : OpenFlags) (h : Past Tree) (t : Tree) (due : Bool) (p : Path) (old bytes : List ℕ) (offset : ℕ) → get t p ≡ Some (Entry.File old) → offset ≡ length old
+    → refusal (within h t due (opened_with f p)) (Call.Pwrite 0 offset bytes) ≡ None
+    → Leads h t due (opened_with f p) (next (within h t due (opened_with f p)) (Call.Pwrite 0 offset bytes)) (set_at p (Some (Entry.File (old ++ bytes))) (get t))
+piece_leads f h t due p old bytes offset there is ok = record {
   tree = cond (not b) u t;
   is_due = cond (not b) true due;
-  is = ap (machine_of n (Call.Pwrite 0 offset bytes)) ok ∙ either_made h t u due b (opened_anew p);
+  is = ap (machine_of n (Call.Pwrite 0 offset bytes)) ok ∙ either_made h t u due b (opened_with f p);
   at = at b refl;
   undue = undue_made t u due (not b);
 }
   where
     n : Machine
-    n = within h t due (opened_anew p)
+    n = within h t due (opened_with f p)
 
     u : Tree
     u = file_put t p (overwritten (bytes_of_file t p) offset bytes)
@@ -132,27 +133,27 @@ pub stands_then : (c : Contents) (p : Path) (x : Option Entry) → set_at p x c 
 stands_then c p x = ap (λ b. cond b x (c p)) (same_path-own p)
 
 -- pieces from one place on, of which each begins within the bytes
-pieces_lead : (h : Past Tree) (t : Tree) (due : Bool) (p : Path) (bytes : List ℕ) (i k : ℕ) → get t p ≡ Some (Entry.File (take (i * PIECE_BYTES) bytes)) → ((j : ℕ) → j < i + k → j * PIECE_BYTES ≤ length bytes)
-    → EachAccepted (within h t due (opened_anew p)) (map (piece bytes) (range_with_len i k))
-    → Leads h t due (opened_anew p) (after (within h t due (opened_anew p)) (map (piece bytes) (range_with_len i k))) (set_at p (Some (Entry.File (take ((i + k) * PIECE_BYTES) bytes))) (get t))
-pieces_lead h t due p bytes i zero there starts each =
+pub pieces_lead : (f : OpenFlags) (h : Past Tree) (t : Tree) (due : Bool) (p : Path) (bytes : List ℕ) (i k : ℕ) → get t p ≡ Some (Entry.File (take (i * PIECE_BYTES) bytes)) → ((j : ℕ) → j < i + k → j * PIECE_BYTES ≤ length bytes)
+    → EachAccepted (within h t due (opened_with f p)) (map (piece bytes) (range_with_len i k))
+    → Leads h t due (opened_with f p) (after (within h t due (opened_with f p)) (map (piece bytes) (range_with_len i k))) (set_at p (Some (Entry.File (take ((i + k) * PIECE_BYTES) bytes))) (get t))
+pieces_lead f h t due p bytes i zero there starts each =
     let none : i + 0 ≡ i = omega arith in
     let same : get t p ≡ Some (Entry.File (take ((i + 0) * PIECE_BYTES) bytes)) = there ∙ ap (λ (n : ℕ). Some (Entry.File (take (n * PIECE_BYTES) bytes))) (sym none) in
-    subst (Leads h t due (opened_anew p) (within h t due (opened_anew p))) (set_there (get t) p (Some (Entry.File (take ((i + 0) * PIECE_BYTES) bytes))) same) (leads-refl h t due (opened_anew p))
-pieces_lead h t due p bytes i (suc k) there starts each =
+    subst (Leads h t due (opened_with f p) (within h t due (opened_with f p))) (set_there (get t) p (Some (Entry.File (take ((i + 0) * PIECE_BYTES) bytes))) same) (leads-refl h t due (opened_with f p))
+pieces_lead f h t due p bytes i (suc k) there starts each =
     let old : List ℕ = take (i * PIECE_BYTES) bytes in
     let more : List ℕ = take PIECE_BYTES (drop (i * PIECE_BYTES) bytes) in
     let begins : i * PIECE_BYTES ≤ length bytes = starts i (omega arith) in
-    let first = piece_leads h t due p old more (i * PIECE_BYTES) there (sym (length-take-le (i * PIECE_BYTES) bytes begins)) each.0 in
+    let first = piece_leads f h t due p old more (i * PIECE_BYTES) there (sym (length-take-le (i * PIECE_BYTES) bytes begins)) each.0 in
     let joined : old ++ more ≡ take ((i + 1) * PIECE_BYTES) bytes =
     sym (take-add (i * PIECE_BYTES) PIECE_BYTES bytes) ∙ ap (λ (n : ℕ). take n bytes) (let e : i * 30000 + 30000 ≡ (i + 1) * 30000 = omega arith in e) in
     let here : get first.tree p ≡ Some (Entry.File (take ((i + 1) * PIECE_BYTES) bytes)) =
     ap (λ (c : Contents). c p) first.at ∙ stands_then (get t) p (Some (Entry.File (old ++ more))) ∙ ap (λ (xs : List ℕ). Some (Entry.File xs)) joined in
-    let rest = pieces_lead h first.tree first.is_due p bytes (i + 1) k here (λ j below. starts j (omega arith)) (subst (λ n. EachAccepted n (map (piece bytes) (range_with_len (i + 1) k))) first.is each.1) in
+    let rest = pieces_lead f h first.tree first.is_due p bytes (i + 1) k here (λ j below. starts j (omega arith)) (subst (λ n. EachAccepted n (map (piece bytes) (range_with_len (i + 1) k))) first.is each.1) in
     let x : Option Entry = Some (Entry.File (take ((i + 1 + k) * PIECE_BYTES) bytes)) in
-    let all = leads-trans h t due (opened_anew p) (opened_anew p) _ (map (piece bytes) (range_with_len (i + 1) k)) (set_at p (Some (Entry.File (old ++ more))) (get t)) (set_at p x) first rest in
+    let all = leads-trans h t due (opened_with f p) (opened_with f p) _ (map (piece bytes) (range_with_len (i + 1) k)) (set_at p (Some (Entry.File (old ++ more))) (get t)) (set_at p x) first rest in
     let sum : i + 1 + k ≡ i + suc k = omega arith in
-    subst (Leads h t due (opened_anew p) _) (set_twice (get t) p (Some (Entry.File (old ++ more))) x ∙ ap (λ (n : ℕ). set_at p (Some (Entry.File (take (n * PIECE_BYTES) bytes))) (get t)) sum) all
+    subst (Leads h t due (opened_with f p) _) (set_twice (get t) p (Some (Entry.File (old ++ more))) x ∙ ap (λ (n : ℕ). set_at p (Some (Entry.File (take (n * PIECE_BYTES) bytes))) (get t)) sum) all
 
 pub close_leads : (h : Past Tree) (t : Tree) (due : Bool) (d : Descriptor) → Leads h t due none_open (next (within h t due (opened_at_least none_open d)) (Call.Close 0)) (get t)
 close_leads h t due d = record { tree = t; is_due = due; is = refl; at = refl; undue = λ e. (e, refl) }
@@ -179,7 +180,7 @@ writing_leads h t due p bytes lawful = go (nat_le (length bytes) PIECE_BYTES)
         let bounds = div_ceil_times (length bytes) PIECE_BYTES (omega arith) in
         let parts = accepted-parts (within h first.tree first.is_due (opened_anew p)) pieces (Call.Close 0 ∷ []) (subst (λ k. EachAccepted k (pieces ++ Call.Close 0 ∷ [])) first.is each.1) in
         let here : get first.tree p ≡ Some (Entry.File (take (0 * PIECE_BYTES) bytes)) = ap (λ (c : Contents). c p) first.at ∙ stands_then (get t) p (Some (Entry.File [])) in
-        let middle = pieces_lead h first.tree first.is_due p bytes 0 count here (λ j below. (let low : j < count = omega arith in omega (arith, bounds, low))) parts.0 in
+        let middle = pieces_lead anew h first.tree first.is_due p bytes 0 count here (λ j below. (let low : j < count = omega arith in omega (arith, bounds, low))) parts.0 in
         let last = close_leads h middle.tree middle.is_due (record { path = p; flags = anew }) in
         let whole : take ((0 + count) * PIECE_BYTES) bytes ≡ bytes = take_all ((0 + count) * PIECE_BYTES) bytes (omega (arith, bounds)) in
         let x : Option Entry = Some (Entry.File (take ((0 + count) * PIECE_BYTES) bytes)) in

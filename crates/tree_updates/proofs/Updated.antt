@@ -14,11 +14,11 @@ use Rattle.plain_trees.specs.Trees.{Tree, bare, IsFileTree}
 use Rattle.plain_trees.proofs.Lookups.{some-is}
 use Rattle.history_machine.specs.Descriptors.{none_open, any_open}
 use Rattle.history_machine.specs.History.{Past, IsLawful, changed, present_root}
-use Rattle.history_machine.specs.Machine.{Machine, machine_with, machine_of, mounted, present_tree, next, after}
+use Rattle.history_machine.specs.Machine.{Machine, IsMachine, machine_with, machine_of, mounted, present_tree, next, after}
 use Rattle.history_machine.proofs.Groups.{same-free}
 use Rattle.history_machine.proofs.Steps.{passes, outside, tree-changed}
-use Rattle.tree_updates.specs.Laws.{EachAccepted, UpdateLaw}
-use Rattle.tree_updates.specs.Updates.{goes, removal, removal_at, making, making_at, writing, paths_of, update_changes, update_calls}
+use Rattle.tree_updates.specs.Laws.{EachAccepted, UpdateLaw, Updates}
+use Rattle.tree_updates.specs.Updates.{goes, removal, removal_at, making, making_at, writing, paths_of, update_changes}
 use Rattle.tree_updates.proofs.Listed.{IsListing, listed}
 use Rattle.tree_updates.proofs.Assigned.{assigned, all_assigned, all_miss, all_have, contains_reversed}
 use Rattle.tree_updates.proofs.Leading.{within, Leads, leads-refl, leads-trans, after-append, accepted-parts, mkdir_leads, unlink_leads, rmdir_leads}
@@ -244,53 +244,63 @@ one_version : (h : Past Tree) (t : Tree) (due : Bool) → (cond due (changed h t
 one_version h t true = inr (t, refl)
 one_version h t false = inl refl
 
+-- a change group of changes that lead to what is to be left, which is brought to the flash
+module _ (old new : Tree) (m : Machine) (lawful : IsFileTree old) (lawful' : IsFileTree new) (is : IsMachine m) (calls : List Call)
+    (lead : EachAccepted (within m.history (present_tree m) false none_open) calls → Leads m.history (present_tree m) false none_open (after (within m.history (present_tree m) false none_open) calls) (left old new (paths_of old) (paths_of new) (get (present_tree m))))
+    (idle : old ≡ new → calls ≡ []) where
+  abbrev was : Tree
+  was = present_tree m
+
+  abbrev olds : List Path
+  olds = paths_of old
+
+  abbrev news : List Path
+  news = paths_of new
+
+  abbrev n : Machine
+  n = within m.history was false none_open
+
+  abbrev group_calls : List Call
+  group_calls = Call.Begin ∷ (calls ++ Call.End ∷ Call.Sync ∷ [])
+
+  pub group_updates : EachAccepted m group_calls → Updates old new m (after m group_calls)
+  group_updates each = record {
+    tree = record {
+      differing = λ q differs. ap (λ (c : Contents). c q) (ap get now ∙ l.at) ∙ at_differing old new olds news lawful lawful' (listed old lawful) (listed new lawful') (get was) q differs;
+      others = λ q same. ap (λ (c : Contents). c q) (ap get now ∙ l.at) ∙ at_other old new olds news lawful lawful' (listed old lawful) (listed new lawful') (get was) q same;
+    };
+    version = subst (λ (h : Past Tree). (h ≡ m.history) ⊎ ((u : Tree) × (h ≡ changed m.history u))) (sym (ap (λ (k : Machine). k.history) end)) (one_version m.history l.tree l.is_due);
+    none = λ same. ap (λ (k : Machine). k.history) end ∙ ap (λ (b : Bool). cond b (changed m.history l.tree) m.history) (quiet same);
+    rests = end ∙ sym (ap (λ (k : Machine). mounted k.history) end);
+  }
+    where
+      begun : next m Call.Begin ≡ n
+      begun =
+          let shut : any_open m.descriptors ≡ false = (passes (any_open m.descriptors) Busy None (outside m _ each.0).1).0 in
+          ap (machine_of m Call.Begin) each.0 ∙ ap (λ ds. within m.history was false ds) (same-free m.descriptors none_open shut refl is.places)
+
+      parts : EachAccepted n calls × EachAccepted (after n calls) (Call.End ∷ Call.Sync ∷ [])
+      parts = accepted-parts n calls (Call.End ∷ Call.Sync ∷ []) (subst (λ k. EachAccepted k (calls ++ Call.End ∷ Call.Sync ∷ [])) begun each.1)
+
+      l : Leads m.history was false none_open (after n calls) (left old new olds news (get was))
+      l = lead parts.0
+
+      end : after m group_calls ≡ machine_with (cond l.is_due (changed m.history l.tree) m.history) None none_open
+      end =
+          ap (λ k. after k (calls ++ Call.End ∷ Call.Sync ∷ [])) begun ∙ after-append n calls (Call.End ∷ Call.Sync ∷ [])
+          ∙ ap (λ k. after k (Call.End ∷ Call.Sync ∷ [])) l.is ∙ ended m.history l.tree l.is_due
+
+      now : present_tree (after m group_calls) ≡ l.tree
+      now = ap present_tree end ∙ shown m.history l.tree l.is_due is.lawful (λ e. (l.undue e).1)
+
+      due_of : Machine → Bool
+      due_of k = option_map_or (λ g. g.is_due) k.group false
+
+      quiet : old ≡ new → l.is_due ≡ false
+      quiet same = sym (ap due_of l.is) ∙ ap due_of (ap (after n) (idle same))
+
 pub update_law : UpdateLaw
-update_law old new m lawful lawful' is each = record {
-  tree = record {
-    differing = λ q differs. ap (λ (c : Contents). c q) (ap get now ∙ l.at) ∙ at_differing old new olds news lawful lawful' (listed old lawful) (listed new lawful') (get was) q differs;
-    others = λ q same. ap (λ (c : Contents). c q) (ap get now ∙ l.at) ∙ at_other old new olds news lawful lawful' (listed old lawful) (listed new lawful') (get was) q same;
-  };
-  version = subst (λ (h : Past Tree). (h ≡ m.history) ⊎ ((u : Tree) × (h ≡ changed m.history u))) (sym (ap (λ (k : Machine). k.history) end)) (one_version m.history l.tree l.is_due);
-  none = λ same. ap (λ (k : Machine). k.history) end ∙ ap (λ (b : Bool). cond b (changed m.history l.tree) m.history) (quiet same);
-  rests = end ∙ sym (ap (λ (k : Machine). mounted k.history) end);
-}
-  where
-    was : Tree
-    was = present_tree m
-
-    calls : List Call
-    calls = update_changes old new
-
-    olds : List Path
-    olds = paths_of old
-
-    news : List Path
-    news = paths_of new
-
-    n : Machine
-    n = within m.history was false none_open
-
-    begun : next m Call.Begin ≡ n
-    begun =
-        let shut : any_open m.descriptors ≡ false = (passes (any_open m.descriptors) Busy None (outside m _ each.0).1).0 in
-        ap (machine_of m Call.Begin) each.0 ∙ ap (λ ds. within m.history was false ds) (same-free m.descriptors none_open shut refl is.places)
-
-    parts : EachAccepted n calls × EachAccepted (after n calls) (Call.End ∷ Call.Sync ∷ [])
-    parts = accepted-parts n calls (Call.End ∷ Call.Sync ∷ []) (subst (λ k. EachAccepted k (calls ++ Call.End ∷ Call.Sync ∷ [])) begun each.1)
-
-    l : Leads m.history was false none_open (after n calls) (left old new olds news (get was))
-    l = changes_lead old new (λ c. Unit {0}) (making_at old new) (λ p c still. tt) (λ p c still. tt) m.history (λ p t due still. making_leads old new m.history is.lawful p t due) was false tt parts.0
-
-    end : after m (update_calls old new) ≡ machine_with (cond l.is_due (changed m.history l.tree) m.history) None none_open
-    end =
-        ap (λ k. after k (calls ++ Call.End ∷ Call.Sync ∷ [])) begun ∙ after-append n calls (Call.End ∷ Call.Sync ∷ [])
-        ∙ ap (λ k. after k (Call.End ∷ Call.Sync ∷ [])) l.is ∙ ended m.history l.tree l.is_due
-
-    now : present_tree (after m (update_calls old new)) ≡ l.tree
-    now = ap present_tree end ∙ shown m.history l.tree l.is_due is.lawful (λ e. (l.undue e).1)
-
-    due_of : Machine → Bool
-    due_of k = option_map_or (λ g. g.is_due) k.group false
-
-    quiet : old ≡ new → l.is_due ≡ false
-    quiet same = sym (ap due_of l.is) ∙ ap due_of (ap (after n) (same_changes old new same))
+update_law old new m lawful lawful' is =
+    group_updates old new m lawful lawful' is (update_changes old new)
+    (changes_lead old new (λ c. Unit {0}) (making_at old new) (λ p c still. tt) (λ p c still. tt) m.history (λ p t due still. making_leads old new m.history is.lawful p t due) (present_tree m) false tt)
+    (same_changes old new)

@@ -1,14 +1,14 @@
 -- The law of updates.
-use Rattle.std.specs.Prelude.{◌≡◌, ◌≢◌, ◌⊎◌, Bool, true, Some, None, List, [], ◌∷◌}
+use Rattle.std.specs.Prelude.{◌≡◌, ◌≢◌, ◌⊎◌, ℕ, Bool, true, Some, None, List, [], ◌∷◌}
 use Rattle.std.specs.FinMap.{get}
 use Rattle.fs_types.specs.Names.{Path}
 use Rattle.fs_types.specs.declared.call.Call.{Call}
-use Rattle.fs_types.specs.declared.call.Group.{Group}
+use Rattle.plain_trees.specs.Contents.{Entry}
 use Rattle.plain_trees.specs.Trees.{Tree, IsFileTree}
 use Rattle.history_machine.specs.Descriptors.{none_open}
 use Rattle.history_machine.specs.History.{Past, IsLawful, changed}
 use Rattle.history_machine.specs.Machine.{Machine, IsMachine, machine_with, mounted, present_tree, refusal, next, after}
-use Rattle.tree_updates.specs.Updates.{edit_changes, update_calls}
+use Rattle.tree_updates.specs.Updates.{edit_changes, patch_calls, update_calls}
 
 -- each call is accepted, one after the other
 abbrev pub EachAccepted : Machine → List Call → Type 0
@@ -32,6 +32,15 @@ pub record Updates (old new : Tree) (m n : Machine) : Type 0 where
 abbrev pub UpdateLaw : Type 0
 UpdateLaw = (old new : Tree) (m : Machine) → IsFileTree old → IsFileTree new → IsMachine m
     → EachAccepted m (update_calls old new) → Updates old new m (after m (update_calls old new))
+
+-- a tree has the old one's bytes in each file of which the new one has others
+abbrev pub HasOld : Tree → Tree → Tree → Type 0
+HasOld old new t = (path : Path) (bytes others : List ℕ) → get old path ≡ Some (Entry.File bytes) → get new path ≡ Some (Entry.File others) → bytes ≢ others → get t path ≡ Some (Entry.File bytes)
+
+-- the same of an update that writes of each file only what differs, where the present tree has what it is to differ from
+abbrev pub PatchLaw : Type 0
+PatchLaw = (old new : Tree) (m : Machine) → IsFileTree old → IsFileTree new → IsMachine m → HasOld old new (present_tree m)
+    → EachAccepted m (patch_calls old new) → Updates old new m (after m (patch_calls old new))
 
 -- a history with a change group that has a tree, where no file is open
 abbrev pub grouped : Past Tree → Tree → Bool → Machine

@@ -1,5 +1,5 @@
 -- The calls that bring one tree to another.
-use Rattle.std.specs.Prelude.{ℕ, zero, suc, ◌*◌, ◌==◌, min, nat_le, Bool, true, false, Option, Some, None, List, [], ◌∷◌, ◌++◌, length, take, drop, map, reverse, if◌then◌else◌}
+use Rattle.std.specs.Prelude.{ℕ, zero, suc, ◌*◌, ◌/◌, ◌-◌, ◌==◌, min, nat_le, Bool, true, false, Option, Some, None, List, [], ◌∷◌, ◌++◌, length, take, drop, map, reverse, if◌then◌else◌}
 use Rattle.std.specs.Int.{div_ceil}
 use Rattle.std.specs.List.{flat_map, range_with_len}
 use Rattle.std.specs.FinMap.{get}
@@ -75,6 +75,42 @@ adapting path there entry = making path there entry
 abbrev pub adapting_at : Tree → Tree → Path → List Call
 adapting_at old new path = adapting path (get old path) (get new path)
 
+-- a byte that is the same in both, or not, before so many up to the last one that differs
+abbrev pub end_before : Bool → ℕ → ℕ
+end_before true zero = 0
+end_before same n = suc n
+
+-- how many bytes of two files there are up to the last place at which they differ
+abbrev pub changed_end : List ℕ → List ℕ → ℕ
+changed_end [] others = 0
+changed_end (byte ∷ bytes) [] = 0
+changed_end (byte ∷ bytes) (other ∷ others) = end_before (byte == other) (changed_end bytes others)
+
+-- what differs in the second file: from the first byte on that differs, to the last one where both are as long
+abbrev pub changed_bytes : List ℕ → List ℕ → List ℕ
+changed_bytes bytes others = drop (common_length bytes others) (if length bytes == length others then take (changed_end bytes others) others else others)
+
+-- a file keeps so many pieces, and the others are written behind them
+abbrev pub rewriting : Path → ℕ → List ℕ → List Call
+rewriting path kept bytes = Call.Open path for_writing ∷ Call.Ftruncate 0 (kept * PIECE_BYTES)
+    ∷ (map (piece bytes) (range_with_len kept (div_ceil (length bytes) PIECE_BYTES - kept)) ++ Call.Close 0 ∷ [])
+
+-- a file that has some bytes gets others by short lines: what differs is put over it, and it is cut or ends there; where that is more
+-- than a piece, the pieces before it stay
+abbrev pub patching : Path → List ℕ → List ℕ → List Call
+patching path bytes others =
+    if nat_le (length (changed_bytes bytes others)) PIECE_BYTES
+    then Call.Open path for_writing ∷ Call.Pwrite 0 (common_length bytes others) (changed_bytes bytes others) ∷ Call.Ftruncate 0 (length others) ∷ Call.Close 0 ∷ []
+    else rewriting path (common_length bytes others / PIECE_BYTES) others
+
+-- the same as `making`, but that of a file in the place of a file only what differs is written
+abbrev pub amending : Path → Option Entry → Option Entry → List Call
+amending path (Some (Entry.File bytes)) (Some (Entry.File others)) = if same_bytes bytes others then [] else patching path bytes others
+amending path there entry = making path there entry
+
+abbrev pub amending_at : Tree → Tree → Path → List Call
+amending_at old new path = amending path (get old path) (get new path)
+
 -- the paths of what stands below a directory, in so many levels: a directory's before those of what stands in it, and names in byte
 -- order
 unfoldable pub paths_below : Tree → ℕ → Path → List Path
@@ -93,6 +129,13 @@ update_changes old new = flat_map (removal_at old new) (reverse (paths_of old)) 
 abbrev pub edit_changes : Tree → Tree → List Call
 edit_changes old new = flat_map (removal_at old new) (reverse (paths_of old)) ++ flat_map (adapting_at old new) (paths_of new)
 
+-- the same, where of each file of both trees only what differs is written
+abbrev pub patch_changes : Tree → Tree → List Call
+patch_changes old new = flat_map (removal_at old new) (reverse (paths_of old)) ++ flat_map (amending_at old new) (paths_of new)
+
 -- all of it in one change group, which is brought to the flash
 abbrev pub update_calls : Tree → Tree → List Call
 update_calls old new = Call.Begin ∷ (update_changes old new ++ Call.End ∷ Call.Sync ∷ [])
+
+abbrev pub patch_calls : Tree → Tree → List Call
+patch_calls old new = Call.Begin ∷ (patch_changes old new ++ Call.End ∷ Call.Sync ∷ [])

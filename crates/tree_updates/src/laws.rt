@@ -1,13 +1,15 @@
 //! The laws of updates. The function does nothing: its contract is the laws.
-ghost use Rattle.tree_updates.specs.Laws.{EditLaw, UpdateLaw};
+ghost use Rattle.tree_updates.specs.Laws.{EditLaw, PatchLaw, UpdateLaw};
 
 /// The bytes that a line of a script names at most, here: with the longest path it has room for as many.
 pub const PIECE_BYTES: u32 = 30_000;
 
 /// What the calls of an update leave: at each path at which the two trees differ what the second has, and
-/// elsewhere what was there before; and one version at most. And the changes that write of each file only what
-/// differs bring a tree to the other one.
+/// elsewhere what was there before; and one version at most. The same of calls that write of each file only what
+/// differs, where the tree has what the first one has there. And the changes that write each file from the first
+/// byte on that differs bring a tree to the other one.
 pub fn update_laws()
     ensures updates { UpdateLaw }
+    ensures patches { PatchLaw }
     ensures edits { EditLaw }
 {}

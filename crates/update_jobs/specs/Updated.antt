@@ -1,14 +1,19 @@
 -- How the script that brings the tree of one image to that of another is told.
-use Rattle.std.specs.Prelude.{◌≡◌, ◌⊎◌, ℕ, Option, Result, Ok, Err, List, take}
+use Rattle.std.specs.Prelude.{◌≡◌, ◌⊎◌, ℕ, Bool, if◌then◌else◌, Option, Result, Ok, Err, List, take}
 use Rattle.std.specs.Io.KnownBytes.{Appends}
 use Rattle.flash_model.specs.Device.{Device}
 use Rattle.flash_simulation.specs.Simulation.{device_of}
 use Rattle.flash_simulation.specs.declared.sim_flash.SimFlash.{SimFlash}
 use Rattle.inquiries.specs.declared.asking.AskFault.{AskFault}
 use Rattle.updates.specs.Asked.{TellsUpdate, UpdateCause}
+use Rattle.updates.specs.declared.manner.Manner.{Manner}
 use Rattle.image_jobs.specs.Images.{IsSpelledFlash, LoadCause}
 use Rattle.image_jobs.specs.declared.failure.Failure.{Failure}
 use Rattle.inquiry_jobs.specs.Asking.{of_ask}
+
+-- a file that two trees have is written whole, or only what differs is put over it
+abbrev pub manner_asked : Bool → Manner
+manner_asked changes = if changes then Manner.Patched else Manner.Whole
 
 -- two files spell flashes
 pub record AreLoaded (held other : Option (List ℕ)) (flash another : SimFlash) : Type 0 where
@@ -16,8 +21,8 @@ pub record AreLoaded (held other : Option (List ℕ)) (flash another : SimFlash)
   pub second : IsSpelledFlash other another
 
 -- these bytes are what brings the tree of one image to that of another
-abbrev pub IsUpdateTold : Option (List ℕ) → Option (List ℕ) → List ℕ → Type 0
-IsUpdateTold held other bytes = (first : SimFlash) × (second : SimFlash) × AreLoaded held other first second × TellsUpdate (device_of first) (device_of second) bytes
+abbrev pub IsUpdateTold : Manner → Option (List ℕ) → Option (List ℕ) → List ℕ → Type 0
+IsUpdateTold manner held other bytes = (first : SimFlash) × (second : SimFlash) × AreLoaded held other first second × TellsUpdate manner (device_of first) (device_of second) bytes
 
 -- nothing is told of two flashes
 abbrev pub IsUntoldOf : SimFlash → SimFlash → Failure → Type 0
@@ -30,7 +35,7 @@ UpdateUntold held other failure = LoadCause held failure
     ⊎ ((first : SimFlash) × (second : SimFlash) × AreLoaded held other first second × IsUntoldOf first second failure))
 
 -- they are written; or there are none, and nothing is written; or the output fails
-abbrev pub UpdateEnds : Option (List ℕ) → Option (List ℕ) → Result (Unit {0}) Failure → Option (List ℕ) → Option (List ℕ) → Type 0
-UpdateEnds held other (Ok done) old new = (bytes : List ℕ) × IsUpdateTold held other bytes × Appends old new bytes
-UpdateEnds held other (Err failure) old new = (UpdateUntold held other failure × (new ≡ old))
-    ⊎ ((bytes : List ℕ) × (n : ℕ) × IsUpdateTold held other bytes × (failure ≡ Failure.Output) × Appends old new (take n bytes))
+abbrev pub UpdateEnds : Manner → Option (List ℕ) → Option (List ℕ) → Result (Unit {0}) Failure → Option (List ℕ) → Option (List ℕ) → Type 0
+UpdateEnds manner held other (Ok done) old new = (bytes : List ℕ) × IsUpdateTold manner held other bytes × Appends old new bytes
+UpdateEnds manner held other (Err failure) old new = (UpdateUntold held other failure × (new ≡ old))
+    ⊎ ((bytes : List ℕ) × (n : ℕ) × IsUpdateTold manner held other bytes × (failure ≡ Failure.Output) × Appends old new (take n bytes))

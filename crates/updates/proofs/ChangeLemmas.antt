@@ -31,14 +31,17 @@ no_entry some = absurd (true≢false (sym some))
 new_by : (manner : Manner) (p : Path) (entry : Option Entry) → made_by manner p None entry ≡ making p None entry
 new_by Manner.Whole p entry = refl
 new_by Manner.Edited p entry = refl
+new_by Manner.Patched p entry = refl
 
 over_directory : (manner : Manner) (p : Path) (entry : Option Entry) → made_by manner p (Some Entry.Dir) entry ≡ making p (Some Entry.Dir) entry
 over_directory Manner.Whole p entry = refl
 over_directory Manner.Edited p entry = refl
+over_directory Manner.Patched p entry = refl
 
 directory_over : (manner : Manner) (p : Path) (bytes : List ℕ) → made_by manner p (Some (Entry.File bytes)) (Some Entry.Dir) ≡ making p (Some (Entry.File bytes)) (Some Entry.Dir)
 directory_over Manner.Whole p bytes = refl
 directory_over Manner.Edited p bytes = refl
+directory_over Manner.Patched p bytes = refl
 
 -- what is not missing is of the same kind
 pub not_missing : (place : Counterpart) → (place ≡ Counterpart.Missing → ⊥) → (place ≡ Counterpart.Directory) ⊎ (place ≡ Counterpart.File)
@@ -220,3 +223,4 @@ all_changes manner old new olds news first second third is is' none gone made =
     in_all : (way : Manner) → flat_map (removal_at old new) (reverse (paths_of old)) ++ flat_map (λ p. made_by way p (get old p) (get new p)) (paths_of new) ≡ changes_by way old new
     in_all Manner.Whole = refl
     in_all Manner.Edited = refl
+    in_all Manner.Patched = refl

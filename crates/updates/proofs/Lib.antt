@@ -1,3 +1,4 @@
 pub mod ChangeLemmas
 pub mod Meeting
+pub mod PatchLemmas
 pub mod PieceLemmas

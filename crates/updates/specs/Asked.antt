@@ -16,6 +16,7 @@ use Rattle.inquiries.specs.Readings.{Meets}
 use Rattle.inquiries.specs.declared.asking.AskFault.{AskFault}
 use Rattle.inquiries.specs.declared.tell_fault.TellFault.{TellFault}
 use Rattle.updates.specs.Lines.{update_text}
+use Rattle.updates.specs.declared.manner.Manner.{Manner}
 
 -- neither tree has too much
 abbrev pub AreSmall : Tree → Tree → Type 0
@@ -36,13 +37,13 @@ module _ {F G : Type 0} {flash : Ghosts F} {another : Ghosts G} where
   Untold old new first second left other (TellFault.Refused fault) = MeetsEither first second left other fault
   Untold old new first second left other TellFault.TooManyLines = AreSmall old new → ⊥
 
--- the newest record of the second flash is mounted, and these bytes are what brings a machine's tree to its tree
-pub record TellsSecond (m : Machine) (e : Device) (bytes : List ℕ) : Type 0 where
+-- the newest record of the second flash is mounted, and these bytes are what brings a machine's tree to its tree in this manner
+pub record TellsSecond (manner : Manner) (m : Machine) (e : Device) (bytes : List ℕ) : Type 0 where
   pub device : Device
   pub system : System
   pub mounted : IsMountOf e device system
   pub small : AreSmall (working_tree m) (working_tree (machine_on device system.state))
-  pub told : bytes ≡ update_text (working_tree m) (working_tree (machine_on device system.state))
+  pub told : bytes ≡ update_text manner (working_tree m) (working_tree (machine_on device system.state))
 
 -- it is mounted, and nothing is told: by what the work met, where the first was left so, or a tree has too much
 pub record RefusesSecond (e : Device) (Why : Device → Tree → Type 0) : Type 0 where
@@ -58,11 +59,11 @@ SecondCause m first left e other (AskFault.Refused fault) = RefusesSecond e (λ 
 SecondCause m first left e other AskFault.TooManyLines = RefusesSecond e (λ device t. AreSmall (working_tree m) t → ⊥)
 
 -- the newest records of two flashes are mounted, and these bytes are what brings the tree of the first to that of the second
-pub record TellsUpdate (d e : Device) (bytes : List ℕ) : Type 0 where
+pub record TellsUpdate (manner : Manner) (d e : Device) (bytes : List ℕ) : Type 0 where
   pub device : Device
   pub system : System
   pub mounted : IsMountOf d device system
-  pub second : TellsSecond (machine_on device system.state) e bytes
+  pub second : TellsSecond manner (machine_on device system.state) e bytes
 
 -- the first is mounted, and nothing is told of the second
 pub record RefusesUpdate (d e left other : Device) (fault : AskFault) : Type 0 where

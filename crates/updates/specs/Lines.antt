@@ -7,7 +7,9 @@ use Rattle.plain_trees.specs.Trees.{Tree}
 use Rattle.inquiries.specs.Items.{items_of}
 use Rattle.inquiries.specs.Printed.{path_text}
 use Rattle.inquiries.specs.declared.items.Item.{Item}
-use Rattle.tree_updates.specs.Updates.{paths_of, update_calls}
+use Rattle.tree_updates.specs.Updates.{paths_of}
+use Rattle.updates.specs.Changes.{group_by}
+use Rattle.updates.specs.declared.manner.Manner.{Manner}
 
 -- data as a word of a script
 abbrev pub data_word : List ℕ → List ℕ
@@ -25,6 +27,7 @@ call_line (Call.Unlink path) = codes "unlink " ++ path_text path ++ codes "\n"
 call_line (Call.WriteFile path bytes) = codes "write " ++ path_text path ++ codes " " ++ data_word bytes ++ codes "\n"
 call_line (Call.Open path flags) = codes "open " ++ path_text path ++ codes " " ++ decimal flags.0 ++ codes "\n"
 call_line (Call.Pwrite descriptor offset bytes) = codes "pwrite " ++ decimal descriptor ++ codes " " ++ decimal offset ++ codes " " ++ data_word bytes ++ codes "\n"
+call_line (Call.Ftruncate descriptor size) = codes "ftruncate " ++ decimal descriptor ++ codes " " ++ decimal size ++ codes "\n"
 call_line (Call.Close descriptor) = codes "close " ++ decimal descriptor ++ codes "\n"
 call_line _ = []
 
@@ -33,8 +36,8 @@ abbrev pub lines_of : List Call → List ℕ
 lines_of calls = flat_map call_line calls
 
 -- the script that brings one tree to another
-abbrev pub update_text : Tree → Tree → List ℕ
-update_text old new = lines_of (update_calls old new)
+abbrev pub update_text : Manner → Tree → Tree → List ℕ
+update_text manner old new = lines_of (group_by manner old new)
 
 -- what is told of all that stands in a tree names the paths by which an update goes
 abbrev pub PathsLaw : Type 0

@@ -15,6 +15,7 @@ ghost use Rattle.updates.specs.Asked.{AreSmall, MeetsEither, Untold};
 
 use crate::edits::add_editing;
 use crate::manner::Manner;
+use crate::patches::add_patching;
 use crate::pieces::add_writing;
 use flash_model::Flash;
 use fs_types::{Bytes, Call, Fault, Path, Stat, View};
@@ -218,5 +219,6 @@ fn push_changed(
     match manner {
         Manner::Whole => add_writing(calls, path, others),
         Manner::Edited => add_editing(calls, path, bytes, others.as_slice()),
+        Manner::Patched => add_patching(calls, path, bytes, others.as_slice()),
     }
 }

@@ -7,7 +7,7 @@ use fs_types::{Bytes, Call, OpenFlags, Path};
 use std::alloc::AllocError;
 
 /// The flag by which a file is opened for writing, and stays as it is.
-const FOR_WRITING: u64 = 2;
+pub(crate) const FOR_WRITING: u64 = 2;
 
 /// Adds the calls that give a file of these bytes others: it is opened, cut where it has more, written from
 /// the first byte on that differs, and closed.
@@ -38,7 +38,7 @@ pub(crate) fn add_editing(
 }
 
 /// How many bytes two files have in common at their beginning.
-fn common_length(bytes: &[u8], others: &[u8]) -> usize
+pub(crate) fn common_length(bytes: &[u8], others: &[u8]) -> usize
     ensures { result ≡ common_length bytes.now others.now }
 {
     for (at, byte) in bytes.iter().enumerate() {

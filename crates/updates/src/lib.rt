@@ -7,6 +7,7 @@ mod edits;
 mod laws;
 mod lines;
 mod manner;
+mod patches;
 mod pieces;
 mod telling;
 

@@ -28,6 +28,7 @@ pub(crate) fn print_call(out: &mut Vec<u8>, call: &Call) -> Result<(), AllocErro
             offset,
             bytes,
         } => { print_pwrite(out, *descriptor, *offset, bytes.as_slice()) }
+        Call::Ftruncate { descriptor, length } => print_ftruncate(out, *descriptor, *length),
         Call::Close { descriptor } => print_close(out, *descriptor),
         _ => Ok(()),
     }
@@ -63,6 +64,18 @@ fn print_open(out: &mut Vec<u8>, path: &Path, flags: OpenFlags) -> Result<(), Al
     print_path(out, path.names())?;
     out.push(b' ')?;
     print_number(out, flags.bits())?;
+    out.push(b'\n')?;
+    Ok(())
+}
+
+/// Appends the line that gives an open file a length.
+fn print_ftruncate(out: &mut Vec<u8>, descriptor: u64, length: u64) -> Result<(), AllocError>
+    ensures { OnOk result (out.new.items ≡ out.old.items ++ call_line (Call.Ftruncate descriptor length)) }
+{
+    out.extend_from_slice(b"ftruncate ")?;
+    print_number(out, descriptor)?;
+    out.push(b' ')?;
+    print_number(out, length)?;
     out.push(b'\n')?;
     Ok(())
 }

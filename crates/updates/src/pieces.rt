@@ -12,7 +12,7 @@ use tree_updates::PIECE_BYTES;
 const ANEW: u64 = 22;
 
 /// So many bytes of a file are in a call at most.
-const MOST_BYTES: usize = PIECE_BYTES as usize;
+pub(crate) const MOST_BYTES: usize = PIECE_BYTES as usize;
 
 /// Adds the calls that give a file these bytes: one, or where it has over [`PIECE_BYTES`] one for each
 /// piece of so many, with those that open and close it.
@@ -48,7 +48,7 @@ fn add_pieces(calls: &mut Vec<Call>, path: &Path, bytes: &[u8]) -> Result<(), Al
 }
 
 /// Adds the call that writes a piece of a file.
-fn add_piece(calls: &mut Vec<Call>, bytes: &[u8], at: usize) -> Result<(), AllocError>
+pub(crate) fn add_piece(calls: &mut Vec<Call>, bytes: &[u8], at: usize) -> Result<(), AllocError>
     requires { at * PIECE_BYTES ≤ length bytes.now }
     ensures { OnOk result (calls.new.items ≡ calls.old.items ++ piece bytes.now at ∷ []) }
 {

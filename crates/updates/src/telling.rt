@@ -16,8 +16,8 @@ use std::alloc::{AllocError, Global};
 use undofs::Fs;
 
 /// The lines of a script that bring the tree of one file system to that of another, both of which are only
-/// read: one change group, in which what has gone is removed and what is new or changed is written whole, and
-/// a `sync`.
+/// read: one change group, in which what has gone is removed, what is new is written whole and a file of both
+/// in this manner, and a `sync`.
 ///
 /// [`TellFault::TooManyLines`] where a tree has too much ([`list_changes`]); else
 /// [`fs_types::Fault::ReadFailed`], [`fs_types::Fault::PowerCut`] and [`fs_types::Fault::NoMemory`] may come.
@@ -25,14 +25,15 @@ pub fn tell_update<F: Flash, G: Flash>(
     alloc: Global,
     first: &mut Fs<'_, F>,
     second: &mut Fs<'_, G>,
+    manner: Manner,
 ) -> Result<Bytes, TellFault>
     ensures first { IsUnchanged first.old first.new }
     ensures second { IsUnchanged second.old second.new }
     ensures small { OnOk result (AreSmall (working_tree (shown first.old)) (working_tree (shown second.old))) }
-    ensures ok { IfOk result (λ bytes. bytes ≡ update_text (working_tree (shown first.old)) (working_tree (shown second.old))) }
+    ensures ok { IfOk result (λ bytes. bytes ≡ update_text manner (working_tree (shown first.old)) (working_tree (shown second.old))) }
     ensures err { IfErr result (Untold (working_tree (shown first.old)) (working_tree (shown second.old)) first.old second.old first.new second.new) }
 {
-    let changes = list_changes(alloc, first, second, &View::Present, Manner::Whole)?;
+    let changes = list_changes(alloc, first, second, &View::Present, manner)?;
     Ok(print_group(alloc, changes)?)
 }
 

@@ -510,6 +510,46 @@ def megabytes(program, folder):
     want(run(program, ["get", image, "/below/larger", "-"]).out == read(os.path.join(source, "below/larger")), True, "get -")
 
 
+# What stands in a file, and then: a byte within it, more at its end, fewer, other bytes at both ends, in the middle more than a line has,
+# all others, and none at all.
+def files_that_change(chosen):
+    long = chosen.randbytes(300_000)
+    return {
+        "within": (long, long[:77_777] + bytes([long[77_777] ^ 1]) + long[77_778:]),
+        "longer": (long[:100_000], long),
+        "shorter": (long, long[:99_999]),
+        "both_ends": (long, b"x" + long[1:-1] + b"y"),
+        "middle": (long, long[:100_000] + chosen.randbytes(50_000) + long[150_000:]),
+        "piece": (long, long[:60_000] + chosen.randbytes(30_000) + long[90_000:]),
+        "all": (long[:70_000], chosen.randbytes(70_000)),
+        "emptied": (long[:5], b""),
+        "filled": (b"", long[:90_001]),
+    }
+
+
+def changes_are_written(program, folder):
+    """`update --changes` brings an image to another one, and is short for a byte of a large file."""
+    chosen = random.Random(3)
+    sizes = ["--page", "4096", "--pages", "16", "--blocks", "1000"]
+    large = chosen.randbytes(16 << 20)
+    files = {"large": (large, large[: 9 << 20] + b"?" + large[(9 << 20) + 1 :]), **files_that_change(chosen)}
+    images = []
+    for turn in (0, 1):
+        source = os.path.join(folder, f"source{turn}")
+        os.mkdir(source)
+        for name, data in files.items():
+            write(os.path.join(source, name), data[turn])
+        images.append(os.path.join(folder, f"image{turn}"))
+        run(program, ["create", images[turn], source, *sizes])
+    changes = run(program, ["update", "--changes", *images]).out
+    at = changes.index(b"open /large ")
+    holds(changes.index(b"close", at) - at < 20_000, "a byte of 16 MiB takes more than 20,000 bytes")
+    write(os.path.join(folder, "changes"), changes)
+    with open(os.path.join(folder, "changes"), "rb") as given:
+        run(program, ["run", images[0], "--stop"], "", given)
+    want(run(program, ["update", *images]).out, b"begin\nend\nsync\n", "what brings the one to the other then")
+
+
 def hidden_names(program, folder):
     """Names that begin with a dot are put as any other; one that is no UTF-8 refuses its folder."""
     image, source = os.path.join(folder, "image"), os.path.join(folder, "source")
@@ -605,5 +645,5 @@ def another_users_file(program, folder):
 CASES = [
     all_is_synced, each_call_fails, short_counts, unread, output_fails, reading_writes_nothing, part_is_synced, part_fails,
     part_moves_by_half, part_loses_power, driver_streams, at_the_name_itself, another_run_between, link_in_between, file_in_between, two_make_one,
-    folder_in_between, megabytes, hidden_names, may_not_be_read, another_users_file,
+    folder_in_between, megabytes, changes_are_written, hidden_names, may_not_be_read, another_users_file,
 ]

@@ -23,6 +23,7 @@ _uffs() {
         run) options="--stop --help" ;;
         serve) options="--part --history --help" ;;
         untar) options="--skip-links --help" ;;
+        update) options="--changes --help" ;;
     esac
     if [[ "$word" == -* ]]; then
         COMPREPLY=($(compgen -W "$options" -- "$word"))

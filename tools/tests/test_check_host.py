@@ -95,6 +95,9 @@ TWINS = {
         "an image is cut as it is read": "read image 1 99 cut=1000000",
         "an archive is cut as it is read": "read archive 1 999 cut=2700000",
     },
+    "changes_are_written": {
+        "a script is cut as it is read": "read changes 1 9999 cut=200000",
+    },
     "hidden_names": {
         "names that begin with a dot are passed over": "getdents64 * 1 99 hidden",
         "names that are no UTF-8 are passed over": "getdents64 * 1 99 bytes",

@@ -107,9 +107,12 @@ from_raw_app =
     with_rule (with_rule (with_rule (with_rule (with_rule (new_app (codes "from-raw")) (word_rule (codes "FILE"))) (word_rule (codes "IMAGE"))) (number_rule (codes "page"))) (number_rule (codes "pages")))
     (number_rule (codes "blocks"))
 
--- two images, of which the second has the new tree
+-- two images, of which the second has the new tree; and with the flag
+abbrev pub updated_app : App
+updated_app = with_rule (with_rule (new_app (codes "update")) (shown_rule (codes "IMAGE"))) (shown_rule (codes "FILE"))
+
 abbrev pub update_app : App
-update_app = with_rule (with_rule (new_app (codes "update")) (shown_rule (codes "IMAGE"))) (shown_rule (codes "FILE"))
+update_app = with_rule updated_app (flag_rule (codes "changes"))
 
 -- an image of a folder, before its flags, and with them
 abbrev pub sized_app : App

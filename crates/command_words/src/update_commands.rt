@@ -10,11 +10,16 @@ removed first. Run with `run --stop` on an image it makes one version there, of 
 tree before; other files of that image stay. A line is refused where the image has something else in
 the way. Nothing is written to OLD and NEW.
 
+With --changes what differs in a file of both is put over it, so that a large file with few changes
+takes short lines. The image that it is run on must have the bytes of OLD in each file that differs:
+NOTHING CHECKS THIS, and a file with other bytes there becomes neither that of OLD nor that of NEW.
+
 Status: 0 it is printed; 1 OLD or NEW cannot be read, the output failed, or memory; 2 the words; 3
 OLD or NEW holds no image, or its mount was refused; 4 a tree has too much, told as
 uffs: TOOMANYLINES.
 
-Example: uffs update old.image new.image | uffs run disk.image --stop";
+Examples: uffs update old.image new.image | uffs run disk.image --stop
+          uffs update --changes old.image new.image | gzip > changes.gz";
 
 pub(crate) const UPDATE_COMMAND: Subcommand = Subcommand {
     name: "update",
@@ -30,6 +35,10 @@ pub(crate) const UPDATE_COMMAND: Subcommand = Subcommand {
             name: FILE,
             shown: "NEW",
             help: "The image with the new tree",
+        },
+        Argument::Flag {
+            name: "changes",
+            help: "Writes of a file of both only what differs, over the bytes that OLD has",
         },
     ],
 };

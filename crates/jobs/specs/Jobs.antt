@@ -197,6 +197,7 @@ pub record IsJobOf (name : Text) (rows : List Row) (job : Job) : Type 0 where
   pub mirror : job.mirror ≡ flag_of (first_of (codes "mirror") rows)
   pub skip_links : job.skip_links ≡ flag_of (first_of (codes "skip-links") rows)
   pub salvage : job.salvage ≡ flag_of (first_of (codes "salvage") rows)
+  pub changes : job.changes ≡ flag_of (first_of (codes "changes") rows)
 
 -- the job is what a subcommand says, where one was named
 abbrev pub SaysJob : Option (Text × List Row) → Job → Type 0

@@ -150,4 +150,6 @@ pub struct Job<'a> {
     pub skip_links: bool,
     /// Whether what is whole of a damaged image is copied.
     pub salvage: bool,
+    /// Whether of a file that two trees have only what differs is written.
+    pub changes: bool,
 }

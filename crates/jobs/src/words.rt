@@ -124,6 +124,7 @@ fn said<'a>(matches: &ArgMatches<'a>) -> Option<Job<'a>>
         mirror: has_flag(given, "mirror"),
         skip_links: has_flag(given, "skip-links"),
         salvage: has_flag(given, "salvage"),
+        changes: has_flag(given, "changes"),
     })
 }
 

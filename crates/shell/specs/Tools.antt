@@ -40,7 +40,7 @@ use Rattle.told_sessions.specs.Sessions.{SessionEnds}
 use Rattle.told_sessions.specs.declared.session_fault.SessionFault.{SessionFault}
 use Rattle.inquiry_jobs.specs.LastChanges.{LastChangeEnds}
 use Rattle.inquiry_jobs.specs.Tellings.{TellEnds, DiffEnds}
-use Rattle.update_jobs.specs.Updated.{UpdateEnds}
+use Rattle.update_jobs.specs.Updated.{UpdateEnds, manner_asked}
 use Rattle.folder_jobs.specs.Gets.{GetEnds}
 use Rattle.put_jobs.specs.Putting.{PutEnds}
 use Rattle.copy_jobs.specs.Copying.{CopyEnds}
@@ -214,7 +214,7 @@ EndsOn job name known before result after = elim (job.command) as (λ task. Type
   | Task.Diff ↦ DiffEnds job.exit_code (differences_spelled job.view job.other) (before.files name) result before.out after.out × OnlyPrints before after
   | Task.LastChange ↦ LastChangeEnds job.exit_code (before.files name) result before.out after.out × OnlyPrints before after
   | Task.Versions ↦ TellEnds (Ok Inquiry.Versions) (before.files name) result before.out after.out × OnlyPrints before after
-  | Task.Update ↦ UpdateEnds (before.files name) (before.files (word_given job.file)) result before.out after.out × OnlyPrints before after
+  | Task.Update ↦ UpdateEnds (manner_asked job.changes) (before.files name) (before.files (word_given job.file)) result before.out after.out × OnlyPrints before after
   | Task.Tar ↦ TarEnds job.view (before.files name) result before.out after.out × OnlyPrints before after
   | Task.Untar ↦ UntarEnds job.skip_links name (word_given job.path) (known.claimed name) before result after × KeepsOthers name before.files after.files × (after.out ≡ before.out)
   | Task.Check ↦ CheckEnds (before.files name) result before.out after.out × OnlyPrints before after

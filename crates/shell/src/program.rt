@@ -174,7 +174,10 @@ fn do_task<F: Folders + Sources + Channels + Parts, R: Read, W: Write, E: Write>
         }
         Task::LastChange => tell_last_change(files, alloc, name, job.exit_code, out),
         Task::Versions => tell_versions(files, alloc, name, out),
-        Task::Update => tell_update(files, alloc, name, word_given(job.file), out),
+        Task::Update => {
+            let other = word_given(job.file);
+            tell_update(files, alloc, name, other, job.changes, out)
+        }
         Task::Tar => tell_archive(files, alloc, name, job.view, out, err),
         Task::Untar => {
             let path = word_given(job.path);

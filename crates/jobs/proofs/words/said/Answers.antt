@@ -45,4 +45,5 @@ returns-clause-some c =
       mirror = c.has_flag-4.ensures;
       skip_links = c.has_flag-5.ensures;
       salvage = c.has_flag-6.ensures;
+      changes = c.has_flag-7.ensures;
     })

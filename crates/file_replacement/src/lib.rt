@@ -1,0 +1,12 @@
+//! A file that is replaced by a new one beside it, over a trait of the host's calls.
+#![tactic(auto)]
+
+mod calls;
+#[cfg(test)]
+mod memory_folder;
+mod replacing;
+#[cfg(test)]
+mod tests;
+
+pub use calls::FolderCalls;
+pub use replacing::{Unreplaced, replace};

@@ -20,6 +20,7 @@ use crate::image_files::{FileFault, ImageFiles, MOST_BYTES, UnreadCause, Unwritt
 use crate::parts::Parts;
 use crate::source::{Source, Sources};
 use claims::Claim;
+use file_replacement::Unreplaced;
 use gathered::Gathered;
 use gathering::gather;
 pub use host_part::HostPart;
@@ -41,7 +42,8 @@ use unwritten::{Failed, unwritten_cause};
 /// A name is claimed by a lock on the file that it leads to, through links: so two programs that claim
 /// one file are kept apart, and any other program is not. A file is replaced by a new one that is
 /// written beside it under its name with `.new` after it, has its mode, is brought to the disk and
-/// renamed; then the folder is brought to the disk. Where that fails, the new file is removed again; what a
+/// renamed; then the folder is brought to the disk. Where that fails, the new file is removed again. These
+/// calls are made by [`file_replacement::replace`], which proves their order. What a
 /// program left of one that a signal ended is removed before. One
 /// that may not be written is not replaced. A folder is made in the same way, but where something stands
 /// at its name or at that of the new one it is refused: between the last look and the renaming another
@@ -149,8 +151,11 @@ impl<R: Files<File = File>> ImageFiles for HostFiles<'_, R> {
             return Err(FileFault::Failed);
         }
         match replace_file(self.rt, alloc, &claim, bytes, &mut self.removed) {
-            Ok(folder) => folder.sync_all().map_err(|_| FileFault::Unsynced),
-            Err(error) => Err(self.unwritten(&error)),
+            Ok(()) => Ok(()),
+            Err(Unreplaced::Unsynced(_)) => Err(FileFault::Unsynced),
+            Err(Unreplaced::Unmade(error) | Unreplaced::Failed(error)) => {
+                Err(self.unwritten(&error))
+            }
         }
     }
 }

@@ -2,6 +2,7 @@
 use super::claims::{Claim, MOST_TURNS, leads_to, open_left};
 use super::new_folder::refuse_standing;
 use crate::names::new_name;
+use file_replacement::{FolderCalls, Unreplaced, replace};
 use std::alloc::Global;
 use std::fs::{File, OpenOptions, TryLockError};
 use std::io::{ErrorKind, Write};
@@ -16,28 +17,121 @@ const NEW_MODE: u32 = 0o666;
 /// The mode of a new file until it has that of the file that it replaces.
 const PRIVATE_MODE: u32 = 0o600;
 
-/// Puts a file of these bytes in the place of a claimed one, and gives the folder, which is not yet
-/// brought to the disk. Where that fails the file stays as it was, as one does that may not be written.
-/// Where something was removed that stood at the name of the new file, its name is left in `removed`.
+/// Puts a file of these bytes in the place of a claimed one, and brings both to the disk. Refused where it
+/// may not be written. Where something was removed that stood at the name of the new file, its name is left
+/// in `removed`.
 pub(super) fn replace_file<R: Files<File = File>>(
     rt: &R,
     alloc: Global,
     claim: &Claim,
     bytes: &[u8],
     removed: &mut Option<String>,
-) -> io::Result<File> {
-    claim.refuse_unwritable()?;
-    let folder = fs::open(rt, folder_of(claim.path()))?;
-    let new_path = new_name(alloc, claim.path())?;
-    let name = new_path.clone()?;
-    let made = make_new(rt, claim, new_path.as_str())?;
-    if made.is_instead {
-        *removed = Some(name);
+) -> Result<(), Unreplaced> {
+    let mut calls = match Replacing::of(rt, alloc, claim) {
+        Ok(calls) => calls,
+        Err(error) => return Err(Unreplaced::Unmade(error)),
+    };
+    let result = replace(&mut calls, bytes);
+    let Replacing {
+        new_path,
+        is_instead,
+        ..
+    } = calls;
+    if is_instead {
+        *removed = Some(new_path);
     }
-    let mut new_file = made.file;
-    match fill_and_rename(rt, claim, &mut new_file, bytes, new_path.as_str()) {
-        Ok(()) => Ok(folder),
-        Err(error) => Err(remove_new(rt, new_path.as_str(), error)),
+    result
+}
+
+/// The calls by which the file of a claim is replaced.
+#[derive(Drop)]
+struct Replacing<'a, R> {
+    rt: &'a R,
+    claim: &'a Claim,
+    folder: File,
+    new_path: String,
+    /// The new file, until it has the name.
+    new_file: Option<File>,
+    /// Whether something was removed that stood at the name of the new file.
+    is_instead: bool,
+}
+
+impl<'a, R: Files<File = File>> Replacing<'a, R> {
+    /// Those of a claim whose file may be written.
+    fn of(rt: &'a R, alloc: Global, claim: &'a Claim) -> io::Result<Replacing<'a, R>> {
+        claim.refuse_unwritable()?;
+        let folder = fs::open(rt, folder_of(claim.path()))?;
+        let new_path = new_name(alloc, claim.path())?;
+        Ok(Replacing {
+            rt,
+            claim,
+            folder,
+            new_path,
+            new_file: None,
+            is_instead: false,
+        })
+    }
+
+    /// The new file, which was made.
+    fn made(&mut self) -> io::Result<&mut File> {
+        match &mut self.new_file {
+            Some(file) => Ok(file),
+            None => Err(io::Error::from(ErrorKind::NotFound)),
+        }
+    }
+}
+
+impl<R: Files<File = File>> FolderCalls for Replacing<'_, R> {
+    ghost use Rattle.std.specs.Prelude.{None};
+
+    ghost folder = { λ _. None };
+
+    fn make(&mut self) -> io::Result<()> {
+        let made = make_new(self.rt, self.claim, self.new_path.as_str())?;
+        self.is_instead = made.is_instead;
+        self.new_file = Some(made.file);
+        Ok(())
+    }
+
+    fn write(&mut self, bytes: &[u8]) -> io::Result<usize> {
+        let file = self.made()?;
+        for _ in 0..u64::MAX {
+            match file.write(bytes) {
+                Err(error) if error.kind() == ErrorKind::Interrupted => {}
+                written => return written,
+            }
+        }
+        Err(io::Error::from(ErrorKind::Interrupted))
+    }
+
+    /// Gives the new file the mode of the claimed one. Refused where the claimed name had no file and has one
+    /// by now.
+    fn take_mode(&mut self) -> io::Result<()> {
+        match self.claim.file() {
+            Some(file) => {
+                let mode = file.metadata()?.permissions();
+                self.made()?.set_permissions(mode)
+            }
+            None => refuse_standing(self.rt, self.claim.path()),
+        }
+    }
+
+    fn sync_file(&mut self) -> io::Result<()> {
+        self.made()?.sync_all()
+    }
+
+    fn rename(&mut self) -> io::Result<()> {
+        fs::rename(self.rt, self.new_path.as_str(), self.claim.path())?;
+        self.new_file = None;
+        Ok(())
+    }
+
+    fn remove(&mut self) -> io::Result<()> {
+        fs::remove_file(self.rt, self.new_path.as_str())
+    }
+
+    fn sync_folder(&mut self) -> io::Result<()> {
+        self.folder.sync_all()
     }
 }
 
@@ -119,22 +213,4 @@ fn remove_left<R: Files<File = File>>(rt: &R, path: &str) -> io::Result<bool> {
         Err(error) if error.kind() == ErrorKind::NotFound => Ok(false),
         Err(error) => Err(error),
     }
-}
-
-/// Writes the bytes to the new file, gives it the mode of the claimed one, brings it to the disk, and
-/// gives it the name. Refused where the claimed name had no file and has one by then.
-fn fill_and_rename<R: Files<File = File>>(
-    rt: &R,
-    claim: &Claim,
-    new_file: &mut File,
-    bytes: &[u8],
-    new_path: &str,
-) -> io::Result<()> {
-    new_file.write_all(bytes)?;
-    match claim.file() {
-        Some(file) => new_file.set_permissions(file.metadata()?.permissions())?,
-        None => refuse_standing(rt, claim.path())?,
-    }
-    new_file.sync_all()?;
-    fs::rename(rt, new_path, claim.path())
 }

@@ -2,11 +2,7 @@
 #![tactic(auto)]
 
 mod calls;
-#[cfg(test)]
-mod memory_folder;
 mod replacing;
-#[cfg(test)]
-mod tests;
 
 pub use calls::FolderCalls;
 pub use replacing::{Unreplaced, replace};

@@ -1,5 +1,6 @@
 //! Tests of single parts, of what no clause says: each public call that takes memory once with ample
-//! memory, worked bytes, and streams that fail; headers of archives, images in buffers, and the raw bytes of a
+//! memory, worked bytes, and streams that fail; headers of archives, images in buffers, files
+//! that are replaced, and the raw bytes of a
 //! serial NOR part.
 #![tactic(auto)]
 
@@ -22,6 +23,8 @@ mod headers_written;
 #[cfg(test)]
 mod lines;
 #[cfg(test)]
+mod memory_folder;
+#[cfg(test)]
 mod node_bytes;
 #[cfg(test)]
 mod paths;
@@ -31,6 +34,8 @@ mod planned_faults;
 mod program_words;
 #[cfg(test)]
 mod raws;
+#[cfg(test)]
+mod replacements;
 #[cfg(test)]
 mod rings;
 #[cfg(test)]

@@ -1,6 +1,6 @@
 //! A file that is replaced in memory, with each call failing in turn.
 use crate::memory_folder::{MemoryFolder, Step};
-use crate::replacing::{Unreplaced, replace};
+use file_replacement::{Unreplaced, replace};
 use std::alloc::Global;
 use std::test::Fail;
 

@@ -1,7 +1,7 @@
 //! A folder in memory, in which one file is replaced.
 ghost use Rattle.std.specs.Prelude.{◌≡◌, ◌≤◌, [], ◌∷◌, None, Some, if◌then◌else◌, length};
 
-use crate::calls::FolderCalls;
+use file_replacement::FolderCalls;
 use std::io;
 use std::io::ErrorKind;
 

@@ -182,6 +182,7 @@ fn words_are_read_as_a_job(rt: HostRuntime) -> Result<(), Fail> {
         mirror: false,
         skip_links: false,
         salvage: false,
+        changes: false,
     };
     assert_eq!(rt; job(rt.alloc(), words.as_slice()).ok(), Some(wanted));
     for (line, wanted) in ROWS {

@@ -1,2 +1,5 @@
+pub mod Bits
 pub mod Erasing
 pub mod Looking
+pub mod Preparing
+pub mod Removing

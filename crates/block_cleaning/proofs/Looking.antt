@@ -17,7 +17,7 @@ use Rattle.flash_model.specs.Blocks.{block_of-at, block_of-same}
 use Rattle.flash_model.specs.Device.{Device, block_of, erased}
 use Rattle.flash_model.specs.Geometry.{IsGeometry}
 use Rattle.flash_model.specs.Reading.{OnlyReads}
-use Rattle.node_cache.specs.Cache.{node_in, without, IsBounded}
+use Rattle.node_cache.specs.Cache.{NodeCache, node_in, without, IsBounded}
 use Rattle.node_store.specs.Caching.{IsTruthful}
 use Rattle.node_store.specs.CachingLaws.{read_truthful}
 use Rattle.node_store.specs.FittingLaws.{still_itself, still_on, still_fits}
@@ -200,6 +200,15 @@ within_one s b pages n a c free few is =
     let one : free_between s b (b + 1) ≡ 1 = free_one s b ∙ ap one_if free in
     subst (λ k. c ≤ a + k * pages) (sym one) (omega arith)
 
+-- what is found once a block is taken out is of another block
+pub apart_without : (cache : NodeCache) (b c : ℕ) (x : List ℕ) → IsBounded cache → node_in (without cache b) c ≡ Some x → (c ≢ b) × (node_in cache c ≡ Some x)
+apart_without cache b c x bounded h =
+    let is = lookup-remove_entry nat_eq_equiv (nat_eq b) (λ y z. nat_eq_equiv.congr b y z) c cache.entries bounded.once in
+    elim (cases_Bool (nat_eq b c)) [
+      | inl same ↦ let none : lookup (nat_eq c) (remove_entry (nat_eq b) cache.entries) ≡ None = is ∙ cond-true _ _ _ same in absurd (true≢false (ap is_some (sym h ∙ none)))
+      | inr apart ↦ (λ same. true≢false (sym (eq-eqb b c (sym same)) ∙ apart), sym (cond-false _ _ _ apart) ∙ sym is ∙ h)
+    ]
+
 -- its pages were read, and that it is blank
 module _ (d : Device) (s : Storage) (e : Device) (page : Vec ℕ Global) (b : ℕ) (lawful : IsGeometry d.geometry) (free : is_free s b ≡ true) (long : vec_len page ≡ vec_len s.page) (reads : OnlyReads d e) (few : e.operations ≤ d.operations + d.geometry.pages) where
   read_on : DeviceGoesOn d e
@@ -226,15 +235,6 @@ module _ (d : Device) (s : Storage) (e : Device) (page : Vec ℕ Global) (b : �
     blank_stays = λ c looked blank still. refl;
   }
 
-  -- what is found once the block is taken out is of another block
-  apart_without : (c : ℕ) (x : List ℕ) → IsBounded s.cache → node_in (without s.cache b) c ≡ Some x → (c ≢ b) × (node_in s.cache c ≡ Some x)
-  apart_without c x bounded h =
-      let is = lookup-remove_entry nat_eq_equiv (nat_eq b) (λ y z. nat_eq_equiv.congr b y z) c s.cache.entries bounded.once in
-      elim (cases_Bool (nat_eq b c)) [
-        | inl same ↦ let none : lookup (nat_eq c) (remove_entry (nat_eq b) s.cache.entries) ≡ None = is ∙ cond-true _ _ _ same in absurd (true≢false (ap is_some (sym h ∙ none)))
-        | inr apart ↦ (λ same. true≢false (sym (eq-eqb b c (sym same)) ∙ apart), sym (cond-false _ _ _ apart) ∙ sym is ∙ h)
-      ]
-
   -- and then it was erased, or that failed
   module _ (f : Device) (bad' : set.FinSet nat_cmp) (bounded : IsBounded s.cache) (stale : IsBlank d b → d.failed_reads < e.failed_reads) (erases : ErasesBlock e s.bad b f bad') where
     abbrev left : Storage
@@ -252,7 +252,7 @@ module _ (d : Device) (s : Storage) (e : Device) (page : Vec ℕ Global) (b : �
     listed : IsTruthful d s.cache → IsTruthful f (without s.cache b)
     listed truthful = record {
       each = λ c x is.
-          let was = apart_without c x bounded is in
+          let was = apart_without s.cache b c x bounded is in
           node_of-same d f c lawful geometry (λ p own. others p (λ same. was.0 (sym own ∙ same))) ∙ truthful.each c x was.1;
     }
 

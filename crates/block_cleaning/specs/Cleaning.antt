@@ -8,7 +8,7 @@ use Rattle.fs_types.specs.declared.fault.Fault.{Fault}
 use Rattle.fs_types.specs.declared.fault.Fault.TheVariants.{ReadOnly, PowerCut}
 use Rattle.flash_model.specs.Device.{Device, erased, block_of}
 use Rattle.flash_model.specs.Geometry.{IsGeometry}
-use Rattle.allocator.specs.Ring.{is_busy}
+use Rattle.allocator.specs.Ring.{IsDataBlock, is_busy}
 use Rattle.node_store.specs.Fitting.{Fits, StillFits}
 use Rattle.node_store.specs.Storage.{DeviceGoesOn}
 use Rattle.node_store.specs.declared.storage.Storage.{Storage}
@@ -20,6 +20,10 @@ IsBlank d b = (j : ℕ) → j < d.geometry.pages → d.pages (b * d.geometry.pag
 -- a block is neither used nor bad
 abbrev pub is_free : Storage → ℕ → Bool
 is_free s b = not (is_busy s.ring s.bad b)
+
+-- a data block that is free
+abbrev pub IsFreeBlock : Storage → ℕ → Type 0
+IsFreeBlock s b = IsDataBlock s.ring.blocks b × (is_free s b ≡ true)
 
 -- how many blocks are free from one on, up to another
 abbrev pub free_between : Storage → ℕ → ℕ → ℕ
@@ -51,6 +55,17 @@ pub record LooksAt (d : Device) (s : Storage) (from to : ℕ) (e : Device) (t : 
       → e.operations ≤ d.operations + free_between s from to * d.geometry.pages
   -- and a blank one is listed as bad only where a read failed. So none is erased, since each erase may fail
   pub blank_stays : (b : ℕ) → IsLooked s from to b → IsBlank d b → e.failed_reads ≡ d.failed_reads → set.contains t.bad b ≡ set.contains s.bad b
+
+-- free data blocks were erased, and what that leaves: pages change in these alone, the ring stays, and those that are bad now
+-- are worn, one for each failure
+pub record ErasesFree (d : Device) (s : Storage) (e : Device) (t : Storage) : Type 0 where
+  pub device : DeviceGoesOn d e
+  pub pages : (p : ℕ) → (IsFreeBlock s (block_of d p) → ⊥) → e.pages p ≡ d.pages p
+  pub ring : t.ring ≡ s.ring
+  pub stays_bad : (b : ℕ) → set.contains s.bad b ≡ true → set.contains t.bad b ≡ true
+  pub new_bad : (b : ℕ) → set.contains t.bad b ≡ true → set.contains s.bad b ≡ false → IsFreeBlock s b × (e.worn b ≡ true)
+  pub failures : e.failures + set.len s.bad ≡ d.failures + set.len t.bad
+  pub fits : StillFits d s e t
 
 -- each of them is blank, or bad
 abbrev pub AreClean : Storage → ℕ → ℕ → Device → Storage → Type 0

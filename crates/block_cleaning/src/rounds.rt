@@ -84,7 +84,11 @@ fn clean_block<F: Flash>(flash: &mut F, storage: &mut Storage, block: u32) -> Re
 }
 
 /// Erases a block. Where that fails it goes into the bad list.
-fn erase_block<F: Flash>(flash: &mut F, bad: &mut BadBlocks, block: u32) -> Result<(), Fault>
+pub(crate) fn erase_block<F: Flash>(
+    flash: &mut F,
+    bad: &mut BadBlocks,
+    block: u32,
+) -> Result<(), Fault>
     requires in_range { block < (F.device flash.old).geometry.blocks }
     requires good { set.contains bad.old block ≡ false }
     requires room { set.len bad.old < MAX_BAD_BLOCKS }

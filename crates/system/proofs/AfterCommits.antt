@@ -20,6 +20,7 @@ use Rattle.node_store.specs.Caching.{IsTruthful}
 use Rattle.node_store.specs.FittingLaws.{still_fits}
 use Rattle.record_format.specs.declared.formats.TheConstants.{FORMAT}
 use Rattle.record_format.specs.declared.record.Record.{Record}
+use Rattle.allocator.specs.BlockSet.{BlockSet}
 use Rattle.block_trees.specs.Bodies.{Blocks}
 use Rattle.node_store.specs.NodePages.{node_of}
 use Rattle.reclaim.specs.Sound.{IsPlain}
@@ -169,11 +170,12 @@ module _ {T : Type 0} (d e : Device) (m n : System) (result : Result T Fault) (s
 
   pub is_system : (n.state.is_off ≡ true → e.powered ≡ false) → (is_cut_answer result ≡ false → KnowsNewest e n.state.storage.bad n.anchors)
       → (is_cut_answer result ≡ false → (r : Record) → saved_on e ≡ Some r → n.record_roots.items ≡ roots_of (history_of r))
-      → (m.state.is_off ≡ false → IfSome n.pass (IsRunning e n)) → n.bodies ≡ m.bodies → IsSystem e n
-  is_system off place roots passing bodies = record {
+      → (m.state.is_off ≡ false → IfSome n.pass (IsRunning e n)) → n.bodies ≡ m.bodies → n.prepared ≡ m.prepared → IsSystem e n
+  is_system off place roots passing bodies prepared = record {
     mounted = is_mounted off;
     bodies = subst (λ (known : KnownBodies). KnowsBodies e n.state known) (sym bodies)
         (same_knows d e m.state n.state m.bodies (same_nodes d e same) (ap (λ (g : Geometry). block_bytes g - body_header) same.geometry) same_history (ap (λ (t : State). t.group) saves.state) (ap (λ (t : State). t.files) saves.state) s.bodies);
+    prepared = ap (λ (p : BlockSet). p.blocks) prepared ∙ s.prepared ∙ ap (λ (t : State). t.storage.ring.blocks) (sym saves.state);
     saved = λ on. is_saved saved_after (off_was on).0;
     stands = λ on. stands_after saved_after (off_was on).0;
     roots = λ on. roots (off_was on).1;

@@ -1,5 +1,5 @@
 -- A step of cleaning leaves a system.
-use Rattle.std.proofs.Common.{◌≡◌, inl, inr, ℕ, ◌-◌, ◌<◌, ◌≤◌, Bool, true, false, ◌||◌, Option, Some, None, Result, Ok, Err, [], ◌∷◌, map, refl, sym, ap, subst, ◌∙◌, arith}
+use Rattle.std.proofs.Common.{◌≡◌, inl, inr, ℕ, ◌-◌, ◌<◌, Bool, true, false, ◌||◌, Option, Some, None, Result, Ok, Err, [], ◌∷◌, map, refl, sym, ap, subst, ◌∙◌, arith}
 use Rattle.std.proofs.lemmas.Bool.{true≢false, both_ways}
 use Rattle.std.specs.Option.{option_map}
 use Rattle.std.specs.Prelude.{not, is_some, max, IfSome, Contains}
@@ -14,6 +14,7 @@ use Rattle.history_machine.specs.Machine.{IsMachine, machine_with}
 use Rattle.flash_model.specs.declared.geometry.Geometry.{Geometry}
 use Rattle.flash_model.specs.Device.{Device, block_of}
 use Rattle.flash_model.specs.Geometry.{IsGeometry, block_bytes}
+use Rattle.allocator.specs.BlockSet.{BlockSet}
 use Rattle.allocator.specs.Ring.{Ring}
 use Rattle.bad_blocks.specs.Mode.{is_read_only}
 use Rattle.node_format.specs.Headers.{body_header}
@@ -25,7 +26,9 @@ use Rattle.block_trees.specs.Laws.{FrameLaw}
 use Rattle.block_trees.specs.Reached.{Reached}
 use Rattle.block_trees.specs.Trees.{IsRoot, root_tree}
 use Rattle.block_trees.proofs.Frames.{frame_law}
-use Rattle.block_cleaning.specs.Cleaning.{CleanEnds, CleansBlocks, LooksAt, is_free}
+use Rattle.block_cleaning.specs.Cleaning.{CleanEnds, CleansBlocks, ErasesFree, is_free}
+use Rattle.block_cleaning.specs.Preparing.{PreparesBlocks, preparation}
+use Rattle.block_cleaning.proofs.Preparing.{looked_frees}
 use Rattle.reclaim.specs.Passes.{Pass}
 use Rattle.reclaim.specs.Verified.{AreRoots}
 use Rattle.reclaim.proofs.Marking.{reached_back}
@@ -45,6 +48,7 @@ use Rattle.mounting.specs.Saved.{saved_on, saved_trees, IsWholeRecord}
 use Rattle.mounting.proofs.PlainRoots.{plain_stays}
 use Rattle.mounting.proofs.Loading.{contains_front, contains_back}
 use Rattle.system.specs.Cleaning.{Cleans, IsUndisturbed, StepCleans, TellsRound}
+use Rattle.system.specs.Preparing.{PreparesAhead, StepPrepares, preparation_on}
 use Rattle.system.specs.Systems.{IsSystem, IsRunning, MustStay}
 use Rattle.system.specs.declared.systems.System.{System}
 use Rattle.system.proofs.AfterCommits.{knows, known, is_newest, not_none}
@@ -54,29 +58,28 @@ use Rattle.system.proofs.Passing.{power_system}
 use Rattle.system.proofs.Running.{running_on}
 use Rattle.system.proofs.Syncs.{reached_from}
 
--- a system with another storage, of which a round of cleaning has come to a block
-abbrev pub with_cleaned : System → Storage → ℕ → System
-with_cleaned m t to = record m { state = record m.state { storage = t }; cleaned_to = to }
+-- a system with another storage, of which a round of cleaning has come to a block, and with these blocks prepared
+abbrev pub with_cleaned : System → Storage → ℕ → BlockSet → System
+with_cleaned m t to prepared = record m { state = record m.state { storage = t }; cleaned_to = to; prepared = prepared }
 
-module _ (d e : Device) (m : System) (t : Storage) (from to : ℕ) (s : IsSystem d m) (on : m.state.is_off ≡ false) (low : ANCHORS ≤ from)
-    (inside : (b : ℕ) → from ≤ b → b < to → b < m.state.storage.ring.blocks) (looks : LooksAt d m.state.storage from to e t) where
+module _ (d e : Device) (m : System) (t : Storage) (s : IsSystem d m) (on : m.state.is_off ≡ false) (erases : ErasesFree d m.state.storage e t) where
   abbrev used : ℕ → Bool
   used b = set.contains m.state.storage.ring.used b
 
   abbrev geometry : e.geometry ≡ d.geometry
-  geometry = looks.device.geometry
+  geometry = erases.device.geometry
 
   busy : (b : ℕ) → used b ≡ true → is_free m.state.storage b ≡ false
   busy b is = ap (λ (x : Bool). not (x || set.contains m.state.storage.bad b)) is
 
   busy_page : (p : ℕ) → is_free m.state.storage (block_of d p) ≡ false → e.pages p ≡ d.pages p
-  busy_page p is = looks.pages p (λ looked. both_ways (is_free m.state.storage (block_of d p)) is looked.2)
+  busy_page p is = erases.pages p (λ free. both_ways (is_free m.state.storage (block_of d p)) is free.1)
 
   used_page : (p : ℕ) → used (block_of d p) ≡ true → e.pages p ≡ d.pages p
   used_page p is = busy_page p (busy (block_of d p) is)
 
   anchor_page : (p : ℕ) → block_of d p < ANCHORS → e.pages p ≡ d.pages p
-  anchor_page p below = looks.pages p (λ looked. let high = looked.0 in absurd (omega arith))
+  anchor_page p below = erases.pages p (λ free. let high = free.0.0 in absurd (omega arith))
 
   used_node : (b : ℕ) → used b ≡ true → node_of e b ≡ node_of d b
   used_node b is = node_of-same d e b s.mounted.lawful geometry (λ p own. used_page p (ap used own ∙ is))
@@ -94,7 +97,7 @@ module _ (d e : Device) (m : System) (t : Storage) (from to : ℕ) (s : IsSystem
 
   still_stands : (root : ℕ) → IsStanding d m.state.storage.ring root → IsStanding e t.ring root
   still_stands root stands =
-      subst (λ (r : Ring). IsStanding e r root) (sym looks.ring) (record { held = frame.held (Dir root) stands.held; rooted = still_rooted root stands })
+      subst (λ (r : Ring). IsStanding e r root) (sym erases.ring) (record { held = frame.held (Dir root) stands.held; rooted = still_rooted root stands })
 
   same_tree : (root : ℕ) → IsStanding d m.state.storage.ring root → tree_on e root ≡ tree_on d root
   same_tree root stands = ap (λ capacity. root_tree capacity (node_of e) root) same_capacity ∙ frame.roots (capacity_of d) root stands.held stands.rooted
@@ -114,8 +117,8 @@ module _ (d e : Device) (m : System) (t : Storage) (from to : ℕ) (s : IsSystem
   mounted : IsMounted e (record m.state { storage = t })
   mounted = record {
     lawful = subst IsGeometry (sym geometry) s.mounted.lawful;
-    ring_blocks = ap (λ (r : Ring). r.blocks) looks.ring ∙ s.mounted.ring_blocks ∙ ap (λ (g : Geometry). g.blocks) (sym geometry);
-    fits = looks.fits.fits s.mounted.fits;
+    ring_blocks = ap (λ (r : Ring). r.blocks) erases.ring ∙ s.mounted.ring_blocks ∙ ap (λ (g : Geometry). g.blocks) (sym geometry);
+    fits = erases.fits.fits s.mounted.fits;
     roots = λ root has. still_stands root (s.mounted.roots root has);
     machine = subst IsMachine (sym same_machine) s.mounted.machine;
     off = λ off. absurd (both_ways m.state.is_off on off);
@@ -155,9 +158,9 @@ module _ (d e : Device) (m : System) (t : Storage) (from to : ℕ) (s : IsSystem
 
   -- ---- the marking that goes on
 
-  module _ (cleaned : ℕ) where
+  module _ (cleaned : ℕ) (prepared : BlockSet) (sized : prepared.blocks ≡ m.prepared.blocks) where
     abbrev n : System
-    n = with_cleaned m t cleaned
+    n = with_cleaned m t cleaned prepared
 
     still_must : (b : ℕ) → MustStay e n b → MustStay d m b
     still_must b (inl (root, has, reached)) = inl (root, has, frame.reached root b (s.mounted.roots root has).held reached)
@@ -180,14 +183,14 @@ module _ (d e : Device) (m : System) (t : Storage) (from to : ℕ) (s : IsSystem
         by None none = tt
         by (Some p) runs =
             running_on d e m n p geometry (λ b reached. used_node b (runs.held b reached)) (trees_stay p runs)
-            (λ b is. ap (λ (r : Ring). set.contains r.used b) looks.ring ∙ is) (λ b is. ap (λ (r : Ring). set.contains r.note b) looks.ring ∙ is) (λ b must. inl (still_must b must)) runs
+            (λ b is. ap (λ (r : Ring). set.contains r.used b) erases.ring ∙ is) (λ b is. ap (λ (r : Ring). set.contains r.note b) erases.ring ∙ is) (λ b must. inl (still_must b must)) runs
 
     listed : (b : ℕ) → set.contains t.bad b ≡ true → set.contains t.ring.used b ≡ false → b < e.geometry.blocks
     listed b bad unused = subst (λ (g : Geometry). b < g.blocks) (sym geometry) (by (set.contains m.state.storage.bad b) refl)
       where
         by : (x : Bool) → set.contains m.state.storage.bad b ≡ x → b < d.geometry.blocks
-        by true there = s.listed b there (sym (ap (λ (r : Ring). set.contains r.used b) looks.ring) ∙ unused)
-        by false new = let looked = (looks.new_bad b bad new).0 in subst (λ (k : ℕ). b < k) s.mounted.ring_blocks (inside b looked.0 looked.1)
+        by true there = s.listed b there (sym (ap (λ (r : Ring). set.contains r.used b) erases.ring) ∙ unused)
+        by false new = subst (λ (k : ℕ). b < k) s.mounted.ring_blocks (erases.new_bad b bad new).0.0.1
 
     pub cleaned_system : IsSystem e n
     cleaned_system = record {
@@ -195,6 +198,7 @@ module _ (d e : Device) (m : System) (t : Storage) (from to : ℕ) (s : IsSystem
       bodies = λ root is.
           let stands : IsStanding d m.state.storage.ring root = of_working (IsStanding d m.state.storage.ring) m.state root s.mounted.roots is in
           kept_known d e used used root m.state.files m.bodies (record { same = used_node; stays = λ b is. is }) same_capacity stands.held stands.rooted (s.bodies root is);
+      prepared = sized ∙ s.prepared ∙ ap (λ (r : Ring). r.blocks) (sym erases.ring);
       saved = λ _. ap is_some as_saved ∙ s.saved on;
       stands = λ _ r is root has. still_stands root (record_stands r is root has);
       roots = λ _ r is. s.roots on r (sym as_saved ∙ is);
@@ -202,49 +206,65 @@ module _ (d e : Device) (m : System) (t : Storage) (from to : ℕ) (s : IsSystem
       known = λ _.
           let place = s.known on in
           known e t.bad m.anchors (is_newest e t.bad m.anchors (not_none (remembered m.anchors) place.some)
-          (still_may_commit d e m.state.storage.bad t.bad m.anchors geometry anchor_page looks.stays_bad (inl (knows d m.state.storage.bad m.anchors place))));
+          (still_may_commit d e m.state.storage.bad t.bad m.anchors geometry anchor_page erases.stays_bad (inl (knows d m.state.storage.bad m.anchors place))));
       listed = listed;
     }
 
     pub is_undisturbed : IsUndisturbed d m e n
     is_undisturbed = record {
-      device = looks.device;
+      device = erases.device;
       history = refl;
       group = refl;
       machine = same_machine;
-      ring = looks.ring;
+      ring = erases.ring;
       pass = refl;
       record_roots = refl;
       anchors = refl;
-      room = looks.fits.same_room;
+      room = erases.fits.same_room;
       busy_pages = busy_page;
       anchor_pages = anchor_page;
       kept = λ p reached. used_page p ((s.mounted.roots reached.0 reached.1).held reached.0 refl (block_of d p) reached.2);
       record_kept = λ r is p reached. used_page p (record_used r is (block_of d p) reached);
       saved = same_trees;
       whole = whole;
-      stays_bad = looks.stays_bad;
-      new_bad = λ b now before. let x = looks.new_bad b now before in (x.0.2, x.1);
-      failures = looks.failures;
+      stays_bad = erases.stays_bad;
+      new_bad = λ b now before. let x = erases.new_bad b now before in (x.0.1, x.1);
+      failures = erases.failures;
     }
 
 -- ---- a round that went on
 
 module _ (d e : Device) (m : System) (t : Storage) (budget : ℕ) (ended : Result (Option ℕ) Fault) (s : IsSystem d m) (on : m.state.is_off ≡ false)
     (cleans : CleansBlocks d m.state.storage (max m.cleaned_to ANCHORS) budget ended e t) (to : ℕ) where
-  low : ANCHORS ≤ max m.cleaned_to ANCHORS
-  low = omega arith
+  frees : ErasesFree d m.state.storage e t
+  frees = looked_frees d m.state.storage (max m.cleaned_to ANCHORS) cleans.to e t (omega arith) cleans.within cleans.looks
 
-  pub round_system : IsSystem e (with_cleaned m t to)
-  round_system = cleaned_system d e m t (max m.cleaned_to ANCHORS) cleans.to s on low cleans.within cleans.looks to
+  pub round_system : IsSystem e (with_cleaned m t to m.prepared)
+  round_system = cleaned_system d e m t s on frees to m.prepared refl
 
-  pub round_undisturbed : IsUndisturbed d m e (with_cleaned m t to)
-  round_undisturbed = is_undisturbed d e m t (max m.cleaned_to ANCHORS) cleans.to s on low cleans.within cleans.looks to
+  pub round_undisturbed : IsUndisturbed d m e (with_cleaned m t to m.prepared)
+  round_undisturbed = is_undisturbed d e m t s on frees to m.prepared refl
 
-  pub round_cleans : (result : Result Bool Fault) (read_only : Bool) → read_only ≡ false → read_only ≡ is_read_only m.state.storage.bad → TellsRound ended result to → StepCleans d m budget result e (with_cleaned m t to)
+  pub round_cleans : (result : Result Bool Fault) (read_only : Bool) → read_only ≡ false → read_only ≡ is_read_only m.state.storage.bad → TellsRound ended result to → StepCleans d m budget result e (with_cleaned m t to m.prepared)
   round_cleans result read_only writable same tells = record {
     read_only = λ is. absurd (both_ways read_only writable (same ∙ is));
     goes_on = λ _. record { ended = ended; cleans = cleans; tells = tells };
+  }
+
+-- ---- blocks that were prepared
+
+module _ (d e : Device) (m : System) (t : Storage) (prepared : BlockSet) (budget : ℕ) (result : Result Bool Fault) (s : IsSystem d m) (on : m.state.is_off ≡ false)
+    (prepares : PreparesBlocks (preparation_on d m) budget result (preparation e t prepared)) where
+  pub prepared_system : IsSystem e (with_cleaned m t m.cleaned_to prepared)
+  prepared_system = cleaned_system d e m t s on prepares.erases m.cleaned_to prepared prepares.blocks
+
+  pub prepared_undisturbed : IsUndisturbed d m e (with_cleaned m t m.cleaned_to prepared)
+  prepared_undisturbed = is_undisturbed d e m t s on prepares.erases m.cleaned_to prepared prepares.blocks
+
+  pub prepared_step : is_read_only m.state.storage.bad ≡ false → StepPrepares d m budget result e (with_cleaned m t m.cleaned_to prepared)
+  prepared_step writable = record {
+    read_only = λ is. absurd (both_ways (is_read_only m.state.storage.bad) writable is);
+    prepares = λ _. prepares;
   }
 
 -- ---- the power
@@ -300,7 +320,7 @@ cut_off d m budget (Err _) e n step cut = absurd (true≢false (sym cut))
 
 -- it leaves a system
 module _ (d e : Device) (m n : System) (budget : ℕ) (answer : Result Bool Fault) (on : m.state.is_off ≡ false) (system : IsSystem e n) (still_on : n.state.is_off ≡ false) (u : IsUndisturbed d m e n)
-    (step : StepCleans d m budget answer e n) where
+    (unprepared : n.prepared ≡ m.prepared) (step : StepCleans d m budget answer e n) where
   abbrev off : Bool
   off = n.state.is_off || is_cut_answer answer
 
@@ -314,7 +334,45 @@ module _ (d e : Device) (m n : System) (budget : ℕ) (answer : Result Bool Faul
         power_system e n off system still_on is_dark,
         record {
           undisturbed = undisturbed_still d e m n off u;
+          prepared = unprepared;
           cleans = λ _. step_still d e m n off budget answer step;
+          off = ap (λ (x : Bool). x || is_cut_answer answer) (still_on ∙ sym on);
+          stopped = λ stopped. absurd (both_ways m.state.is_off on stopped);
+        },
+      ))
+
+-- ---- the same of a step that prepares
+
+prepare_cut : (d : Device) (m : System) (budget : ℕ) (result : Result Bool Fault) (e : Device) (n : System) → StepPrepares d m budget result e n → is_cut_answer result ≡ true → e.powered ≡ false
+prepare_cut d m budget (Ok done) e n step cut = absurd (true≢false (sym cut))
+prepare_cut d m budget (Err PowerCut) e n step cut = by (is_read_only m.state.storage.bad) refl
+  where
+    by : (x : Bool) → is_read_only m.state.storage.bad ≡ x → e.powered ≡ false
+    by true read_only = let wrong : Err PowerCut ≡ Err ReadOnly = (step.read_only read_only).0 in absurd cc
+    by false writable = (step.prepares writable).ends.5
+prepare_cut d m budget (Err _) e n step cut = absurd (true≢false (sym cut))
+
+module _ (d e : Device) (m n : System) (budget : ℕ) (answer : Result Bool Fault) (on : m.state.is_off ≡ false) (system : IsSystem e n) (still_on : n.state.is_off ≡ false) (u : IsUndisturbed d m e n)
+    (uncleaned : n.cleaned_to ≡ m.cleaned_to) (step : StepPrepares d m budget answer e n) where
+  abbrev off_then : Bool
+  off_then = n.state.is_off || is_cut_answer answer
+
+  went_dark : off_then ≡ true → e.powered ≡ false
+  went_dark dark = prepare_cut d m budget answer e n step (sym (ap (λ (x : Bool). x || is_cut_answer answer) still_on) ∙ dark)
+
+  still_prepares : StepPrepares d m budget answer e (turned d e m n off_then)
+  still_prepares = record { read_only = step.read_only; prepares = step.prepares }
+
+  pub prepared_ahead : (t : State) (result : Result Bool Fault) → t ≡ record n.state { is_off = off_then } → result ≡ answer
+      → IsSystem e (record n { state = t }) × PreparesAhead d m budget result e (record n { state = t })
+  prepared_ahead t result is same =
+      subst (λ (r : Result Bool Fault). IsSystem e (record n { state = t }) × PreparesAhead d m budget r e (record n { state = t })) (sym same)
+      (subst (λ (v : State). IsSystem e (record n { state = v }) × PreparesAhead d m budget answer e (record n { state = v })) (sym is) (
+        power_system e n off_then system still_on went_dark,
+        record {
+          undisturbed = undisturbed_still d e m n off_then u;
+          cleaned_to = uncleaned;
+          prepares = λ _. still_prepares;
           off = ap (λ (x : Bool). x || is_cut_answer answer) (still_on ∙ sym on);
           stopped = λ stopped. absurd (both_ways m.state.is_off on stopped);
         },

@@ -30,6 +30,8 @@ module _ {T : Type 0} (d e : Device) (m : System) (u : State) (answer : Result T
     history = l.rest.history;
     group = l.rest.group;
     bodies = refl;
+    sized = refl;
+    prepared = λ b has unused. (has, sym (ap (λ (r : Ring). set.contains r.used b) l.untouched.ring) ∙ unused);
     rest = λ i. machine_with (map_roots (tree_on d) (l.rest.history i)) (map_group (tree_on d) (l.rest.group i)) (l.rest.files i);
     is_on = still_on;
     bad = l.untouched.bad;
@@ -63,7 +65,7 @@ module _ {T : Type 0} (d e : Device) (m : System) (u : State) (answer : Result T
   is_looked =
       let stays : Stays d m e (with_state m u) = kept_stays d e m (with_state m u) s on keeps in
       record {
-        stays = record { reads = stays.reads; history = stays.history; group = stays.group; machine = stays.machine; bad = stays.bad; last = stays.last; takes = stays.takes; anchors = stays.anchors; room = stays.room };
+        stays = record { reads = stays.reads; history = stays.history; group = stays.group; machine = stays.machine; bad = stays.bad; last = stays.last; takes = stays.takes; anchors = stays.anchors; room = stays.room; prepared = stays.prepared };
         ring = l.untouched.ring;
         pass = refl;
         record_roots = refl;

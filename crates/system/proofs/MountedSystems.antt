@@ -9,6 +9,7 @@ use Rattle.history_machine.specs.History.{Past}
 use Rattle.flash_model.specs.declared.geometry.Geometry.{Geometry}
 use Rattle.flash_model.specs.Device.{Device}
 use Rattle.flash_model.specs.Reading.{OnlyReads}
+use Rattle.allocator.specs.BlockSet.{BlockSet}
 use Rattle.reclaim.specs.Passes.{Pass}
 use Rattle.record_format.specs.declared.record.Record.{Record}
 use Rattle.record_format.specs.Payloads.{is_record, has_counts, has_versions, has_checkpoints, numbers_ascend}
@@ -47,6 +48,7 @@ pub mounted_system : (d e : Device) (m : System) → OnlyReads d e → IsMountOf
 mounted_system d e m reads mount listing no_pass fresh = record {
   mounted = mount.loaded.mounted;
   bodies = λ root is. subst (λ (bodies : KnownBodies). KnowsBelow e root m.state.files bodies) (sym fresh) (knows_nothing e root m.state.files);
+  prepared = ap (λ (p : BlockSet). p.blocks) mount.prepared ∙ sym mount.loaded.mounted.ring_blocks;
   saved = λ on. ap is_some saved;
   stands = λ on r is root has. mount.loaded.mounted.roots root (has_root (subst (λ (x : Record). Contains (roots_of (history_of x)) root) (some_record r mount.newest (sym is ∙ saved)) has));
   roots = λ on r is. listing ∙ ap roots_of mount.loaded.history ∙ ap (λ (x : Record). roots_of (history_of x)) (some_record mount.newest r (sym saved ∙ is));

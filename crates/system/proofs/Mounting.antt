@@ -78,14 +78,15 @@ pub not_none : (o : Option Record) (r : Record) → o ≡ Some r → o ≢ None
 not_none o r is none = absurd cc
 
 pub mounts : (d e f : Device) (r : Record) (m : System) → committed_on d ≡ Some (Ok r) → OnlyReads e f → IsUncleared m.anchors
-    → ((bad : set.FinSet nat_cmp) → MayCommit e bad m.anchors) → IsLoaded f r m.state → m.pass ≡ None → m.cleaned_to ≡ 0 → IsMountOf d f m
-mounts d e f r m is reads uncleared may loaded none uncleaned = record {
+    → ((bad : set.FinSet nat_cmp) → MayCommit e bad m.anchors) → IsLoaded f r m.state → m.pass ≡ None → m.cleaned_to ≡ 0 → m.prepared ≡ record { blocks = f.geometry.blocks; members = set.empty } → IsMountOf d f m
+mounts d e f r m is reads uncleared may loaded none uncleaned unprepared = record {
   newest = r;
   holds = is;
   loaded = loaded;
   remembers = knows_on e f m.state.storage.bad m.anchors reads (knows e m.state.storage.bad m.anchors uncleared (may m.state.storage.bad));
   pass = none;
   cleaned_to = uncleaned;
+  prepared = unprepared;
 }
 
 -- ---- why a mount is refused

@@ -3,7 +3,7 @@ use Rattle.std.proofs.Common.{◌≡◌, ◌≢◌, inl, inr, ℕ, ◌+◌, ◌*
 use Rattle.std.proofs.lemmas.Bool.{true≢false, both_ways}
 use Rattle.std.proofs.lemmas.Cmp.{nat_cmp_total}
 use Rattle.std.proofs.lemmas.List.Elements.{Contains-append_left, Contains-append_right, Contains-append_cases}
-use Rattle.std.specs.Prelude.{◌↔◌, Contains, IfSome, IsErrOf, is_some, Vec}
+use Rattle.std.specs.Prelude.{◌↔◌, ◌&&◌, not, Contains, IfSome, IsErrOf, is_some, Vec}
 use Rattle.std.specs.declared.alloc.Global.{Global}
 use Rattle.std.specs.FinSet as set
 use Rattle.std.specs.Ordering.{nat_cmp}
@@ -49,7 +49,7 @@ use Rattle.working_state.specs.Seen.{capacity_of, seen_of, machine_on}
 use Rattle.working_state.specs.Steps.{is_cut_answer}
 use Rattle.working_state.specs.Worked.{ReadCause}
 use Rattle.working_state.specs.declared.state.State.{State}
-use Rattle.system.specs.Reclaiming.{AsksForRest, AsksToStep, GoesOnFrom, Advances, ReadsOn, EndsPass, StepEnds, Stays, Reclaims, marking_of}
+use Rattle.system.specs.Reclaiming.{AsksForRest, AsksToStep, GoesOnFrom, Advances, ReadsOn, EndsPass, StepEnds, Stays, IsStillPrepared, Reclaims, marking_of}
 use Rattle.mounting.specs.Records.{history_of, roots_of, group_roots, working_roots}
 use Rattle.mounting.specs.Saved.{saved_on}
 use Rattle.system.specs.Systems.{IsSystem, IsRunning, MustStay}
@@ -80,6 +80,8 @@ pub record Keeps (d e : Device) (m n : System) : Type 0 where
   pub history : n.state.history ≡ m.state.history
   pub group : n.state.group ≡ m.state.group
   pub bodies : n.bodies ≡ m.bodies
+  pub sized : n.prepared.blocks ≡ m.prepared.blocks
+  pub prepared : IsStillPrepared m n
   pub rest : machine_on d n.state ≡ machine_on d m.state
   pub is_on : n.state.is_off ≡ false
   pub bad : n.state.storage.bad ≡ m.state.storage.bad
@@ -141,6 +143,7 @@ module _ (d e : Device) (m n : System) (s : IsSystem d m) (on : m.state.is_off �
     mounted = kept_mounted;
     bodies = subst (λ (known : KnownBodies). KnowsBodies e n.state known) (sym k.bodies)
         (same_knows d e m.state n.state m.bodies (same_nodes d e same) (ap (λ (g : Geometry). block_bytes g - body_header) k.reads.geometry) k.history k.group (ap (λ (x : Machine). x.descriptors) k.rest) s.bodies);
+    prepared = k.sized ∙ s.prepared ∙ sym k.blocks;
     saved = λ _. ap is_some saved ∙ s.saved on;
     stands = λ _ r is root has.
         let was = sym saved ∙ is in
@@ -159,7 +162,7 @@ module _ (d e : Device) (m n : System) (s : IsSystem d m) (on : m.state.is_off �
   }
 
   pub kept_stays : Stays d m e n
-  kept_stays = record { reads = k.reads; history = k.history; group = k.group; machine = machine; bad = k.bad; last = k.last; takes = k.takes; anchors = k.anchors; room = k.fits.same_room }
+  kept_stays = record { reads = k.reads; history = k.history; group = k.group; machine = machine; bad = k.bad; last = k.last; takes = k.takes; anchors = k.anchors; room = k.fits.same_room; prepared = k.prepared }
 
   -- a marking goes on, as long as no block leaves the note and what its roots reach stays used
   pub kept_running : (p : Pass) → ((b : ℕ) → set.contains m.state.storage.ring.used b ≡ true → set.contains n.state.storage.ring.used b ≡ true)
@@ -189,6 +192,7 @@ stays_on d e f l m n a b = record {
   takes = b.takes ∙ a.takes;
   anchors = b.anchors ∙ a.anchors;
   room = b.room ∙ a.room;
+  prepared = λ q is unused. let x = b.prepared q is unused in a.prepared q x.0 x.1;
 }
 
 -- ---- a marking is taken up
@@ -255,6 +259,11 @@ module _ (d : Device) (m : System) (s : IsSystem d m) (on : m.state.is_off ≡ f
       history = ap (λ (x : System). x.state.history) is;
       group = ap (λ (x : System). x.state.group) is;
       bodies = ap (λ (x : System). x.bodies) is;
+      sized = ap (λ (x : System). x.prepared.blocks) is;
+      prepared = λ b has unused. (
+        sym (ap (λ (x : System). set.contains x.prepared.members b) is) ∙ has,
+        sym (ap (λ (x : System). set.contains x.state.storage.ring.used b) is) ∙ unused,
+      );
       rest = ap (λ (x : System). machine_on d x.state) is;
       is_on = ap (λ (x : System). x.state.is_off) is ∙ on;
       bad = ap (λ (x : System). x.state.storage.bad) is;
@@ -302,6 +311,8 @@ module _ (d e : Device) (m : System) (st : Storage) (s : IsSystem d m) (on : m.s
     history = refl;
     group = refl;
     bodies = refl;
+    sized = refl;
+    prepared = λ b has unused. (has, sym (ap (λ (r : Ring). set.contains r.used b) l.untouched.ring) ∙ unused);
     rest = refl;
     is_on = on;
     bad = l.untouched.bad;
@@ -357,8 +368,21 @@ module _ (d e : Device) (m : System) (st : Storage) (s : IsSystem d m) (on : m.s
     abbrev marked_storage : Storage
     marked_storage = marked_in st marks
 
-    abbrev installed : Storage → System
-    installed u = with_storage m u m.pass
+    abbrev installed : Storage → BlockSet → System
+    installed u prepared = record (with_storage m u m.pass) { prepared = prepared }
+
+    -- and none of those that were used is prepared
+    abbrev unused_prepared : BlockSet
+    unused_prepared = record m.prepared { members = set.difference m.prepared.members st.ring.used }
+
+    only_unused : (b : ℕ) → set.contains unused_prepared.members b ≡ true → (set.contains m.prepared.members b ≡ true) × (set.contains m.state.storage.ring.used b ≡ false)
+    only_unused b has = by (set.contains m.prepared.members b) refl (set.contains st.ring.used b) refl (sym (set.contains-difference nat_cmp_total m.prepared.members st.ring.used b) ∙ has)
+      where
+        by : (x : Bool) → set.contains m.prepared.members b ≡ x → (y : Bool) → set.contains st.ring.used b ≡ y → (set.contains m.prepared.members b && not (set.contains st.ring.used b)) ≡ true
+            → (set.contains m.prepared.members b ≡ true) × (set.contains m.state.storage.ring.used b ≡ false)
+        by true is false unused both = (is, sym (ap (λ (r : Ring). set.contains r.used b) l.untouched.ring) ∙ unused)
+        by true is true used both = absurd (true≢false (sym both ∙ (λ i. is i && not (used i))))
+        by false is y used both = absurd (true≢false (sym both ∙ ap (λ (z : Bool). z && not (set.contains st.ring.used b)) is))
 
     union_left : (a b : set.FinSet nat_cmp) (x : ℕ) → set.contains a x ≡ true → set.contains (set.union a b) x ≡ true
     union_left a b x is = set.contains-union nat_cmp_total a b x ∙ ap (λ (y : Bool). y || set.contains b x) is
@@ -382,7 +406,7 @@ module _ (d e : Device) (m : System) (st : Storage) (s : IsSystem d m) (on : m.s
             union_right marks.members st.ring.note b
             (ap (λ (x : set.FinSet nat_cmp). set.contains x b) same_note ∙ running.taken b must (λ reached. both_ways (set.contains marks.members b) is (all_marked b reached)))
 
-    installed_keeps : AreDataBlocks st.ring.blocks st.ring.used → Keeps d e m (installed marked_storage)
+    installed_keeps : AreDataBlocks st.ring.blocks st.ring.used → Keeps d e m (installed marked_storage unused_prepared)
     installed_keeps blocks =
         let k = looked_keeps m.pass in
         record {
@@ -390,6 +414,8 @@ module _ (d e : Device) (m : System) (st : Storage) (s : IsSystem d m) (on : m.s
           history = refl;
           group = refl;
           bodies = refl;
+          sized = refl;
+          prepared = λ b has unused. only_unused b has;
           rest = refl;
           is_on = on;
           bad = k.bad;
@@ -410,19 +436,21 @@ module _ (d e : Device) (m : System) (st : Storage) (s : IsSystem d m) (on : m.s
             let same : st.ring.blocks ≡ d.geometry.blocks = ap (λ (r : Ring). r.blocks) l.untouched.ring ∙ s.mounted.ring_blocks in
             omega (arith, own.1, same)
 
-    pub ended_system : (u : Storage) → u ≡ marked_storage → AreDataBlocks st.ring.blocks st.ring.used → m.pass ≡ None → IsSystem e (installed u)
-    ended_system u is blocks none =
-        subst (λ (x : Storage). IsSystem e (installed x)) (sym is)
-        (kept_system d e m (installed marked_storage) s on (installed_keeps blocks) (subst (λ (o : Option Pass). IfSome o (IsRunning e (installed marked_storage))) (sym none) tt))
+    pub ended_system : (u : Storage) (prepared : BlockSet) → u ≡ marked_storage → prepared ≡ unused_prepared → AreDataBlocks st.ring.blocks st.ring.used → m.pass ≡ None → IsSystem e (installed u prepared)
+    ended_system u prepared is left blocks none =
+        let n = installed marked_storage unused_prepared in
+        subst (λ (x : Storage × BlockSet). IsSystem e (installed x.0 x.1)) (λ i. (sym is i, sym left i))
+        (kept_system d e m n s on (installed_keeps blocks) (subst (λ (o : Option Pass). IfSome o (IsRunning e n)) (sym none) tt))
 
-    pub ended_stays : (u : Storage) → u ≡ marked_storage → AreDataBlocks st.ring.blocks st.ring.used → Stays d m e (installed u)
-    ended_stays u is blocks = subst (λ (x : Storage). Stays d m e (installed x)) (sym is) (kept_stays d e m (installed marked_storage) s on (installed_keeps blocks))
+    pub ended_stays : (u : Storage) (prepared : BlockSet) → u ≡ marked_storage → prepared ≡ unused_prepared → AreDataBlocks st.ring.blocks st.ring.used → Stays d m e (installed u prepared)
+    ended_stays u prepared is left blocks =
+        subst (λ (x : Storage × BlockSet). Stays d m e (installed x.0 x.1)) (λ i. (sym is i, sym left i)) (kept_stays d e m (installed marked_storage unused_prepared) s on (installed_keeps blocks))
 
     others_go : (b : ℕ) → (Reached (node_of d) p.roots b → ⊥) → set.contains st.ring.note b ≡ false → set.contains (set.union marks.members st.ring.note) b ≡ false
     others_go b apart unnoted = set.contains-union nat_cmp_total marks.members st.ring.note b ∙ ap (λ (y : Bool). y || set.contains st.ring.note b) (only_marked b apart) ∙ unnoted
 
-    pub ends : (old : System) (budget : ℕ) (u : Storage) → u ≡ marked_storage → GoesOnFrom old p m.state.storage.ring.note → (q.next ≤ p.next + budget) × IsFinished q → m.pass ≡ None → EndsPass d old budget (installed u)
-    ends old budget u is from done none = subst (λ (x : Storage). EndsPass d old budget (installed x)) (sym is) (record {
+    pub ends : (old : System) (budget : ℕ) (u : Storage) (prepared : BlockSet) → u ≡ marked_storage → GoesOnFrom old p m.state.storage.ring.note → (q.next ≤ p.next + budget) × IsFinished q → m.pass ≡ None → EndsPass d old budget (installed u prepared)
+    ends old budget u prepared is from done none = subst (λ (x : Storage). EndsPass d old budget (installed x prepared)) (sym is) (record {
       from = p;
       to = q;
       was = subst (λ (x : set.FinSet nat_cmp). GoesOnFrom old p x) (sym same_note) from;
@@ -532,19 +560,19 @@ module _ (d e : Device) (m n : System) (p q : Pass) (st : Storage) (t : IsSteppe
   goes_system known = going_system d e n st first step_is_on t.looked p q t.goes known running
 
   -- it ends
-  module _ (marks : BlockSet) (u : Storage) (is : u ≡ marked_in st marks) (blocks : AreDataBlocks st.ring.blocks st.ring.used)
+  module _ (marks : BlockSet) (u : Storage) (prepared : BlockSet) (is : u ≡ marked_in st marks) (forgets : prepared ≡ record n.prepared { members = set.difference n.prepared.members st.ring.used }) (blocks : AreDataBlocks st.ring.blocks st.ring.used)
       (on_with : IsPass (node_of d) p → IsPass (node_of d) q) (exact : (f : Blocks) → IsPass f q → (b : ℕ) → (set.contains marks.members b ≡ true) ↔ Reached f q.roots b) where
     abbrev last : System
-    last = with_storage n u n.pass
+    last = record (with_storage n u n.pass) { prepared = prepared }
 
     pub all_system : IsSystem e last
-    all_system = ended_system d e n st first step_is_on t.looked p q marks running t.goes on_with exact u is blocks none
+    all_system = ended_system d e n st first step_is_on t.looked p q marks running t.goes on_with exact u prepared is forgets blocks none
 
     pub all_stays : Stays d m e last
-    all_stays = stays_on d d e m n last first_stays (ended_stays d e n st first step_is_on t.looked p q marks running t.goes on_with exact u is blocks)
+    all_stays = stays_on d d e m n last first_stays (ended_stays d e n st first step_is_on t.looked p q marks running t.goes on_with exact u prepared is forgets blocks)
 
     pub all_ends : (budget : ℕ) → (q.next ≤ p.next + budget) × IsFinished q → EndsPass d m budget last
-    all_ends budget done = ends d e n st first step_is_on t.looked p q marks running t.goes on_with exact m budget u is t.from done none
+    all_ends budget done = ends d e n st first step_is_on t.looked p q marks running t.goes on_with exact m budget u prepared is t.from done none
 
 -- ---- whether power went
 
@@ -562,6 +590,7 @@ power_system e n off s on is_off = record {
     off = is_off;
   };
   bodies = s.bodies;
+  prepared = s.prepared;
   saved = λ _. s.saved on;
   stands = λ _. s.stands on;
   roots = λ _. s.roots on;
@@ -594,7 +623,7 @@ module _ (d e : Device) (m n : System) (budget : ℕ) (answer : Result Bool Faul
 
   is_reclaimed : Reclaims d m budget answer e left
   is_reclaimed = record {
-    stays = record { reads = stays.reads; history = stays.history; group = stays.group; machine = stays.machine; bad = stays.bad; last = stays.last; takes = stays.takes; anchors = stays.anchors; room = stays.room };
+    stays = record { reads = stays.reads; history = stays.history; group = stays.group; machine = stays.machine; bad = stays.bad; last = stays.last; takes = stays.takes; anchors = stays.anchors; room = stays.room; prepared = stays.prepared };
     ends = λ _. still_ends answer ends;
     asks = λ _. asks;
     off = ap (λ (b : Bool). b || is_cut_answer answer) (still_on ∙ sym on);

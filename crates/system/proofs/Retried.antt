@@ -281,7 +281,7 @@ marked_between d p c m l q s stays between =
 -- ---- room is made
 
 pub unmarked_system : (d : Device) (m : System) → IsSystem d m → IsSystem d (unmarked m)
-unmarked_system d m s = record { mounted = s.mounted; bodies = s.bodies; saved = s.saved; stands = s.stands; roots = s.roots; passing = λ _. tt; known = s.known; listed = s.listed }
+unmarked_system d m s = record { mounted = s.mounted; bodies = s.bodies; prepared = s.prepared; saved = s.saved; stands = s.stands; roots = s.roots; passing = λ _. tt; known = s.known; listed = s.listed }
 
 as_unmarked : (d b : Device) (m k : System) → IsBetween d m b k → IsBetween d m b (unmarked k)
 as_unmarked d b m k x = record { geometry = x.geometry; is_later = x.is_later; machine = x.machine; history = x.history; group = x.group; bad = x.bad; pages = x.pages; reaches = x.reaches; whole = x.whole }

@@ -129,6 +129,7 @@ module _ (d e : Device) (m : System) (t : State) (bodies : KnownBodies) (call : 
   state_system mounted known_bodies = record {
     mounted = mounted;
     bodies = known_bodies;
+    prepared = s.prepared ∙ sym evolved.blocks;
     saved = λ on. ap is_some as_saved ∙ s.saved (was_on on);
     stands = λ on r is. stands (was_on on) r (sym as_saved ∙ is);
     roots = λ on r is. s.roots (was_on on) r (sym as_saved ∙ is);
@@ -196,6 +197,7 @@ module _ (d e : Device) (m : System) (t : State) (bodies : KnownBodies) (call : 
     stopped = λ off. let same = step.stopped off in (same.0, λ i. with_call m (same.1 i) (still off i));
     last = λ sync. absurd (true≢false (sym sync ∙ other));
     pass = refl;
+    prepared = refl;
     pages = pages;
     after = record {
       either = inl either;

@@ -240,8 +240,8 @@ module _ {T : Type 0} (d e : Device) (m n : System) (result : Result T Fault) (s
           same_fault e = cc
 
   -- a call that committed
-  pub committed : (call : Call) → IsSyncing (machine_on d m.state) call → IfErr result (SaveCause d m e n) → n.pass ≡ m.pass → (LacksSequence d m → (result ≡ Err Overflow) × (e ≡ d) × (n ≡ m)) → TriesOnce d m call (replied empty result) e n
-  committed call is why same_pass refuses = record {
+  pub committed : (call : Call) → IsSyncing (machine_on d m.state) call → IfErr result (SaveCause d m e n) → n.pass ≡ m.pass → n.prepared ≡ m.prepared → (LacksSequence d m → (result ≡ Err Overflow) × (e ≡ d) × (n ≡ m)) → TriesOnce d m call (replied empty result) e n
+  committed call is why same_pass same_prepared refuses = record {
     step = record { later = later; answers = answers call is why };
     leaves = λ none. absurd (true≢false (sym is.sync ∙ none));
     saves = λ sync. replied_saves;
@@ -251,6 +251,7 @@ module _ {T : Type 0} (d e : Device) (m n : System) (result : Result T Fault) (s
     stopped = λ off. absurd (true≢false (sym off ∙ on));
     last = λ _ _ _ lacks. let refused = refuses lacks in (ap (replied empty) refused.0, refused.1, refused.2);
     pass = same_pass;
+    prepared = same_prepared;
     pages = λ p reached. saves.used_pages p (reached_used (block_of d p) reached);
     after = record_after call is.sync;
   }
@@ -349,6 +350,7 @@ off_step d m call sync off = record {
   stopped = λ is. (refl, refl);
   last = λ _ on. absurd (true≢false (sym off ∙ on));
   pass = refl;
+  prepared = refl;
   pages = λ p reached. refl;
   after = kept_record d m PowerCut _ call;
 }
@@ -369,6 +371,7 @@ grouped_step d m call sync on refused = record {
   stopped = λ is. (refl, refl);
   last = λ _ _ accepted. absurd (true≢false (sym accepted ∙ ap is_none refused));
   pass = refl;
+  prepared = refl;
   pages = λ p reached. refl;
   after = kept_record d m InGroup _ call;
 }

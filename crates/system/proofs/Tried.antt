@@ -52,7 +52,7 @@ pub record IsTried {T : Type 0} (d e : Device) (m : System) (anchors : Anchors) 
 
 module _ {T : Type 0} (d e : Device) (m : System) (anchors : Anchors) (roots : Vec ℕ Global) (bad : set.FinSet nat_cmp) (answer : Result T Fault) (saved : Record) (s : IsSystem d m) (on : m.state.is_off ≡ false) (tried : IsTried d e m anchors roots bad answer saved) where
   abbrev after : System
-  after = record { state = with_cut (with_bad m.state bad) (is_cut_answer answer); bodies = m.bodies; anchors = anchors; record_roots = roots; pass = m.pass; cleaned_to = m.cleaned_to }
+  after = record { state = with_cut (with_bad m.state bad) (is_cut_answer answer); bodies = m.bodies; anchors = anchors; record_roots = roots; pass = m.pass; cleaned_to = m.cleaned_to; prepared = m.prepared }
 
   -- the newest record was known
   was_known : remembered m.anchors ≢ None
@@ -133,7 +133,7 @@ module _ {T : Type 0} (d e : Device) (m : System) (anchors : Anchors) (roots : V
           ap (λ (v : Vec ℕ Global). v.items) unlisted ∙ s.roots on r (sym (same_saved d e tried.only_anchors.geometry commits.newest) ∙ is)
 
   system_after : IsSystem e after
-  system_after = is_system d e m after answer s saves is_off knows_newest knows_roots (λ was. still_running d e m after answer s saves was refl) refl
+  system_after = is_system d e m after answer s saves is_off knows_newest knows_roots (λ was. still_running d e m after answer s saves was refl) refl refl
 
   why_after : (r : Result T Fault) → IfErr r (CommitCause d m.state.storage.bad m.anchors e bad) → IfErr r (SaveCause d m e after)
   why_after (Ok x) why = tt
@@ -141,10 +141,10 @@ module _ {T : Type 0} (d e : Device) (m : System) (anchors : Anchors) (roots : V
 
   -- what is promised of a commit that left this system and answered so
   abbrev IsLeft : System → Result T Fault → Type 0
-  IsLeft n result = IsSystem e n × Saves d m result e n × IfErr result (SaveCause d m e n) × (n.pass ≡ m.pass)
+  IsLeft n result = IsSystem e n × Saves d m result e n × IfErr result (SaveCause d m e n) × (n.pass ≡ m.pass) × (n.prepared ≡ m.prepared)
 
-  pub tried_commit : (u : System) (t : State) (result : Result T Fault) → u ≡ record { state = with_bad m.state bad; bodies = m.bodies; anchors = anchors; record_roots = roots; pass = m.pass; cleaned_to = m.cleaned_to }
+  pub tried_commit : (u : System) (t : State) (result : Result T Fault) → u ≡ record { state = with_bad m.state bad; bodies = m.bodies; anchors = anchors; record_roots = roots; pass = m.pass; cleaned_to = m.cleaned_to; prepared = m.prepared }
       → t ≡ with_cut u.state (is_cut_answer answer) → result ≡ answer → IsLeft (record u { state = t }) result
   tried_commit u t result was is same =
-      let left : record u { state = t } ≡ after = λ i. record { state = (is ∙ ap (λ (x : System). with_cut x.state (is_cut_answer answer)) was) i; bodies = (was i).bodies; anchors = (was i).anchors; record_roots = (was i).record_roots; pass = (was i).pass; cleaned_to = (was i).cleaned_to } in
-      subst (λ (r : Result T Fault). IsLeft (record u { state = t }) r) (sym same) (subst (λ (n : System). IsLeft n answer) (sym left) (system_after, saves, why_after answer tried.why, refl))
+      let left : record u { state = t } ≡ after = λ i. record { state = (is ∙ ap (λ (x : System). with_cut x.state (is_cut_answer answer)) was) i; bodies = (was i).bodies; anchors = (was i).anchors; record_roots = (was i).record_roots; pass = (was i).pass; cleaned_to = (was i).cleaned_to; prepared = (was i).prepared } in
+      subst (λ (r : Result T Fault). IsLeft (record u { state = t }) r) (sym same) (subst (λ (n : System). IsLeft n answer) (sym left) (system_after, saves, why_after answer tried.why, refl, refl))

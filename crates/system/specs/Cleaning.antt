@@ -59,6 +59,7 @@ pub record StepCleans (old : Device) (m : System) (budget : ℕ) (result : Resul
 -- a step of cleaning, whatever it answers. Once a call has answered that the power is off, nothing changes
 pub record Cleans (old : Device) (m : System) (budget : ℕ) (result : Result Bool Fault) (new : Device) (n : System) : Type 0 where
   pub undisturbed : IsUndisturbed old m new n
+  pub prepared : n.prepared ≡ m.prepared
   pub cleans : m.state.is_off ≡ false → StepCleans old m budget result new n
   pub off : n.state.is_off ≡ m.state.is_off || is_cut_answer result
   pub stopped : m.state.is_off ≡ true → (result ≡ Err PowerCut) × (new ≡ old) × (n ≡ m)

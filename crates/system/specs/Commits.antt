@@ -102,7 +102,7 @@ TellsLast old m call result new n =
     → LacksSequence old m → (result ≡ Err Overflow) × (new ≡ old) × (n ≡ m)
 
 -- what a call does that is tried once: the step of its working state, and what is left of the flash, the state and
--- the newest record. The marking that goes on is as it was, and no page changes of a block that a version, a
+-- the newest record. The marking that goes on and the prepared blocks are as they were, and no page changes of a block that a version, a
 -- checkpoint or the group reaches
 pub record TriesOnce (old : Device) (m : System) (call : Call) (result : Result Reply Fault) (new : Device) (n : System)
     : Type 0 where
@@ -115,5 +115,6 @@ pub record TriesOnce (old : Device) (m : System) (call : Call) (result : Result 
   pub stopped : m.state.is_off ≡ true → (new ≡ old) × (n ≡ m)
   pub last : TellsLast old m call result new n
   pub pass : n.pass ≡ m.pass
+  pub prepared : n.prepared ≡ m.prepared
   pub pages : KeepsPages old m.state new
   pub after : RecordAfter (is_sync call ≡ true) call result old (machine_on old m.state).history new

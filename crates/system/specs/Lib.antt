@@ -1,4 +1,5 @@
 pub mod Cleaning
+pub mod Preparing
 pub mod Commits
 pub mod Moments
 pub mod Mounts

@@ -1,5 +1,6 @@
 -- What a mount makes of the newest record of a flash, what it asks of the device, and why it makes nothing of it.
 use Rattle.std.specs.Prelude.{◌≡◌, ◌⊎◌, ℕ, ◌+◌, ◌*◌, ◌<◌, ◌≤◌, false, Some, Ok, List, None, Err}
+use Rattle.std.specs.FinSet as set
 use Rattle.fs_types.specs.declared.limits.TheConstants.{ANCHORS}
 use Rattle.flash_model.specs.Device.{Device}
 use Rattle.node_store.specs.NodePages.{node_of}
@@ -35,7 +36,7 @@ abbrev pub AsksUntilRefused : Device → Device → Type 0
 AsksUntilRefused old new = (new.operations ≤ old.operations + scan_pages old) ⊎ AsksToMount old new
 
 -- a system is mounted with what the newest record holds, and that record's place is known, so that a commit may
--- follow
+-- follow. No block is prepared
 pub record IsMountOf (old new : Device) (system : System) : Type 0 where
   pub newest : Record
   pub holds : committed_on old ≡ Some (Ok newest)
@@ -43,6 +44,7 @@ pub record IsMountOf (old new : Device) (system : System) : Type 0 where
   pub remembers : KnowsNewest new system.state.storage.bad system.anchors
   pub pass : system.pass ≡ None
   pub cleaned_to : system.cleaned_to ≡ 0
+  pub prepared : system.prepared ≡ record { blocks = new.geometry.blocks; members = set.empty }
 
 -- the newest record is sound, but some version or checkpoint of it has no tree
 abbrev pub LacksTrees : Device → Type 0

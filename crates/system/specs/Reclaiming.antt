@@ -93,6 +93,12 @@ StepEnds old m budget (Err fault) new n =
     (n.pass ≡ None) × (n.state.storage.ring.used ≡ m.state.storage.ring.used)
     × ReadCause (seen_on old m.state) fault (seen_on new n.state)
 
+-- a free block is prepared only where it was, and was free: so what was prepared before a block was taken is forgotten
+abbrev pub IsStillPrepared : System → System → Type 0
+IsStillPrepared m n =
+    (b : ℕ) → set.contains n.prepared.members b ≡ true → set.contains n.state.storage.ring.used b ≡ false
+    → (set.contains m.prepared.members b ≡ true) × (set.contains m.state.storage.ring.used b ≡ false)
+
 -- only reads came, and the history, the group, the machine, the bad list, the last block taken and the newest
 -- record's place are as they were
 pub record Stays (old : Device) (m : System) (new : Device) (n : System) : Type 0 where
@@ -105,6 +111,7 @@ pub record Stays (old : Device) (m : System) (new : Device) (n : System) : Type 
   pub takes : n.state.storage.ring.takes ≡ m.state.storage.ring.takes
   pub anchors : n.anchors ≡ m.anchors
   pub room : n.state.storage.cache.room ≡ m.state.storage.cache.room
+  pub prepared : IsStillPrepared m n
 
 -- a step of reclaiming, whatever it answers. Once a call has answered that the power is off, nothing changes
 pub record Reclaims (old : Device) (m : System) (budget : ℕ) (result : Result Bool Fault) (new : Device) (n : System)

@@ -46,13 +46,14 @@ pub record IsRunning (d : Device) (m : System) (p : Pass) : Type 0 where
   pub taken : (b : ℕ) → MustStay d m b → (Reached (node_of d) p.roots b → ⊥)
       → set.contains m.state.storage.ring.note b ≡ true
 
--- the working state is mounted, and what is known of open files is what look-ups of their paths tell. Until a call
--- answered that the power is off, there is a newest record, its place and its roots are known, all its versions and
+-- the working state is mounted, what is known of open files is what look-ups of their paths tell, and the prepared
+-- blocks are blocks of this flash. Until a call answered that the power is off, there is a newest record, its place and its roots are known, all its versions and
 -- checkpoints stand, and a marking that was begun goes on. Each bad block that is not used is a block of the flash,
 -- as used ones are
 pub record IsSystem (d : Device) (m : System) : Type 0 where
   pub mounted : IsMounted d m.state
   pub bodies : KnowsBodies d m.state m.bodies
+  pub prepared : m.prepared.blocks ≡ m.state.storage.ring.blocks
   pub saved : m.state.is_off ≡ false → is_some (saved_on d) ≡ true
   pub stands : m.state.is_off ≡ false → (r : Record) → saved_on d ≡ Some r → (root : ℕ)
       → Contains (roots_of (history_of r)) root → IsStanding d m.state.storage.ring root

@@ -36,6 +36,7 @@ impl System {
         ensures system { IsSystem (F.device flash.new) self.new }
         ensures is_on { self.new.state.is_off ≡ false }
         ensures undisturbed { IsUndisturbed (F.device flash.old) self.old (F.device flash.new) self.new }
+        ensures prepared { self.new.prepared ≡ self.old.prepared }
         ensures cleans { StepCleans (F.device flash.old) self.old budget result (F.device flash.new) self.new }
     {
         let from = self.cleaned_to;

@@ -9,6 +9,7 @@ mod history_space;
 mod laws;
 mod mounts;
 mod passes;
+mod preparing;
 mod room;
 mod space;
 mod systems;

@@ -9,6 +9,7 @@ ghost use Rattle.system.specs.Mounts.{IsMountOf, MountCause};
 ghost use Rattle.system.specs.Systems.{IsSystem};
 
 use crate::systems::System;
+use block_cleaning::PreparedBlocks;
 use commit_pair::Anchors;
 use flash_model::Flash;
 use fs_types::{Fault, MOUNTED_NODES};
@@ -35,6 +36,7 @@ fn mount_cached<F: Flash>(alloc: Global, flash: &mut F, cache: NodeCache) -> Res
     if !flash.geometry().is_lawful() {
         return Err(Fault::BadGeometry);
     }
+    let prepared = PreparedBlocks::new(alloc, flash.geometry().blocks)?;
     let mut anchors = Anchors::new();
     let Some(newest) = anchors.newest(alloc, flash)? else {
         return Err(Fault::NoRecord);
@@ -48,6 +50,7 @@ fn mount_cached<F: Flash>(alloc: Global, flash: &mut F, cache: NodeCache) -> Res
         record_roots,
         pass: None,
         cleaned_to: 0,
+        prepared,
     })
 }
 

@@ -30,7 +30,7 @@ impl System {
     /// Reads `budget` blocks more of those that a version or a checkpoint reaches, of the working
     /// history or of the newest record, or the change group that is open, or all that remain; whether
     /// none remains. Then each block that was not met is free, but those taken since the first of these
-    /// steps. Nothing is written.
+    /// steps, and none that was used is prepared. Nothing is written.
     ///
     /// The marking goes on beside the calls. [`Fault::ReadFailed`], [`Fault::PowerCut`],
     /// [`Fault::NoMemory`]: the next step begins anew.
@@ -71,6 +71,7 @@ impl System {
         }
         // The used blocks are data blocks, as their contract tells.
         let _blocks = self.state.storage.ring.blocks();
+        self.prepared.forget_used(&self.state.storage.ring);
         self.state.storage.install(pass.finish());
         Ok(true)
     }

@@ -15,6 +15,7 @@ ghost use Rattle.system.specs.Commits.{Saves, SaveCause, LacksSequence, CommitRe
 ghost use Rattle.system.specs.Steps.{SystemStep};
 
 use bad_blocks::is_read_only;
+use block_cleaning::PreparedBlocks;
 use commit_pair::Anchors;
 use flash_model::{Flash, Geometry};
 use fs_types::{Fault, Reply, Request};
@@ -24,8 +25,8 @@ use record_format::Record;
 use std::alloc::Global;
 use working_state::{KnownBodies, State};
 
-/// A mounted system: its working state, what is known of the newest record, the marking that goes on, and
-/// how far a round of cleaning has come.
+/// A mounted system: its working state, what is known of the newest record, the marking that goes on,
+/// how far a round of cleaning has come, and which blocks are prepared.
 #[derive(Drop)]
 pub struct System {
     /// The versions and checkpoints, the change group that is open, if one is, what nodes are kept with,
@@ -41,6 +42,9 @@ pub struct System {
     pub pass: Option<Pass>,
     /// The block at which a round of cleaning goes on; 0 where a new one begins.
     pub cleaned_to: u32,
+    /// The blocks that were erased by a step of preparing since the mount. One that was taken since is
+    /// forgotten before it is free again.
+    pub prepared: PreparedBlocks,
 }
 
 impl System {
@@ -135,6 +139,7 @@ impl System {
         ensures saves { Saves (F.device flash.old) self.old result (F.device flash.new) self.new }
         ensures why { IfErr result (SaveCause (F.device flash.old) self.old (F.device flash.new) self.new) }
         ensures pass { self.new.pass ≡ self.old.pass }
+        ensures prepared { self.new.prepared ≡ self.old.prepared }
         ensures last { LacksSequence (F.device flash.old) self.old → (result ≡ Err Fault.Overflow) × (F.device flash.new ≡ F.device flash.old) × (self.new ≡ self.old) }
     {
         self.check_commit()?;

@@ -28,6 +28,7 @@ returns g c =
       saves = left.1;
       why = left.2;
       pass = left.3;
+      prepared = left.4;
       last = λ lacks. absurd (c.in_ok-check_commit.ensures.next (sym (known_greatest (g.F.Flash.device c.args.flash.now) c.args.self.now c.requires.system c.requires.is_on) ∙ lacks.1));
     }
 
@@ -35,7 +36,7 @@ pub returns-in_err-check_commit : goal.returns-in_err-check_commit
 returns-in_err-check_commit g c =
     let p = err_from_is_err_and c.from_residual.result c.from_residual.ensures.1 in
     let turned = turned_away (g.F.Flash.device c.args.flash.now) c.args.self.now c.in_err-check_commit.field-0.0 c.requires.system c.requires.is_on c.in_err-check_commit.ensures.why in
-    rw (p.1, p.2) (record { system = c.requires.system; saves = turned.0; why = turned.1; pass = refl; last = λ lacks. (ap Err (turned.2 lacks), refl, refl) })
+    rw (p.1, p.2) (record { system = c.requires.system; saves = turned.0; why = turned.1; pass = refl; prepared = refl; last = λ lacks. (ap Err (turned.2 lacks), refl, refl) })
 
 pub returns-in_err-saved-clause-last : goal.returns-in_err-saved-clause-last
 returns-in_err-saved-clause-last g c = λ lacks. absurd (c.in_ok-check_commit.ensures.next (sym (known_greatest (g.F.Flash.device c.args.flash.now) c.args.self.now c.requires.system c.requires.is_on) ∙ lacks.1))

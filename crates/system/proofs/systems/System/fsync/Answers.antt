@@ -12,7 +12,7 @@ pub returns-clause-step : goal.returns-clause-step
 returns-clause-step g c =
     let d = g.F.Flash.device c.args.flash.now in
     let e = g.F.Flash.device c.commit.new.flash in
-    committed d e c.args.self.now c.commit.new.self c.commit.result c.requires c.in_ok-check_power.ensures.ok c.commit.ensures.saves (Call.Fsync c.args.descriptor) (fsync_syncs (machine_on d c.args.self.now.state) c.args.descriptor (is_open_there (machine_on d c.args.self.now.state) c.args.descriptor (ungrouped_on d c.args.self.now c.in_ok-check_outside.ensures.ok) (option_copied c.get.result) c.get.ensures (copied_some c.get.result c.if-is_none.ensures))) c.commit.ensures.why c.commit.ensures.pass c.commit.ensures.last
+    committed d e c.args.self.now c.commit.new.self c.commit.result c.requires c.in_ok-check_power.ensures.ok c.commit.ensures.saves (Call.Fsync c.args.descriptor) (fsync_syncs (machine_on d c.args.self.now.state) c.args.descriptor (is_open_there (machine_on d c.args.self.now.state) c.args.descriptor (ungrouped_on d c.args.self.now c.in_ok-check_outside.ensures.ok) (option_copied c.get.result) c.get.ensures (copied_some c.get.result c.if-is_none.ensures))) c.commit.ensures.why c.commit.ensures.pass c.commit.ensures.prepared c.commit.ensures.last
 
 pub returns-in_err-check_outside-clause-step : goal.returns-in_err-check_outside-clause-step
 returns-in_err-check_outside-clause-step g c =

@@ -11,7 +11,7 @@ pub returns-clause-step : goal.returns-clause-step
 returns-clause-step g c =
     let d = g.F.Flash.device c.args.flash.now in
     let e = g.F.Flash.device c.commit.new.flash in
-    committed d e c.args.self.now c.commit.new.self c.commit.result c.requires c.in_ok-check_power.ensures.ok c.commit.ensures.saves Call.Sync (sync_syncs (machine_on d c.args.self.now.state) (ungrouped_on d c.args.self.now c.in_ok-check_outside.ensures.ok)) c.commit.ensures.why c.commit.ensures.pass c.commit.ensures.last
+    committed d e c.args.self.now c.commit.new.self c.commit.result c.requires c.in_ok-check_power.ensures.ok c.commit.ensures.saves Call.Sync (sync_syncs (machine_on d c.args.self.now.state) (ungrouped_on d c.args.self.now c.in_ok-check_outside.ensures.ok)) c.commit.ensures.why c.commit.ensures.pass c.commit.ensures.prepared c.commit.ensures.last
 
 pub returns-in_err-check_outside-clause-step : goal.returns-in_err-check_outside-clause-step
 returns-in_err-check_outside-clause-step g c =

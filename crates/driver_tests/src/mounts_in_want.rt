@@ -81,9 +81,9 @@ fn is_mounted_in(
 /// kept, and of most blocks a few bits.
 const WANTED: &[(Geometry, Content, usize)] = &[
     (LARGE_BLOCKS, Content::File(1_048_576), 16_384),
-    (MOST_BLOCKS, Content::Nothing, 22_528),
-    (MOST_BLOCKS, Content::File(16_384), 26_624),
-    (MOST_BLOCKS, Content::MovedDirectory, 24_576),
+    (MOST_BLOCKS, Content::Nothing, 24_576),
+    (MOST_BLOCKS, Content::File(16_384), 28_672),
+    (MOST_BLOCKS, Content::MovedDirectory, 26_624),
 ];
 
 #[test]

@@ -50,6 +50,7 @@ impl<'f, F: Flash> Fs<'f, F> {
     ghost use Rattle.system.specs.Moments.{system_moment};
     ghost use Rattle.system.specs.Mounts.{AsksToMount};
     ghost use Rattle.system.specs.Mounts.{IsMountOf};
+    ghost use Rattle.system.specs.Preparing.{PreparesAhead};
     ghost use Rattle.system.specs.Reclaiming.{Reclaims};
     ghost use Rattle.system.specs.TreeSizes.{TellsSize, ShowRoots, RefusesRoots};
     ghost use Rattle.system.specs.VersionSpace.{AsksTwice, TellsHistorySpace};
@@ -661,6 +662,17 @@ impl<'f, F: Flash> Fs<'f, F> {
         ensures same_flash { flash_name self.new ≡ flash_name self.old }
     {
         self.system.clean_step(self.flash, budget)
+    }
+
+    /// Erases the free blocks that are taken next, `budget` of them at most, and remembers each until it is
+    /// taken ([`System::prepare_step`]), so that a later write need not wait for the erase, where the driver
+    /// answers that of a blank block at once. Whether the next 64 are prepared, or all that are free: then
+    /// nothing is asked of the flash.
+    pub fn prepare_step(&mut self, budget: u64) -> Result<bool, Fault>
+        ensures step { PreparesAhead (F.device self.old.flash.now) self.old.system budget result (F.device self.new.flash.now) self.new.system }
+        ensures same_flash { flash_name self.new ≡ flash_name self.old }
+    {
+        self.system.prepare_step(self.flash, budget)
     }
 
     /// Carries out a call, and answers its reply. Its step says what that of each call says: a call that

@@ -1,0 +1,4 @@
+pub mod Lists
+pub mod Below
+pub mod Named
+pub mod Walks

@@ -18,6 +18,7 @@ pub mod FreeSpace
 pub mod HistoryLooks
 pub mod Forgetting
 pub mod TreeSizes
+pub mod DifferingTrees
 pub mod VersionSpaces
 pub mod LooksAsDf
 pub mod SpaceLaws

@@ -1,6 +1,7 @@
 pub mod Cleaning
 pub mod Preparing
 pub mod Commits
+pub mod DifferingTrees
 pub mod Moments
 pub mod Mounts
 pub mod Props

@@ -4,6 +4,7 @@
 #![tactic(auto)]
 
 mod cleaning;
+mod differing_trees;
 mod forgotten;
 mod history_space;
 mod laws;

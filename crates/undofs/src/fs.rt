@@ -46,6 +46,7 @@ impl<'f, F: Flash> Fs<'f, F> {
     ghost use Rattle.working_state.specs.Leaves.{is_still};
     ghost use Rattle.working_state.specs.Looking.{only_looks};
     ghost use Rattle.system.specs.Cleaning.{Cleans};
+    ghost use Rattle.system.specs.DifferingTrees.{TellsDiffering};
     ghost use Rattle.system.specs.HistorySpace.{ForgetsUntil};
     ghost use Rattle.system.specs.Moments.{system_moment};
     ghost use Rattle.system.specs.Mounts.{AsksToMount};
@@ -643,6 +644,24 @@ impl<'f, F: Flash> Fs<'f, F> {
         ensures err { IfErr result (RefusesRoots self.now.system.state view.now other.now) }
     {
         self.system.show_same_root(view, other)
+    }
+
+    /// The paths of the tree of a view at which the root of another one leads elsewhere, a directory's before
+    /// those of what stands in it ([`System::differing_paths`]). At each other path both trees have the same; a
+    /// file that is told may have the same bytes. What both have in one block is not read.
+    ///
+    /// [`Fault::PowerCut`] where a call answered that before; the refusal of the first view, then of the
+    /// second; then what the reading meets.
+    pub fn differing_paths(
+        &mut self,
+        alloc: Global,
+        view: &View,
+        other: &View,
+    ) -> Result<Sequence<Path>, Fault>
+        ensures step { TellsDiffering (F.device self.old.flash.now) self.old.system view.now other.now result (F.device self.new.flash.now) self.new.system }
+        ensures same_flash { flash_name self.new ≡ flash_name self.old }
+    {
+        self.system.differing_paths(alloc, self.flash, view, other)
     }
 
     /// Takes a step of reclaiming: reads `budget` blocks more of those in use, or all that remain, and

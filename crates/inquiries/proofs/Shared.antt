@@ -15,7 +15,7 @@ use Rattle.inquiries.specs.declared.items.Item.{Item}
 use Rattle.inquiries.specs.declared.printing.Side.{Side}
 use Rattle.inquiries.proofs.DifferenceLemmas.{items_there}
 
-line_itself : (side : Side) (item : Item) (o : Option Entry) → IsSome o → line_beside side item o o ≡ []
+pub line_itself : (side : Side) (item : Item) (o : Option Entry) → IsSome o → line_beside side item o o ≡ []
 line_itself side item None there = absurd cc
 line_itself side item (Some Entry.Dir) there = refl
 line_itself Side.Old item (Some (Entry.File bytes)) there = ap (λ (b : Bool). cond b [] (changed_line item.path)) ((bytes_eq-Decides bytes bytes).1 refl)

@@ -5,5 +5,6 @@ pub mod Folders
 pub mod Inquiries
 pub mod Items
 pub mod Printed
+pub mod Pruned
 pub mod Readings
 pub mod Versions

@@ -14,8 +14,9 @@ ghost use Rattle.inquiries.specs.declared.inquiry.Inquiry.{Inquiry};
 ghost use Rattle.inquiries.specs.declared.tell_fault.TheConstants.{MAX_LINES};
 
 use crate::counterpart::{Counterpart, find_counterpart};
-use crate::items::{Item, items_of};
+use crate::items::Item;
 use crate::printing::{Side, print_change, print_marked};
+use crate::pruned::differing_items;
 use crate::reading::{check_view, read_file, show_same, size_of_tree};
 use crate::tell_fault::{MAX_LINES, TellFault};
 use flash_model::Flash;
@@ -79,7 +80,7 @@ fn list_differences<F: Flash>(
     Ok(Bytes::from_vec(out))
 }
 
-/// Adds the lines of one of two trees, by what stands in the other.
+/// Adds the lines of one of two trees, by what stands in the other: what both have in one block has none.
 fn add_lines<F: Flash>(
     alloc: Global,
     fs: &mut Fs<'_, F>,
@@ -94,7 +95,7 @@ fn add_lines<F: Flash>(
     ensures ok { OnOk result (out.new.items ≡ out.old.items ++ lines_beside side (view_tree (shown fs.old) view.now) (view_tree (shown fs.old) other.now)) }
     ensures err { IfErr result (Meets (F.device fs.old.flash.now) (F.device fs.new.flash.now)) }
 {
-    let items = items_of(alloc, fs, view)?;
+    let items = differing_items(alloc, fs, view, other)?;
     for item in &items {
         add_line(alloc, fs, side, view, other, item, out)?;
     }

@@ -44,7 +44,7 @@ pub fn list_folder<F: Flash>(
 }
 
 /// Whether a tree is small enough that something is copied out of it.
-fn is_small(size: TreeSize) -> bool
+pub(crate) fn is_small(size: TreeSize) -> bool
     ensures { (t : Tree) → size ≡ size_of t → IsTrue result ↔ IsSmall t }
 {
     match (size.entries, size.bytes) {

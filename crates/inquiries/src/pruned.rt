@@ -1,0 +1,101 @@
+//! What stands in a tree where another one may have something else.
+ghost use Rattle.std.specs.Prelude.{◌≡◌, None, IsSome, All, map, IfOk, OnOk, IfErr};
+ghost use Rattle.std.specs.FinMap.{get};
+ghost use Rattle.history_machine.specs.History.{view_refusal};
+ghost use Rattle.history_machine.specs.Machine.{view_tree};
+ghost use Rattle.inquiries.specs.Folders.{IsSmall, Unlisted};
+ghost use Rattle.inquiries.specs.Items.{item_at};
+ghost use Rattle.inquiries.specs.Pruned.{AreElsewhere, IsElsewhere, IsPruned};
+ghost use Rattle.inquiries.specs.Readings.{shown, IsUnchanged, Meets};
+
+use crate::folders::is_small;
+use crate::items::Item;
+use crate::reading::{size_of_tree, stat_at};
+use crate::tell_fault::TellFault;
+use flash_model::Flash;
+use fs_types::{Fault, Path, Sequence, View};
+use std::alloc::Global;
+use undofs::Fs;
+
+/// What stands in the tree of a view, without that which another view has in the same blocks: a directory
+/// before what stands in it, and names in byte order. What is left out has the same bytes in both trees; no
+/// directory of both is in it. [`TellFault::TooManyLines`] where the whole tree has too much, as
+/// [`list_folder`](crate::list_folder) has it. Else [`Fault::ReadFailed`], [`Fault::PowerCut`] and
+/// [`Fault::NoMemory`] may come.
+pub fn list_differing<F: Flash>(
+    alloc: Global,
+    fs: &mut Fs<'_, F>,
+    view: &View,
+    other: &View,
+) -> Result<Vec<Item>, TellFault>
+    requires view { view_refusal (shown fs.old).history view.now ≡ None }
+    requires other { view_refusal (shown fs.old).history other.now ≡ None }
+    ensures same { IsUnchanged fs.old fs.new }
+    ensures small { OnOk result (IsSmall (view_tree (shown fs.old) view.now)) }
+    ensures ok { IfOk result (λ items. IsPruned (view_tree (shown fs.old) view.now) (view_tree (shown fs.old) other.now) items.items) }
+    ensures err { IfErr result (Unlisted (view_tree (shown fs.old) view.now) fs.old fs.new) }
+{
+    let size = size_of_tree(alloc, fs, view)?;
+    if !is_small(size) {
+        return Err(TellFault::TooManyLines);
+    }
+    Ok(differing_items(alloc, fs, view, other)?)
+}
+
+/// The same, of trees of any size.
+pub(crate) fn differing_items<F: Flash>(
+    alloc: Global,
+    fs: &mut Fs<'_, F>,
+    view: &View,
+    other: &View,
+) -> Result<Vec<Item>, Fault>
+    requires view { view_refusal (shown fs.old).history view.now ≡ None }
+    requires other { view_refusal (shown fs.old).history other.now ≡ None }
+    ensures same { IsUnchanged fs.old fs.new }
+    ensures elsewhere { IfOk result (λ items. IsElsewhere (F.device fs.old.flash.now) fs.old.system.state view.now other.now items.items) }
+    ensures pruned { IfOk result (λ items. IsPruned (view_tree (shown fs.old) view.now) (view_tree (shown fs.old) other.now) items.items) }
+    ensures err { IfErr result (Meets (F.device fs.old.flash.now) (F.device fs.new.flash.now)) }
+{
+    let paths = paths_elsewhere(alloc, fs, view, other)?;
+    items_at(alloc, fs, view, paths.as_slice())
+}
+
+/// The paths of the tree of a view at which its root leads elsewhere than that of another view.
+fn paths_elsewhere<F: Flash>(
+    alloc: Global,
+    fs: &mut Fs<'_, F>,
+    view: &View,
+    other: &View,
+) -> Result<Sequence<Path>, Fault>
+    requires view { view_refusal (shown fs.old).history view.now ≡ None }
+    requires other { view_refusal (shown fs.old).history other.now ≡ None }
+    ensures same { IsUnchanged fs.old fs.new }
+    ensures ok { IfOk result (AreElsewhere (F.device fs.old.flash.now) fs.old.system.state view.now other.now) }
+    ensures err { IfErr result (Meets (F.device fs.old.flash.now) (F.device fs.new.flash.now)) }
+{
+    fs.differing_paths(alloc, view, other)
+}
+
+/// What stands at these paths of a view.
+fn items_at<F: Flash>(
+    alloc: Global,
+    fs: &mut Fs<'_, F>,
+    view: &View,
+    paths: &[Path],
+) -> Result<Vec<Item>, Fault>
+    requires view { view_refusal (shown fs.old).history view.now ≡ None }
+    requires there { All (λ path. IsSome (get (view_tree (shown fs.old) view.now) path)) paths.now }
+    ensures same { IsUnchanged fs.old fs.new }
+    ensures ok { IfOk result (λ items. items.items ≡ map (item_at (view_tree (shown fs.old) view.now)) paths.now) }
+    ensures err { IfErr result (Meets (F.device fs.old.flash.now) (F.device fs.new.flash.now)) }
+{
+    let mut items = Vec::new(alloc);
+    for path in paths {
+        let stat = stat_at(fs, view, path)?;
+        items.push(Item {
+            path: path.clone()?,
+            stat,
+        })?;
+    }
+    Ok(items)
+}

@@ -5,3 +5,9 @@ pub mod Looking
 pub mod LostRoots
 pub mod Saving
 pub mod SureFlashes
+pub mod WholeFileLaws
+pub mod Adding
+pub mod TableLaws
+pub mod Levels
+pub mod LossLaws
+pub mod Telling

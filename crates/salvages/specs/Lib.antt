@@ -5,3 +5,10 @@ pub mod Kept
 pub mod Placing
 pub mod Wholes
 pub mod Salvages
+pub mod Tables
+pub mod WholeFiles
+pub mod Known
+pub mod Rests
+pub mod Losses
+pub mod Told
+pub mod LossLaws

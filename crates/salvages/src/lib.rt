@@ -2,10 +2,22 @@
 #![tactic(auto)]
 
 mod copies;
+mod found;
 mod kept_records;
+mod known_nodes;
 mod looks;
+mod losses;
+mod node_table;
 mod record_pages;
 mod salvaged;
+mod tellings;
+mod walk;
+mod whole_files;
 
+pub use found::{ENTRY_COST, MAX_COST};
 pub use looks::is_whole;
+pub use losses::{Loss, LossFault, LossKind};
 pub use salvaged::{Salvaged, salvage};
+pub use tellings::find_losses;
+pub use walk::loss_law;
+pub use whole_files::whole_file_law;

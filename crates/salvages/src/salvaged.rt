@@ -33,7 +33,7 @@ pub struct Salvaged {
 }
 
 /// The newest record of a flash.
-fn read_newest<F: Flash>(alloc: Global, flash: &mut F) -> Result<Record, Fault>
+pub(crate) fn read_newest<F: Flash>(alloc: Global, flash: &mut F) -> Result<Record, Fault>
     ensures lawful { OnOk result (IsGeometry (F.device flash.old).geometry) }
     ensures holds { IfOk result (λ newest. committed_on (F.device flash.old) ≡ Some (Ok newest)) }
     ensures sizes { IfOk result (λ newest. newest.geometry ≡ (F.device flash.old).geometry) }

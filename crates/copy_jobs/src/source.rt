@@ -1,12 +1,15 @@
 //! What is copied of an image.
 ghost use Rattle.std.specs.Prelude.{◌≡◌, IfOk, IfErr};
+ghost use Rattle.flash_simulation.specs.Simulation.{device_of};
+ghost use Rattle.salvages.specs.Told.{AreLossesOf, UntoldCause};
+ghost use Rattle.salvages.specs.declared.losses.LossFault.{LossFault};
 ghost use Rattle.copy_jobs.specs.Sources as spec;
 ghost use Rattle.copy_jobs.specs.Sources.{IsSourceOf, UnsalvagedCause};
 
 use crate::telling::{tell_lost, tell_unmounted};
 use flash_simulation::SimFlash;
 use image_jobs::Failure;
-use salvages::{Salvaged, salvage};
+use salvages::{Loss, LossFault, Salvaged, find_losses, salvage};
 use std::alloc::Global;
 use std::io::Write;
 
@@ -18,7 +21,7 @@ pub(crate) struct Source {
 }
 
 /// What is copied of a flash: all that is on it, or where that is to be salvaged what is whole. What is lost
-/// is told, and what is refused.
+/// is told, with what of the present version is, and what is refused.
 pub(crate) fn source_of<E: Write>(
     alloc: Global,
     flash: SimFlash,
@@ -35,16 +38,49 @@ pub(crate) fn source_of<E: Write>(
         });
     }
     let mut damaged = flash;
-    match salvage(alloc, &mut damaged) {
-        Ok(found) => {
-            tell_lost(alloc, &found, err);
-            Ok(source_in(found))
-        }
+    let found = match salvage(alloc, &mut damaged) {
+        Ok(found) => found,
         Err(fault) => {
             let failure = Failure::of_system(fault);
             tell_unmounted(failure, err);
+            return Err(failure);
+        }
+    };
+    match losses_of(alloc, &mut damaged, err) {
+        Ok(losses) => {
+            tell_lost(alloc, &found, &losses, err);
+            Ok(source_in(found))
+        }
+        Err(failure) => Err(failure),
+    }
+}
+
+/// What of the present version of a damaged flash is lost. What is refused is told.
+fn losses_of<E: Write>(
+    alloc: Global,
+    damaged: &mut SimFlash,
+    err: &mut E,
+) -> Result<Vec<Loss>, Failure>
+    ensures losses { IfOk result (λ losses. AreLossesOf (device_of damaged.old) losses.items) }
+    ensures err { IfErr result (λ failure. (why : LossFault) × UntoldCause (device_of damaged.old) (device_of damaged.new) why × (failure ≡ spec.of_untold why)) }
+{
+    match find_losses(alloc, damaged) {
+        Ok(losses) => Ok(losses),
+        Err(why) => {
+            let failure = of_untold(why);
+            tell_unmounted(failure, err);
             Err(failure)
         }
+    }
+}
+
+/// By why nothing is told.
+fn of_untold(why: LossFault) -> Failure
+    ensures { result ≡ spec.of_untold why }
+{
+    match why {
+        LossFault::Refused(fault) => Failure::of_system(fault),
+        LossFault::TooManyLines => Failure::TooManyLines,
     }
 }
 

@@ -4,11 +4,11 @@ use flash_model::Geometry;
 use fs_types::{CpName, Fault, Version};
 use image_jobs::Failure;
 use job_messages::{tell_refusal, tell_refused_format};
-use salvages::Salvaged;
+use salvages::{Loss, LossKind, Salvaged};
 use script::print_name;
 use script_runs::Refusal;
 use std::alloc::{AllocError, Global};
-use std::io::Write;
+use std::io::{self, Write};
 
 /// Tells that a mount is refused.
 pub(crate) fn tell_unmounted<E: Write>(failure: Failure, err: &mut E) {
@@ -78,28 +78,50 @@ pub(crate) fn tell_dropped<E: Write>(
     let _ = writeln!(err);
 }
 
-/// Tells which versions and checkpoints are lost, each on a line.
-pub(crate) fn tell_lost<E: Write>(alloc: Global, found: &Salvaged, err: &mut E) {
+/// Tells which versions and checkpoints are lost, and then what of the present version is, each on a line.
+pub(crate) fn tell_lost<E: Write>(alloc: Global, found: &Salvaged, losses: &[Loss], err: &mut E) {
     for serial in &found.lost_versions {
         let _ = writeln!(err, "uffs: lost version {serial}");
     }
     for name in &found.lost_checkpoints {
         tell_lost_checkpoint(alloc, name, err);
     }
+    for loss in losses {
+        tell_loss(alloc, loss, err);
+    }
 }
 
 /// Tells that a checkpoint is lost.
 fn tell_lost_checkpoint<E: Write>(alloc: Global, name: &CpName, err: &mut E) {
-    let _ = match name_text(alloc, name) {
+    let _ = match name_text(alloc, name.as_bytes()) {
         Ok(text) => writeln!(err, "uffs: lost checkpoint {text}"),
         Err(_) => writeln!(err, "uffs: lost checkpoint"),
     };
 }
 
-/// A name, spelled as in a script.
-fn name_text(alloc: Global, name: &CpName) -> Result<String, AllocError> {
+/// Tells what is lost at a path. That of the root is a slash.
+fn tell_loss<E: Write>(alloc: Global, loss: &Loss, err: &mut E) {
+    let path = loss.path.as_slice();
+    let spelled: &[u8] = if path.is_empty() { b"/" } else { path };
+    let _ = match name_text(alloc, spelled) {
+        Ok(text) => tell_loss_at(loss.kind, text.as_str(), err),
+        Err(_) => writeln!(err, "uffs: lost path"),
+    };
+}
+
+/// Tells what is lost at a path that is spelled.
+fn tell_loss_at<E: Write>(kind: LossKind, text: &str, err: &mut E) -> io::Result<()> {
+    match kind {
+        LossKind::File => writeln!(err, "uffs: lost file {text}"),
+        LossKind::Directory => writeln!(err, "uffs: lost directory {text}"),
+        LossKind::Entries => writeln!(err, "uffs: lost entries of {text}"),
+    }
+}
+
+/// A name, or a path with its slashes, spelled as in a script.
+fn name_text(alloc: Global, name: &[u8]) -> Result<String, AllocError> {
     let mut bytes = Vec::new(alloc);
-    print_name(&mut bytes, name.as_bytes())?;
+    print_name(&mut bytes, name)?;
     match String::from_utf8(bytes) {
         Ok(text) => Ok(text),
         Err(_) => Ok(String::new(alloc)),

@@ -14,7 +14,7 @@ use Rattle.working_state.specs.Seen.{machine_on}
 use Rattle.working_state.specs.declared.state.State.{State}
 use Rattle.inquiries.specs.Differences.{difference_lines}
 use Rattle.inquiries.specs.Items.{items_of}
-use Rattle.inquiries.specs.Printed.{tree_lines}
+use Rattle.inquiries.specs.Printed.{list_lines, tree_lines}
 use Rattle.inquiries.specs.Readings.{shown, Fails}
 use Rattle.inquiries.specs.Versions.{AreVersionLines}
 use Rattle.inquiries.specs.declared.inquiry.Inquiry.{Inquiry}
@@ -25,6 +25,7 @@ use Rattle.inquiries.specs.declared.tell_fault.TheConstants.{MAX_LINES}
 abbrev pub inquiry_refusal : Machine → Inquiry → Option Fault
 inquiry_refusal m (Inquiry.File view path) = refusal m (Call.ReadAt view path 0 MAX_FILE_BYTES)
 inquiry_refusal m (Inquiry.Tree view) = view_refusal m.history view
+inquiry_refusal m (Inquiry.List view path) = refusal m (Call.Stat view path)
 inquiry_refusal m (Inquiry.Differences old new) = option_or (view_refusal m.history old) (view_refusal m.history new)
 inquiry_refusal m Inquiry.Versions = None
 
@@ -51,6 +52,7 @@ HasManyLines m inquiry = MAX_LINES < look_count m inquiry
 abbrev pub IsTold : Device → State → Inquiry → List ℕ → Type 0
 IsTold d s (Inquiry.File view path) bytes = bytes ≡ bytes_of_file (view_tree (machine_on d s) view) path
 IsTold d s (Inquiry.Tree view) bytes = bytes ≡ tree_lines (view_tree (machine_on d s) view)
+IsTold d s (Inquiry.List view path) bytes = bytes ≡ list_lines (view_tree (machine_on d s) view) path
 IsTold d s (Inquiry.Differences old new) bytes = bytes ≡ difference_lines (view_tree (machine_on d s) old) (view_tree (machine_on d s) new)
 IsTold d s Inquiry.Versions bytes = AreVersionLines d s bytes
 

@@ -34,6 +34,14 @@ items_below t (suc levels) directory = flat_map (λ entry. item_at t (directory 
 abbrev pub items_of : Tree → List Item
 items_of t = items_below t MAX_NAMES []
 
+-- what is listed at a path by what stands there: the entries of a directory, or the file alone
+abbrev pub items_by : Tree → Path → Stat → List Item
+items_by t path (Stat.Dir count) = items_below t 1 path
+items_by t path (Stat.File size) = item_at t path ∷ []
+
+abbrev pub items_at : Tree → Path → List Item
+items_at t path = items_by t path (stat_of t path (get t path))
+
 -- an item is what stands in a tree
 pub record IsItemOf (t : Tree) (item : Item) : Type 0 where
   pub there : IsSome (get t item.path)

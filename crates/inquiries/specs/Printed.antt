@@ -5,7 +5,7 @@ use Rattle.fs_types.specs.Names.{Name, Path}
 use Rattle.fs_types.specs.declared.call.Stat.{Stat}
 use Rattle.plain_trees.specs.Trees.{Tree}
 use Rattle.script.specs.Replies.{escaped}
-use Rattle.inquiries.specs.Items.{items_of}
+use Rattle.inquiries.specs.Items.{items_at, items_of}
 use Rattle.inquiries.specs.declared.items.Item.{Item}
 
 -- a name with `/` before it, spelled as in a script
@@ -42,3 +42,7 @@ sizes_text items = codes " entries " ++ count_text (length items) ++ codes " byt
 -- a line for each directory and each file
 abbrev pub tree_lines : Tree → List ℕ
 tree_lines t = flat_map item_line (items_of t)
+
+-- a line for each entry of a directory, or for the file that stands there
+abbrev pub list_lines : Tree → Path → List ℕ
+list_lines t path = flat_map item_line (items_at t path)

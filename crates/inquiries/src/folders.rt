@@ -40,7 +40,7 @@ pub fn list_folder<F: Flash>(
     if !is_small(size) {
         return Err(TellFault::TooManyLines);
     }
-    Ok(list_below(alloc, fs, view, directory)?)
+    Ok(list_below(alloc, fs, view, directory, MAX_NAMES)?)
 }
 
 /// Whether a tree is small enough that something is copied out of it.
@@ -53,19 +53,20 @@ pub(crate) fn is_small(size: TreeSize) -> bool
     }
 }
 
-/// All that stands below a directory of a view.
-fn list_below<F: Flash>(
+/// What stands below a directory of a view, in so many levels.
+pub(crate) fn list_below<F: Flash>(
     alloc: Global,
     fs: &mut Fs<'_, F>,
     view: &View,
     directory: &Path,
+    levels: usize,
 ) -> Result<Vec<Item>, Fault>
     requires { IsDirectoryOf (shown fs.old) view.now directory.now }
     ensures same { IsUnchanged fs.old fs.new }
-    ensures ok { IfOk result (λ items. items.items ≡ items_below (view_tree (shown fs.old) view.now) MAX_NAMES directory.now) }
+    ensures ok { IfOk result (λ items. items.items ≡ items_below (view_tree (shown fs.old) view.now) levels directory.now) }
     ensures err { IfErr result (Meets (F.device fs.old.flash.now) (F.device fs.new.flash.now)) }
 {
     let mut items = Vec::new(alloc);
-    add_items(alloc, fs, view, directory, MAX_NAMES, &mut items)?;
+    add_items(alloc, fs, view, directory, levels, &mut items)?;
     Ok(items)
 }

@@ -13,6 +13,7 @@ ghost use Rattle.undofs.specs.Systems.{flash_name};
 
 use crate::differences::tell_differences;
 use crate::items::{Item, items_of};
+use crate::listed::tell_entries;
 use crate::printing::lines_of;
 use crate::reading::{read_file, size_of_tree};
 use crate::tell_fault::{MAX_LINES, TellFault};
@@ -36,6 +37,13 @@ pub enum Inquiry {
     Tree {
         /// The view.
         view: View,
+    },
+    /// A line for each entry of the directory at a path of a view, or for the file there.
+    List {
+        /// The view.
+        view: View,
+        /// The path of the directory or the file.
+        path: Path,
     },
     /// What differs between the trees of two views: what went, what changed and what came.
     Differences {
@@ -73,6 +81,7 @@ pub fn tell<F: Flash>(
     match inquiry {
         Inquiry::File { view, path } => Ok(read_file(alloc, fs, view, path)?),
         Inquiry::Tree { view } => tell_tree(alloc, fs, view),
+        Inquiry::List { view, path } => Ok(tell_entries(alloc, fs, view, path)?),
         Inquiry::Differences { old, new } => tell_differences(alloc, fs, old, new),
         Inquiry::Versions => Ok(tell_versions(alloc, fs)?),
     }

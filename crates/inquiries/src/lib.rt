@@ -8,6 +8,7 @@ mod differences;
 mod folders;
 mod inquiry;
 mod items;
+mod listed;
 mod listing;
 mod printing;
 mod pruned;

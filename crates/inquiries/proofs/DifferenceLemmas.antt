@@ -16,13 +16,12 @@ use Rattle.plain_trees.specs.Contents.{Entry, Contents, under, way_refusal, look
 use Rattle.plain_trees.specs.Trees.{Tree, children}
 use Rattle.plain_trees.proofs.Beneath.{None≢Some, same_Some}
 use Rattle.plain_trees.proofs.Lookups.{some-is}
-use Rattle.fs_types.specs.declared.limits.TheConstants.{MAX_NAMES}
 use Rattle.flash_model.specs.Device.{Device}
 use Rattle.history_machine.specs.History.{view_refusal}
 use Rattle.history_machine.specs.Machine.{Machine, IsMachine, refusal, view_tree, stat_of}
 use Rattle.inquiries.specs.Counterparts.{counterpart_of, is_missing, stat_there}
 use Rattle.inquiries.specs.Differences.{line_beside}
-use Rattle.inquiries.specs.Items.{item_at, items_below, items_of, IsItemOf}
+use Rattle.inquiries.specs.Items.{item_at, items_below, IsItemOf}
 use Rattle.inquiries.specs.Readings.{Meets}
 use Rattle.inquiries.specs.declared.counterpart.Counterpart.{Counterpart}
 use Rattle.inquiries.specs.declared.items.Item.{Item}
@@ -52,11 +51,15 @@ items_there t (suc levels) p =
     All-flat_map (IsItemOf t) (row t levels p) (children t p)
     (All-weaker (Contains (children t p)) (λ e. All (IsItemOf t) (row t levels p e)) (λ e listed. row_there t levels p e (λ q. items_there t levels q) listed) (children t p) (All-contains_itself (children t p)))
 
--- so does each item of the list
-pub item_there : (first second : Machine) (view : View) (items : List Item) (i : ℕ) (item : Item) → second ≡ first → items ≡ items_of (view_tree first view) → i < length items → item ≡ get_or items i item → IsItemOf (view_tree second view) item
+-- so do the items that were listed
+pub all_there : (first second : Machine) (view : View) (levels : ℕ) (p : Path) (items : List Item) → second ≡ first → items ≡ items_below (view_tree first view) levels p → All (IsItemOf (view_tree second view)) items
+all_there first second view levels p items same are =
+    subst (λ (n : Machine). All (IsItemOf (view_tree n view)) items) (sym same) (subst (All (IsItemOf (view_tree first view))) (sym are) (items_there (view_tree first view) levels p))
+
+-- and each item of such a list
+pub item_there : (first second : Machine) (view : View) (items : List Item) (i : ℕ) (item : Item) → second ≡ first → All (IsItemOf (view_tree first view)) items → i < length items → item ≡ get_or items i item → IsItemOf (view_tree second view) item
 item_there first second view items i item same all within at =
-    subst (λ (n : Machine). IsItemOf (view_tree n view) item) (sym same)
-    (subst (IsItemOf (view_tree first view)) (sym at) (subst (All (IsItemOf (view_tree first view))) (sym all) (items_there (view_tree first view) MAX_NAMES []) i item within))
+    subst (λ (n : Machine). IsItemOf (view_tree n view) item) (sym same) (subst (IsItemOf (view_tree first view)) (sym at) (all i item within))
 
 -- ---- what stands at a path
 

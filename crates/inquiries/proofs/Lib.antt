@@ -5,6 +5,7 @@ pub mod FolderLemmas
 pub mod KeptSpace
 pub mod LineLemmas
 pub mod PairLines
+pub mod PathLemmas
 pub mod PrunedLemmas
 pub mod Readings
 pub mod Shared

@@ -21,7 +21,7 @@ line_itself side item (Some Entry.Dir) there = refl
 line_itself Side.Old item (Some (Entry.File bytes)) there = ap (λ (b : Bool). cond b [] (changed_line item.path)) ((bytes_eq-Decides bytes bytes).1 refl)
 line_itself Side.New item (Some (Entry.File bytes)) there = refl
 
-lines_itself : (side : Side) (t : Tree) (items : List Item) → All (IsItemOf t) items → flat_map (item_beside side t t) items ≡ []
+pub lines_itself : (side : Side) (t : Tree) (items : List Item) → All (IsItemOf t) items → flat_map (item_beside side t t) items ≡ []
 lines_itself side t [] all = refl
 lines_itself side t (item ∷ items) all =
     ap₂ (λ (x y : List ℕ). x ++ y) (line_itself side item (get t item.path) (All-head (IsItemOf t) item items all).there) (lines_itself side t items (All-tail (IsItemOf t) item items all))

@@ -6,7 +6,8 @@ use Rattle.std.specs.Str.{bytes_eq}
 use Rattle.fs_types.specs.Names.{Path}
 use Rattle.plain_trees.specs.Contents.{Entry}
 use Rattle.plain_trees.specs.Trees.{Tree}
-use Rattle.inquiries.specs.Items.{items_of}
+use Rattle.fs_types.specs.declared.limits.TheConstants.{MAX_NAMES}
+use Rattle.inquiries.specs.Items.{items_below, items_of}
 use Rattle.inquiries.specs.Printed.{path_text, item_line}
 use Rattle.inquiries.specs.declared.items.Item.{Item}
 use Rattle.inquiries.specs.declared.printing.Side.{Side}
@@ -41,3 +42,10 @@ lines_beside side t other = flat_map (item_beside side t other) (items_of t)
 -- what differs between two trees: first what went and what changed, then what came
 abbrev pub difference_lines : Tree → Tree → List ℕ
 difference_lines old new = lines_beside Side.Old old new ++ lines_beside Side.New new old
+
+-- what differs below a directory of both
+abbrev pub lines_below : Side → Tree → Tree → Path → List ℕ
+lines_below side t other directory = flat_map (item_beside side t other) (items_below t MAX_NAMES directory)
+
+abbrev pub difference_below : Tree → Tree → Path → List ℕ
+difference_below old new directory = lines_below Side.Old old new directory ++ lines_below Side.New new old directory

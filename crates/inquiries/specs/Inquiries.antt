@@ -1,5 +1,5 @@
 -- What is told of a file system to who asks: over the trees of its machine, and of what they keep of the flash.
-use Rattle.std.specs.Prelude.{◌≡◌, ◌⊎◌, ◌≤◌, ◌<◌, ◌+◌, ℕ, Option, None, List, length}
+use Rattle.std.specs.Prelude.{◌≡◌, ◌⊎◌, ◌≤◌, ◌<◌, ◌+◌, ℕ, Option, None, List, length, sum_by}
 use Rattle.std.specs.Option.{option_or}
 use Rattle.fs_types.specs.declared.call.Call.{Call}
 use Rattle.fs_types.specs.declared.fault.Fault.{Fault}
@@ -14,6 +14,7 @@ use Rattle.working_state.specs.Seen.{machine_on}
 use Rattle.working_state.specs.declared.state.State.{State}
 use Rattle.inquiries.specs.Differences.{difference_lines}
 use Rattle.inquiries.specs.Items.{items_of}
+use Rattle.inquiries.specs.PathHistories.{history_lines, kept_views, looked_at, nowhere_in}
 use Rattle.inquiries.specs.Printed.{list_lines, tree_lines}
 use Rattle.inquiries.specs.Readings.{shown, Fails}
 use Rattle.inquiries.specs.Versions.{AreVersionLines}
@@ -26,13 +27,16 @@ abbrev pub inquiry_refusal : Machine → Inquiry → Option Fault
 inquiry_refusal m (Inquiry.File view path) = refusal m (Call.ReadAt view path 0 MAX_FILE_BYTES)
 inquiry_refusal m (Inquiry.Tree view) = view_refusal m.history view
 inquiry_refusal m (Inquiry.List view path) = refusal m (Call.Stat view path)
+inquiry_refusal m (Inquiry.History path) = nowhere_in m path (kept_views m)
 inquiry_refusal m (Inquiry.Differences old new) = option_or (view_refusal m.history old) (view_refusal m.history new)
 inquiry_refusal m Inquiry.Versions = None
 
--- how many entries have to be looked at: those of one tree, each of which has a line, or of two, each of which has a line at most
+-- how many entries have to be looked at: those of one tree, each of which has a line, or of two, each of which has a line at most,
+-- or those of each tree that is kept, where a directory stands at the path
 abbrev pub look_count : Machine → Inquiry → ℕ
 look_count m (Inquiry.Tree view) = length (items_of (view_tree m view))
 look_count m (Inquiry.Differences old new) = length (items_of (view_tree m old)) + length (items_of (view_tree m new))
+look_count m (Inquiry.History path) = sum_by (looked_at m path) (kept_views m)
 look_count m _ = 0
 
 -- of two views of the same tree nothing differs, whatever stands in it
@@ -53,6 +57,7 @@ abbrev pub IsTold : Device → State → Inquiry → List ℕ → Type 0
 IsTold d s (Inquiry.File view path) bytes = bytes ≡ bytes_of_file (view_tree (machine_on d s) view) path
 IsTold d s (Inquiry.Tree view) bytes = bytes ≡ tree_lines (view_tree (machine_on d s) view)
 IsTold d s (Inquiry.List view path) bytes = bytes ≡ list_lines (view_tree (machine_on d s) view) path
+IsTold d s (Inquiry.History path) bytes = bytes ≡ history_lines (machine_on d s) path
 IsTold d s (Inquiry.Differences old new) bytes = bytes ≡ difference_lines (view_tree (machine_on d s) old) (view_tree (machine_on d s) new)
 IsTold d s Inquiry.Versions bytes = AreVersionLines d s bytes
 

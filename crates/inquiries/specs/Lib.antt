@@ -4,6 +4,7 @@ pub mod Differences
 pub mod Folders
 pub mod Inquiries
 pub mod Items
+pub mod PathHistories
 pub mod Printed
 pub mod Pruned
 pub mod Readings

@@ -39,7 +39,7 @@ pub fn find_counterpart<F: Flash>(
 }
 
 /// By what stands at the path of an item.
-fn counterpart_of(stat: Stat, there: Option<Stat>) -> Counterpart
+pub(crate) fn counterpart_of(stat: Stat, there: Option<Stat>) -> Counterpart
     ensures { result ≡ counterpart_of stat there }
 {
     match (stat, there) {
@@ -50,7 +50,7 @@ fn counterpart_of(stat: Stat, there: Option<Stat>) -> Counterpart
 }
 
 /// What stands at a path of a view, if anything does.
-fn stat_if_there<F: Flash>(
+pub(crate) fn stat_if_there<F: Flash>(
     fs: &mut Fs<'_, F>,
     view: &View,
     path: &Path,

@@ -1,26 +1,30 @@
 //! What differs between two trees.
-ghost use Rattle.std.specs.Prelude.{◌≡◌, ◌++◌, ◌+◌, ◌≤◌, ◌↔◌, None, length, IsTrue, IfOk, OnOk, IfErr};
+ghost use Rattle.std.specs.Prelude.{◌≡◌, ◌++◌, ◌+◌, ◌≤◌, ◌↔◌, not, None, length, All, IsTrue, IfOk, OnOk, IfErr};
 ghost use Rattle.std.specs.FinMap.{get};
+ghost use Rattle.std.specs.List.{flat_map};
 ghost use Rattle.std.specs.Option.{option_or};
+ghost use Rattle.std.specs.Str.{bytes_eq};
 ghost use Rattle.plain_trees.specs.Trees.{Tree, bytes_of_file};
 ghost use Rattle.tree_counts.specs.Sizes.{size_of};
 ghost use Rattle.history_machine.specs.History.{view_refusal};
 ghost use Rattle.history_machine.specs.Machine.{view_tree};
-ghost use Rattle.inquiries.specs.Differences.{line_beside, file_beside, lines_beside, difference_lines};
+ghost use Rattle.inquiries.specs.Differences.{line_beside, file_beside, item_beside, lines_beside, lines_below, difference_below, difference_lines};
 ghost use Rattle.inquiries.specs.Inquiries.{inquiry_refusal, HasFewLines, Untold};
-ghost use Rattle.inquiries.specs.Items.{items_of, IsItemOf, IsFileOf};
+ghost use Rattle.inquiries.specs.Items.{items_of, IsItemOf, IsDirectoryOf, IsFileOf};
+ghost use Rattle.inquiries.specs.PathHistories.{is_filled};
 ghost use Rattle.inquiries.specs.Readings.{shown, IsUnchanged, Fails, Meets};
 ghost use Rattle.inquiries.specs.declared.inquiry.Inquiry.{Inquiry};
 ghost use Rattle.inquiries.specs.declared.tell_fault.TheConstants.{MAX_LINES};
 
 use crate::counterpart::{Counterpart, find_counterpart};
+use crate::folders::list_below;
 use crate::items::Item;
 use crate::printing::{Side, print_change, print_marked};
 use crate::pruned::differing_items;
 use crate::reading::{check_view, read_file, show_same, size_of_tree};
 use crate::tell_fault::{MAX_LINES, TellFault};
 use flash_model::Flash;
-use fs_types::{Bytes, Fault, Path, View};
+use fs_types::{Bytes, Fault, MAX_NAMES, Path, View};
 use std::alloc::Global;
 use undofs::{Fs, TreeSize};
 
@@ -102,6 +106,69 @@ fn add_lines<F: Flash>(
     Ok(())
 }
 
+/// Adds the lines of what stands in one of two trees, by what stands in the other.
+fn add_item_lines<F: Flash>(
+    alloc: Global,
+    fs: &mut Fs<'_, F>,
+    side: Side,
+    view: &View,
+    other: &View,
+    items: &[Item],
+    out: &mut Vec<u8>,
+) -> Result<(), Fault>
+    requires view { view_refusal (shown fs.old).history view.now ≡ None }
+    requires other { view_refusal (shown fs.old).history other.now ≡ None }
+    requires there { All (IsItemOf (view_tree (shown fs.old) view.now)) items.now }
+    ensures same { IsUnchanged fs.old fs.new }
+    ensures ok { OnOk result (out.new.items ≡ out.old.items ++ flat_map (item_beside side (view_tree (shown fs.old) view.now) (view_tree (shown fs.old) other.now)) items.now) }
+    ensures err { IfErr result (Meets (F.device fs.old.flash.now) (F.device fs.new.flash.now)) }
+{
+    for item in items {
+        add_line(alloc, fs, side, view, other, item, out)?;
+    }
+    Ok(())
+}
+
+/// Whether something differs below a directory that stands in the trees of two views.
+pub(crate) fn differ_below<F: Flash>(
+    alloc: Global,
+    fs: &mut Fs<'_, F>,
+    old: &View,
+    new: &View,
+    directory: &Path,
+) -> Result<bool, Fault>
+    requires old { IsDirectoryOf (shown fs.old) old.now directory.now }
+    requires new { IsDirectoryOf (shown fs.old) new.now directory.now }
+    ensures same { IsUnchanged fs.old fs.new }
+    ensures ok { IfOk result (λ differ. differ ≡ is_filled (difference_below (view_tree (shown fs.old) old.now) (view_tree (shown fs.old) new.now) directory.now)) }
+    ensures err { IfErr result (Meets (F.device fs.old.flash.now) (F.device fs.new.flash.now)) }
+{
+    let mut lines = Vec::new(alloc);
+    add_lines_below(alloc, fs, Side::Old, old, new, directory, &mut lines)?;
+    add_lines_below(alloc, fs, Side::New, new, old, directory, &mut lines)?;
+    Ok(!lines.is_empty())
+}
+
+/// Adds the lines of what stands below a directory of one of two trees, by what stands in the other.
+fn add_lines_below<F: Flash>(
+    alloc: Global,
+    fs: &mut Fs<'_, F>,
+    side: Side,
+    view: &View,
+    other: &View,
+    directory: &Path,
+    out: &mut Vec<u8>,
+) -> Result<(), Fault>
+    requires view { IsDirectoryOf (shown fs.old) view.now directory.now }
+    requires other { view_refusal (shown fs.old).history other.now ≡ None }
+    ensures same { IsUnchanged fs.old fs.new }
+    ensures ok { OnOk result (out.new.items ≡ out.old.items ++ lines_below side (view_tree (shown fs.old) view.now) (view_tree (shown fs.old) other.now) directory.now) }
+    ensures err { IfErr result (Meets (F.device fs.old.flash.now) (F.device fs.new.flash.now)) }
+{
+    let items = list_below(alloc, fs, view, directory, MAX_NAMES)?;
+    add_item_lines(alloc, fs, side, view, other, &items, out)
+}
+
 /// Adds the line of what stands in one of two trees, if it has one.
 fn add_line<F: Flash>(
     alloc: Global,
@@ -144,10 +211,27 @@ fn add_change<F: Flash>(
     ensures ok { OnOk result (out.new.items ≡ out.old.items ++ file_beside path.now (bytes_of_file (view_tree (shown fs.old) view.now) path.now) (bytes_of_file (view_tree (shown fs.old) other.now) path.now)) }
     ensures err { IfErr result (Meets (F.device fs.old.flash.now) (F.device fs.new.flash.now)) }
 {
-    let bytes = read_file(alloc, fs, view, path)?;
-    let others = read_file(alloc, fs, other, path)?;
-    if bytes.as_slice() != others.as_slice() {
+    if has_other_bytes(alloc, fs, view, other, path)? {
         print_change(out, path)?;
     }
     Ok(())
+}
+
+/// Whether a file of two trees has other bytes in the second.
+pub(crate) fn has_other_bytes<F: Flash>(
+    alloc: Global,
+    fs: &mut Fs<'_, F>,
+    view: &View,
+    other: &View,
+    path: &Path,
+) -> Result<bool, Fault>
+    requires view { IsFileOf (shown fs.old) view.now path.now }
+    requires other { IsFileOf (shown fs.old) other.now path.now }
+    ensures same { IsUnchanged fs.old fs.new }
+    ensures ok { IfOk result (λ has. has ≡ not (bytes_eq (bytes_of_file (view_tree (shown fs.old) view.now) path.now) (bytes_of_file (view_tree (shown fs.old) other.now) path.now))) }
+    ensures err { IfErr result (Meets (F.device fs.old.flash.now) (F.device fs.new.flash.now)) }
+{
+    let bytes = read_file(alloc, fs, view, path)?;
+    let others = read_file(alloc, fs, other, path)?;
+    Ok(bytes.as_slice() != others.as_slice())
 }

@@ -14,6 +14,7 @@ ghost use Rattle.undofs.specs.Systems.{flash_name};
 use crate::differences::tell_differences;
 use crate::items::{Item, items_of};
 use crate::listed::tell_entries;
+use crate::path_history::tell_path_history;
 use crate::printing::lines_of;
 use crate::reading::{read_file, size_of_tree};
 use crate::tell_fault::{MAX_LINES, TellFault};
@@ -45,6 +46,12 @@ pub enum Inquiry {
         /// The path of the directory or the file.
         path: Path,
     },
+    /// What stands at a path in the first kept version, in each in which that is other than in the version
+    /// before, and in each checkpoint.
+    History {
+        /// The path.
+        path: Path,
+    },
     /// What differs between the trees of two views: what went, what changed and what came.
     Differences {
         /// The view of what was.
@@ -60,11 +67,13 @@ pub enum Inquiry {
 /// Tells what is asked of a file system, which is only read.
 ///
 /// Refused as the calls are that it takes: for a view, of two the first one before the other, for a path
-/// that is looked up, and for a directory in place of a file; [`Inquiry::Versions`] as [`Fs::df`]. Else
+/// that is looked up, and for a directory in place of a file; [`Inquiry::History`] with [`Fault::NoEntry`] where
+/// nothing stands at the path in any version or checkpoint; [`Inquiry::Versions`] as [`Fs::df`]. Else
 /// [`Fault::ReadFailed`], [`Fault::PowerCut`] and [`Fault::NoMemory`] may come.
 ///
 /// [`TellFault::TooManyLines`] for [`Inquiry::Tree`] where its answer would have over [`MAX_LINES`] lines;
-/// for [`Inquiry::Differences`] where two trees of different roots have more entries together. That is
+/// for [`Inquiry::Differences`] where two trees of different roots have more entries together; for
+/// [`Inquiry::History`] where the trees have in which a directory stands at the path. That is
 /// counted by node before a tree is walked, so the work is bounded whatever the flash holds.
 pub fn tell<F: Flash>(
     alloc: Global,
@@ -82,6 +91,7 @@ pub fn tell<F: Flash>(
         Inquiry::File { view, path } => Ok(read_file(alloc, fs, view, path)?),
         Inquiry::Tree { view } => tell_tree(alloc, fs, view),
         Inquiry::List { view, path } => Ok(tell_entries(alloc, fs, view, path)?),
+        Inquiry::History { path } => tell_path_history(alloc, fs, path),
         Inquiry::Differences { old, new } => tell_differences(alloc, fs, old, new),
         Inquiry::Versions => Ok(tell_versions(alloc, fs)?),
     }

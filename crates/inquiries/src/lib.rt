@@ -10,6 +10,7 @@ mod inquiry;
 mod items;
 mod listed;
 mod listing;
+mod path_history;
 mod printing;
 mod pruned;
 mod reading;

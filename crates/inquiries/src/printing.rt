@@ -1,15 +1,16 @@
 //! What is printed of trees.
-ghost use Rattle.std.specs.Prelude.{◌≡◌, ◌++◌, ℕ, OnOk, IfOk};
+ghost use Rattle.std.specs.Prelude.{◌≡◌, ◌++◌, ℕ, codes, decimal, OnOk, IfOk};
 ghost use Rattle.std.specs.List.{flat_map};
 ghost use Rattle.plain_trees.specs.Trees.{Tree};
 ghost use Rattle.tree_counts.specs.Sizes.{in_word, size_of};
 ghost use Rattle.inquiries.specs.Items.{items_of};
 ghost use Rattle.inquiries.specs.Printed.{path_text, stat_mark, item_line, sizes_text, count_text};
 ghost use Rattle.inquiries.specs.Differences.{side_mark, changed_line};
+ghost use Rattle.inquiries.specs.PathHistories.{state_text, view_text};
 ghost use Rattle.inquiries.specs.Versions.{alone_text, kept_text};
 
 use crate::items::Item;
-use fs_types::{Name, Path, Stat};
+use fs_types::{Name, Path, Stat, View};
 use script::{print_name, print_number};
 use std::alloc::{AllocError, Global};
 use undofs::{TreeSize, VersionSpace};
@@ -82,6 +83,46 @@ pub(crate) fn print_alone(out: &mut Vec<u8>, alone: u64) -> Result<(), AllocErro
 {
     out.extend_from_slice(b" alone ")?;
     print_number(out, alone)
+}
+
+/// Appends a version by its serial, with `*` before the present one, or a checkpoint by its name.
+pub(crate) fn print_view(out: &mut Vec<u8>, view: &View, is_present: bool) -> Result<(), AllocError>
+    ensures { OnOk result (out.new.items ≡ out.old.items ++ view_text is_present view.now) }
+{
+    match view {
+        View::Present => Ok(()),
+        View::Serial(serial) => {
+            if is_present {
+                out.push(b'*')?;
+            }
+            print_number(out, *serial)
+        }
+        View::Checkpoint(name) => {
+            out.push(b'=')?;
+            print_name(out, name.as_bytes())
+        }
+    }
+}
+
+/// Appends what stands somewhere, and ends the line.
+pub(crate) fn print_state(out: &mut Vec<u8>, there: Option<Stat>) -> Result<(), AllocError>
+    ensures { OnOk result (out.new.items ≡ out.old.items ++ state_text there) }
+{
+    match there {
+        None => out.extend_from_slice(b" none\n"),
+        Some(Stat::Dir(entries)) => print_counted(out, b" dir ", entries),
+        Some(Stat::File(bytes)) => print_counted(out, b" file ", bytes),
+    }
+}
+
+/// Appends a text, a number and the end of the line.
+fn print_counted(out: &mut Vec<u8>, text: &[u8], number: u64) -> Result<(), AllocError>
+    ensures { OnOk result (out.new.items ≡ out.old.items ++ (text.now ++ decimal number ++ codes "\n")) }
+{
+    out.extend_from_slice(text)?;
+    print_number(out, number)?;
+    out.push(b'\n')?;
+    Ok(())
 }
 
 /// Appends a number, or that it is past the greatest one.

@@ -5,7 +5,7 @@ use Rattle.history_machine.specs.Machine.{view_tree}
 use Rattle.inquiries.specs.Readings.{shown}
 use Rattle.inquiries.proofs.Entries.{file_accepted}
 use Rattle.inquiries.proofs.Readings.{unchanged-refl, met_only}
-use Rattle.inquiries.proofs.differences.add_change.Goals as goal
+use Rattle.inquiries.proofs.differences.has_other_bytes.Goals as goal
 
 pub returns-in_err-bytes-clause-err : goal.returns-in_err-bytes-clause-err
 returns-in_err-bytes-clause-err g c =

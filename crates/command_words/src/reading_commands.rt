@@ -78,6 +78,31 @@ pub(crate) const TREE_COMMAND: Subcommand = Subcommand {
     arguments: &[IMAGE_WORD, VIEW_WORD],
 };
 
+const LS_HELP: &str =
+    "Prints a line for each entry of the directory at PATH, as `tree` prints it, in byte order of the names;
+of a file its own line. Without PATH it is the root. PATH begins with a slash, and VIEW with @ or =, so
+either may stand alone; they are as of get. Nothing is written to IMAGE.
+
+Status: 0 it is printed; 1 IMAGE cannot be read, the output failed, or memory; 2 the words; 3 IMAGE
+holds no image, or its mount was refused; 4 it was refused, told as uffs: ENOENT 1.
+
+Example: uffs ls disk.image /site @5
+         uffs ls disk.image =before";
+
+pub(crate) const LS_COMMAND: Subcommand = Subcommand {
+    name: "ls",
+    about: "Prints what stands in a directory of an image",
+    help: LS_HELP,
+    arguments: &[
+        IMAGE_WORD,
+        Argument::OptionalWord {
+            name: PATH,
+            help: "The path of the directory or the file in the image",
+        },
+        VIEW_WORD,
+    ],
+};
+
 const DIFF_HELP: &str =
     "Prints a line for each path at which the tree of VIEW and that of OTHER differ: - before what went,
 ~ before a file with other bytes, and then + before what came. What went and what came are told as

@@ -1,5 +1,5 @@
 -- What words ask of an image, and what is told of it.
-use Rattle.std.specs.Prelude.{◌≡◌, ◌⊎◌, ℕ, Option, Some, None, Result, Ok, Err, List, ◌++◌, codes}
+use Rattle.std.specs.Prelude.{◌≡◌, ◌⊎◌, ◌||◌, ℕ, nat_eq, Bool, false, if◌then◌else◌, Option, Some, None, Result, Ok, Err, List, [], ◌∷◌, ◌++◌, codes}
 use Rattle.std.specs.Borrow.{Bor}
 use Rattle.fs_types.specs.Names.{Path}
 use Rattle.fs_types.specs.declared.call.Call.{Call}
@@ -54,6 +54,32 @@ tree_in (Err failure) = Err failure
 
 abbrev pub tree_spelled : Option (Bor (List ℕ)) → Result Inquiry Failure
 tree_spelled view = tree_in (view_spelled view)
+
+-- a word that spells a view and no path: it begins with `@` (64) or `=` (61)
+abbrev pub is_view_word : List ℕ → Bool
+is_view_word [] = false
+is_view_word (byte ∷ rest) = nat_eq byte 64 || nat_eq byte 61
+
+-- the words of a path and of a view, each of which may be left out: without a path it is the root, and a view may stand alone
+abbrev pub place_words : Option (Bor (List ℕ)) → Option (Bor (List ℕ)) → List ℕ × Option (Bor (List ℕ))
+place_words None view = (codes "/", view)
+place_words (Some word) (Some view) = (word.now, Some view)
+place_words (Some word) None = if is_view_word word.now then (codes "/", Some word) else (word.now, None)
+
+-- for a list the path is read first
+abbrev pub list_in : Path → Result View Failure → Result Inquiry Failure
+list_in path (Ok view) = Ok (Inquiry.List view path)
+list_in path (Err failure) = Err failure
+
+abbrev pub list_at : Result Path Failure → Result View Failure → Result Inquiry Failure
+list_at (Ok path) view = list_in path view
+list_at (Err failure) view = Err failure
+
+abbrev pub list_of_words : List ℕ × Option (Bor (List ℕ)) → Result Inquiry Failure
+list_of_words words = list_at (path_spelled words.0) (view_spelled words.1)
+
+abbrev pub list_spelled : Option (Bor (List ℕ)) → Option (Bor (List ℕ)) → Result Inquiry Failure
+list_spelled path view = list_of_words (place_words path view)
 
 -- for the difference of two trees the first view is read first
 abbrev pub differences_from : View → Result View Failure → Result Inquiry Failure

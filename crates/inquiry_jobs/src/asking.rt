@@ -1,9 +1,10 @@
 //! What is asked of an image.
 ghost use Rattle.std.specs.Prelude.{◌≡◌, Ok, IfOk, IfErr};
-ghost use Rattle.inquiry_jobs.specs.Asking.{file_spelled, tree_spelled, differences_spelled, of_ask, IsMisspelled};
+ghost use Rattle.inquiry_jobs.specs.Asking.{file_spelled, tree_spelled, list_spelled, differences_spelled, of_ask, IsMisspelled};
 ghost use Rattle.inquiry_jobs.specs.Tellings.{DiffEnds, status_of_told, IsTold, UntoldCause, TellEnds};
 
 use crate::path_word::path_of_word;
+use crate::place_words::list_inquiry;
 use crate::planned::ask_as_planned;
 use crate::view_word::view_of_word;
 use fs_types::Bytes;
@@ -43,6 +44,24 @@ pub fn tell_tree<F: ImageFiles, W: Write>(
     ensures { TellEnds (tree_spelled view.entry) (F.held files.now name.now) result (W.contents out.old) (W.contents out.new) }
 {
     match tree_inquiry(alloc, view) {
+        Ok(inquiry) => tell_image(files, alloc, name, &inquiry, out),
+        Err(failure) => Err(failure),
+    }
+}
+
+/// Writes a line for each entry of a directory of an image, or for a file. Without a path it is the root; a
+/// word alone that begins with `@` or `=` is the view.
+pub fn tell_list<F: ImageFiles, W: Write>(
+    files: &F,
+    alloc: Global,
+    name: &str,
+    path: Option<&str>,
+    view: Option<&str>,
+    out: &mut W,
+) -> Result<(), Failure>
+    ensures { TellEnds (list_spelled path.entry view.entry) (F.held files.now name.now) result (W.contents out.old) (W.contents out.new) }
+{
+    match list_inquiry(alloc, path, view) {
         Ok(inquiry) => tell_image(files, alloc, name, &inquiry, out),
         Err(failure) => Err(failure),
     }

@@ -1,5 +1,6 @@
 pub mod Differing
 pub mod Lines
+pub mod Lists
 pub mod Pairs
 pub mod Rows
 pub mod Trees

@@ -114,7 +114,7 @@ module _ (t : Tree) (lawful : IsFileTree t) where
   entry_listed : (p : Path) (n : Name) (x : Entry) → get t (p ++ n ∷ []) ≡ Some x → Contains (children t p) (n, is_dir x)
   entry_listed p n x there = (listing_law.exact t p n (is_dir x)).1 (ap (option_map is_dir) there)
 
-  told_below : (levels : ℕ) (p : Path) (n : Name) (rest : Path) (x : Entry) → length (n ∷ rest) ≤ levels → get t (p ++ n ∷ rest) ≡ Some x → Contains (items_below t levels p) (item_at t (p ++ n ∷ rest))
+  pub told_below : (levels : ℕ) (p : Path) (n : Name) (rest : Path) (x : Entry) → length (n ∷ rest) ≤ levels → get t (p ++ n ∷ rest) ≡ Some x → Contains (items_below t levels p) (item_at t (p ++ n ∷ rest))
   unfolding items_below
   told_below zero p n rest x short there = absurd (omega arith)
   told_below (suc levels) p n [] x short there =

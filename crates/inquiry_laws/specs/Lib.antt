@@ -1,4 +1,5 @@
 pub mod DifferenceLaw
 pub mod LineLaw
+pub mod ListLaw
 pub mod TreeLaw
 pub mod VersionsLaw

@@ -2,6 +2,7 @@
 ghost use Rattle.inquiry_laws.specs.TreeLaw.{TreeLaw, PathOrderLaw, ViewTreeLaw};
 ghost use Rattle.inquiry_laws.specs.DifferenceLaw.{DifferenceLaw, NoDifferenceLaw};
 ghost use Rattle.inquiry_laws.specs.LineLaw.{LineLaw};
+ghost use Rattle.inquiry_laws.specs.ListLaw.{ListLaw};
 ghost use Rattle.inquiry_laws.specs.VersionsLaw.{VersionsLaw, KeptTreesLaw};
 
 /// What is told of a tree: all that stands in it, each once, in the order of the paths, and nothing
@@ -10,6 +11,11 @@ pub fn tree_laws()
     ensures tree { TreeLaw }
     ensures order { PathOrderLaw }
     ensures views { ViewTreeLaw }
+{}
+
+/// What is told of a directory itself: each of its entries, once, and nothing else; of a file that file.
+pub fn list_laws()
+    ensures lists { ListLaw }
 {}
 
 /// What is told of two trees: a line for each path at which they differ, and no other.

@@ -40,6 +40,8 @@ pub enum Task {
     Cat,
     /// All that stands in an image is told.
     Tree,
+    /// The entries of a directory of an image are told, or a file.
+    List,
     /// What differs between two trees of an image is told.
     Diff,
     /// What differs between the present version of an image and the one before it is told.

@@ -266,6 +266,7 @@ fn reading_task_named(name: &str) -> Option<Task>
     match name {
         "cat" => Some(Task::Cat),
         "tree" => Some(Task::Tree),
+        "ls" => Some(Task::List),
         "diff" => Some(Task::Diff),
         "versions" => Some(Task::Versions),
         "check" => Some(Task::Check),

@@ -103,6 +103,32 @@ pub(crate) const LS_COMMAND: Subcommand = Subcommand {
     ],
 };
 
+const HISTORY_HELP: &str =
+    "Prints what stands at PATH in the first kept version, in each in which something else stands there than
+in the version before, and in each checkpoint: the serial, with * before the present version, or = and the
+name, and then file and its length in bytes, dir and how many entries it has, or none. A file with other
+bytes is something else, and so is a directory below which something differs. PATH is as of get. Nothing
+is written to IMAGE.
+
+Status: 0 it is printed; 1 IMAGE cannot be read, the output failed, or memory; 2 the words; 3 IMAGE
+holds no image, or its mount was refused; 4 it was refused, told as uffs: ENOENT 1 where nothing stands
+at PATH in any of them.
+
+Example: uffs history disk.image /site/index.html";
+
+pub(crate) const HISTORY_COMMAND: Subcommand = Subcommand {
+    name: "history",
+    about: "Prints what stood at a path, by the versions that changed it",
+    help: HISTORY_HELP,
+    arguments: &[
+        IMAGE_WORD,
+        Argument::Word {
+            name: PATH,
+            help: "The path in the image",
+        },
+    ],
+};
+
 const DIFF_HELP: &str =
     "Prints a line for each path at which the tree of VIEW and that of OTHER differ: - before what went,
 ~ before a file with other bytes, and then + before what came. What went and what came are told as

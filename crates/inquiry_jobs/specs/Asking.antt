@@ -81,6 +81,14 @@ list_of_words words = list_at (path_spelled words.0) (view_spelled words.1)
 abbrev pub list_spelled : Option (Bor (List ℕ)) → Option (Bor (List ℕ)) → Result Inquiry Failure
 list_spelled path view = list_of_words (place_words path view)
 
+-- the history of a path
+abbrev pub path_history_of : Result Path Failure → Result Inquiry Failure
+path_history_of (Ok path) = Ok (Inquiry.History path)
+path_history_of (Err failure) = Err failure
+
+abbrev pub path_history_spelled : List ℕ → Result Inquiry Failure
+path_history_spelled path = path_history_of (path_spelled path)
+
 -- for the difference of two trees the first view is read first
 abbrev pub differences_from : View → Result View Failure → Result Inquiry Failure
 differences_from old (Ok new) = Ok (Inquiry.Differences old new)

@@ -1,10 +1,10 @@
 //! What is asked of an image.
 ghost use Rattle.std.specs.Prelude.{◌≡◌, Ok, IfOk, IfErr};
-ghost use Rattle.inquiry_jobs.specs.Asking.{file_spelled, tree_spelled, list_spelled, differences_spelled, of_ask, IsMisspelled};
+ghost use Rattle.inquiry_jobs.specs.Asking.{file_spelled, tree_spelled, list_spelled, path_history_spelled, differences_spelled, of_ask, IsMisspelled};
 ghost use Rattle.inquiry_jobs.specs.Tellings.{DiffEnds, status_of_told, IsTold, UntoldCause, TellEnds};
 
 use crate::path_word::path_of_word;
-use crate::place_words::list_inquiry;
+use crate::place_words::{history_inquiry, list_inquiry};
 use crate::planned::ask_as_planned;
 use crate::view_word::view_of_word;
 use fs_types::Bytes;
@@ -62,6 +62,23 @@ pub fn tell_list<F: ImageFiles, W: Write>(
     ensures { TellEnds (list_spelled path.entry view.entry) (F.held files.now name.now) result (W.contents out.old) (W.contents out.new) }
 {
     match list_inquiry(alloc, path, view) {
+        Ok(inquiry) => tell_image(files, alloc, name, &inquiry, out),
+        Err(failure) => Err(failure),
+    }
+}
+
+/// Writes what stands at a path of an image in its first kept version, in each in which that is other than in
+/// the version before, and in each checkpoint.
+pub fn tell_path_history<F: ImageFiles, W: Write>(
+    files: &F,
+    alloc: Global,
+    name: &str,
+    path: &str,
+    out: &mut W,
+) -> Result<(), Failure>
+    ensures { TellEnds (path_history_spelled path.now) (F.held files.now name.now) result (W.contents out.old) (W.contents out.new) }
+{
+    match history_inquiry(alloc, path) {
         Ok(inquiry) => tell_image(files, alloc, name, &inquiry, out),
         Err(failure) => Err(failure),
     }

@@ -1,4 +1,4 @@
-//! What is told of an image: one of its files, a directory, its tree, what differs between two of its trees, and what
+//! What is told of an image: one of its files, a directory, what stood at a path, its tree, what differs between two of its trees, and what
 //! its versions hold.
 #![tactic(auto)]
 
@@ -9,7 +9,9 @@ mod place_words;
 mod planned;
 mod view_word;
 
-pub use asking::{of_ask, tell_differences, tell_file, tell_list, tell_tree, tell_versions};
+pub use asking::{
+    of_ask, tell_differences, tell_file, tell_list, tell_path_history, tell_tree, tell_versions,
+};
 pub use last_change::tell_last_change;
 pub use path_word::path_of_word;
 pub use planned::list_as_planned;

@@ -1,6 +1,6 @@
-//! What words ask of a directory or a file, where the path may be left out.
+//! What words ask of what stands at a path, which may be left out for a list.
 ghost use Rattle.std.specs.Prelude.{◌≡◌, Ok, IfOk, IfErr};
-ghost use Rattle.inquiry_jobs.specs.Asking.{is_view_word, list_of_words, list_spelled, place_words, IsMisspelled};
+ghost use Rattle.inquiry_jobs.specs.Asking.{path_history_spelled, is_view_word, list_of_words, list_spelled, IsMisspelled};
 
 use crate::path_word::path_of_word;
 use crate::view_word::view_of_word;
@@ -22,6 +22,17 @@ pub(crate) fn list_inquiry(
         (Some(word), None) if is_view_word(word) => list_of_words(alloc, "/", Some(word)),
         (Some(word), None) => list_of_words(alloc, word, None),
         (None, view) => list_of_words(alloc, "/", view),
+    }
+}
+
+/// The inquiry for the history of a path.
+pub(crate) fn history_inquiry(alloc: Global, path: &str) -> Result<Inquiry, Failure>
+    ensures ok { IfOk result (λ inquiry. path_history_spelled path.now ≡ Ok inquiry) }
+    ensures err { IfErr result (IsMisspelled (path_history_spelled path.now)) }
+{
+    match path_of_word(alloc, path) {
+        Ok(path) => Ok(Inquiry::History { path }),
+        Err(failure) => Err(failure),
     }
 }
 

@@ -15,6 +15,8 @@ use Rattle.script.specs.Streams.{IsWithoutLf}
 use Rattle.script.specs.Words.{is_plain}
 use Rattle.system.specs.declared.version_space.VersionSpace.{VersionSpace}
 use Rattle.inquiries.specs.Items.{item_at, items_of}
+use Rattle.inquiries.specs.Counterparts.{stat_there}
+use Rattle.inquiries.specs.PathHistories.{state_line, state_text, view_text}
 use Rattle.inquiries.specs.Printed.{slashed, path_text, stat_mark, item_line, file_bytes, count_text, sizes_text}
 use Rattle.inquiries.specs.Versions.{view_sizes, frees_text, alone_text, kept_text, checkpoint_line}
 use Rattle.inquiries.specs.declared.items.Item.{Item}
@@ -157,5 +159,19 @@ of_difference old new Sign.Went p = led (codes "- ") (item_line (item_at old p))
 of_difference old new Sign.Changed p = ended (codes "~ " ++ path_text p) (both (codes "~ ") (path_text p) (tested (codes "~ ") refl) (path p))
 of_difference old new Sign.Came p = led (codes "+ ") (item_line (item_at new p)) (tested (codes "+ ") refl) (of_item (item_at new p))
 
+of_view : (b : Bool) (view : View) → IsWithoutLf (view_text b view)
+of_view b View.Present = none
+of_view true (View.Serial serial) = both (codes "*") (decimal serial) (tested (codes "*") refl) (number serial)
+of_view false (View.Serial serial) = number serial
+of_view b (View.Checkpoint bytes) = both (codes "=") (escaped bytes) (tested (codes "=") refl) (name bytes)
+
+of_stat : (o : Option Stat) → IsLine (state_text o)
+of_stat None = ended (codes " none") (tested (codes " none") refl)
+of_stat (Some (Stat.Dir entries)) = ended (codes " dir " ++ decimal entries) (both (codes " dir ") (decimal entries) (tested (codes " dir ") refl) (number entries))
+of_stat (Some (Stat.File bytes)) = ended (codes " file " ++ decimal bytes) (both (codes " file ") (decimal bytes) (tested (codes " file ") refl) (number bytes))
+
+of_state : (m : Machine) (p : Path) (b : Bool) (view : View) → IsLine (state_line m p b view)
+of_state m p b view = led (view_text b view) (state_text (stat_there (view_tree m view) p)) (of_view b view) (of_stat (stat_there (view_tree m view) p))
+
 pub line_law : LineLaw
-line_law = record { items = of_item; differences = of_difference; versions = of_version; checkpoints = of_checkpoint }
+line_law = record { items = of_item; differences = of_difference; versions = of_version; states = of_state; checkpoints = of_checkpoint }

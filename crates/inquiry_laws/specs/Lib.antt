@@ -1,3 +1,4 @@
+pub mod ChangeLaw
 pub mod DifferenceLaw
 pub mod LineLaw
 pub mod ListLaw

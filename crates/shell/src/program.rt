@@ -22,7 +22,8 @@ use history_jobs::{change_history, tell_replies, trim_image};
 use host_files::{Channels, Folders, ImageFiles, Parts, Sources};
 use image_jobs::{Failure, check_image, format_image, run_image};
 use inquiry_jobs::{
-    tell_differences, tell_file, tell_last_change, tell_list, tell_tree, tell_versions,
+    tell_differences, tell_file, tell_last_change, tell_list, tell_path_history, tell_tree,
+    tell_versions,
 };
 use job_messages::tell_failure;
 use jobs::{HistoryCall, Job, Task, job};
@@ -171,6 +172,7 @@ fn do_task<F: Folders + Sources + Channels + Parts, R: Read, W: Write, E: Write>
         Task::Cat => tell_file(files, alloc, name, word_given(job.path), job.view, out),
         Task::Tree => tell_tree(files, alloc, name, job.view, out),
         Task::List => tell_list(files, alloc, name, job.path, job.view, out),
+        Task::PathHistory => tell_path_history(files, alloc, name, word_given(job.path), out),
         Task::Diff => {
             let exit_code = job.exit_code;
             tell_differences(files, alloc, name, job.view, job.other, exit_code, out)

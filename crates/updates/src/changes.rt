@@ -19,7 +19,9 @@ use crate::patches::add_patching;
 use crate::pieces::add_writing;
 use flash_model::Flash;
 use fs_types::{Bytes, Call, Fault, Path, Stat, View};
-use inquiries::{Counterpart, Item, TellFault, find_counterpart, list_folder, read_file};
+use inquiries::{
+    Counterpart, Item, TellFault, find_counterpart, list_differing, list_folder, read_file,
+};
 use std::alloc::{AllocError, Global};
 use undofs::Fs;
 
@@ -46,6 +48,37 @@ pub fn list_changes<F: Flash, G: Flash>(
     let root = Path::root(alloc);
     let mut olds = list_folder(alloc, first, &View::Present, &root)?;
     let news = list_folder(alloc, second, view, &root)?;
+    olds.reverse();
+    let mut calls = Vec::new(alloc);
+    add_removals(second, view, &olds, &mut calls)?;
+    add_makings(alloc, first, second, view, manner, &news, &mut calls)?;
+    Ok(calls)
+}
+
+/// The same, where another view of the second file system shows the tree that the first one has: only what
+/// differs between the two views is looked at.
+pub fn list_changes_between<F: Flash, G: Flash>(
+    alloc: Global,
+    first: &mut Fs<'_, F>,
+    second: &mut Fs<'_, G>,
+    previous: &View,
+    view: &View,
+    manner: Manner,
+) -> Result<Vec<Call>, TellFault>
+    // What there is.
+    requires previous { view_refusal (shown second.old).history previous.now ≡ None }
+    requires view { view_refusal (shown second.old).history view.now ≡ None }
+    requires there { view_tree (shown second.old) previous.now ≡ working_tree (shown first.old) }
+
+    // The changes.
+    ensures first { IsUnchanged first.old first.new }
+    ensures second { IsUnchanged second.old second.new }
+    ensures small { OnOk result (AreSmall (working_tree (shown first.old)) (view_tree (shown second.old) view.now)) }
+    ensures ok { IfOk result (λ calls. calls.items ≡ changes_by manner (working_tree (shown first.old)) (view_tree (shown second.old) view.now)) }
+    ensures err { IfErr result (Untold (working_tree (shown first.old)) (view_tree (shown second.old) view.now) first.old second.old first.new second.new) }
+{
+    let mut olds = list_differing(alloc, second, previous, view)?;
+    let news = list_differing(alloc, second, view, previous)?;
     olds.reverse();
     let mut calls = Vec::new(alloc);
     add_removals(second, view, &olds, &mut calls)?;

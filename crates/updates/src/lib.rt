@@ -12,7 +12,7 @@ mod pieces;
 mod telling;
 
 pub use asking::ask_update;
-pub use changes::list_changes;
+pub use changes::{list_changes, list_changes_between};
 pub use laws::paths_law;
 pub use manner::Manner;
 pub use telling::tell_update;

@@ -18,6 +18,8 @@ pub enum Steps {
     None,
     /// One of reclaiming and one of cleaning, each with this budget.
     Budget(u64),
+    /// One of reclaiming and one of preparing the blocks that are taken next, each with this budget.
+    Prepared(u64),
     /// Steps of reclaiming until none remains, and then of cleaning.
     All,
 }
@@ -57,6 +59,10 @@ impl Mounted {
             Steps::Budget(budget) => {
                 self.system.reclaim_step(alloc, &mut self.flash, budget)?;
                 self.system.clean_step(&mut self.flash, budget)?;
+            }
+            Steps::Prepared(budget) => {
+                self.system.reclaim_step(alloc, &mut self.flash, budget)?;
+                self.system.prepare_step(&mut self.flash, budget)?;
             }
             Steps::All => {
                 self.system.reclaim_step(alloc, &mut self.flash, u64::MAX)?;

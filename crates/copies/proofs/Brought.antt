@@ -1,18 +1,19 @@
 -- A version that is made of a tree of another file system.
-use Rattle.std.proofs.Common.{◌≡◌, ◌∙◌, Option, List, [], ◌∷◌, ◌++◌, refl, sym, ap, subst}
+use Rattle.std.proofs.Common.{◌≡◌, ◌∙◌, ℕ, Option, None, Some, List, [], ◌∷◌, ◌++◌, refl, sym, ap, subst}
 use Rattle.std.specs.Prelude.{All, unwrap_or}
 use Rattle.fs_types.specs.Names.{Path}
 use Rattle.fs_types.specs.declared.call.Call.{Call}
+use Rattle.fs_types.specs.declared.call.View.{View}
 use Rattle.plain_trees.specs.Trees.{Tree, bare}
-use Rattle.history_machine.specs.History.{changed}
-use Rattle.history_machine.specs.Machine.{Machine, IsMachine, mounted, present_tree, working_tree}
+use Rattle.history_machine.specs.History.{changed, view_refusal}
+use Rattle.history_machine.specs.Machine.{Machine, IsMachine, mounted, present_tree, view_tree, working_tree}
 use Rattle.history_machine.proofs.Steps.{tree-changed}
 use Rattle.history_machine.proofs.Versions.{checkpoints-changed}
 use Rattle.tree_updates.specs.Laws.{Brings}
 use Rattle.history_copies.specs.Laws.{bringing, changes_or}
 use Rattle.history_copies.proofs.Brought.{bring_law}
 use Rattle.inquiries.specs.Folders.{IsSmall}
-use Rattle.copies.specs.Calls.{Does, IsReady}
+use Rattle.copies.specs.Calls.{Does, IsReady, IsReadyAfter}
 use Rattle.copies.proofs.Doing.{does_both}
 
 -- changes in one group
@@ -43,3 +44,12 @@ ready_changed m n new is ready small made = subst IsReady (sym made) (record {
 -- its tree has no more than may be
 pub small_of : (m n : Machine) (new : Tree) → IsMachine m → n ≡ mounted (changed m.history new) → IsReady n → IsSmall new
 small_of m n new is made ready = subst IsSmall (ap present_tree made ∙ ap (λ (o : Option Tree). unwrap_or o bare) (tree-changed m.history new is.lawful)) ready.small
+
+-- and is that of the version
+pub tree_changed : (m n : Machine) (new : Tree) → IsMachine m → n ≡ mounted (changed m.history new) → working_tree n ≡ new
+tree_changed m n new is made = ap working_tree made ∙ ap (λ (o : Option Tree). unwrap_or o bare) (tree-changed m.history new is.lawful)
+
+-- it is ready with the tree of a version of another machine
+pub ready_after : (from m n : Machine) (serial : ℕ) → IsMachine m → view_refusal from.history (View.Serial serial) ≡ None → IsReady n → n ≡ mounted (changed m.history (view_tree from (View.Serial serial))) → IsReadyAfter from (Some serial) n
+ready_after from m n serial is there ready made =
+    record { ready = ready; has = record { there = there; tree = sym (tree_changed m n (view_tree from (View.Serial serial)) is made) } }

@@ -71,6 +71,10 @@ pub on_uncopied : {T : Type 0} (result : Result T Uncopied) (P Q : Type 0) → (
 on_uncopied (Ok x) P Q f p = f p
 on_uncopied (Err why) P Q f p = tt
 
+pub on_both : {T : Type 0} (result : Result T Uncopied) (P Q R : Type 0) → (P → Q → R) → OnOk result P → OnOk result Q → OnOk result R
+on_both (Ok x) P Q R f p q = f p q
+on_both (Err why) P Q R f p q = tt
+
 -- of a second flash that was mounted
 pub not_copied_to : (m : Machine) (first left second end other : Device) (why : Uncopied) → end ≡ other → NotCopied m first left end why → NotCopiedTo m first left second other why
 not_copied_to m first left second end other (Uncopied.Unread fault) same cause = subst (λ (d : Device). NotCopied m first left d (Uncopied.Unread fault)) same cause

@@ -1,10 +1,12 @@
 -- Calls on the file system to which a history is copied.
-use Rattle.std.specs.Prelude.{◌≡◌, ◌⊎◌, List, [], ◌∷◌, ◌++◌, Err, Some, All}
+use Rattle.std.specs.Prelude.{◌≡◌, ◌⊎◌, ℕ, List, [], ◌∷◌, ◌++◌, Err, Option, Some, None, IfSome, All}
 use Rattle.fs_types.specs.declared.call.Call.{Call}
+use Rattle.fs_types.specs.declared.call.View.{View}
 use Rattle.fs_types.specs.declared.fault.Fault.{Fault}
 use Rattle.flash_model.specs.Device.{Device}
 use Rattle.flash_model.specs.declared.flash.Flash.{Ghosts}
-use Rattle.history_machine.specs.Machine.{Machine, mounted, present_tree, after}
+use Rattle.history_machine.specs.History.{view_refusal}
+use Rattle.history_machine.specs.Machine.{Machine, mounted, present_tree, view_tree, working_tree, after}
 use Rattle.inquiries.specs.Folders.{IsSmall}
 use Rattle.inquiries.specs.Readings.{shown}
 use Rattle.mounting.specs.Saved.{saved_trees}
@@ -24,6 +26,16 @@ pub record IsReady (m : Machine) : Type 0 where
   pub rests : m ≡ mounted m.history
   pub small : IsSmall (present_tree m)
   pub kept : All (λ e. IsSmall e.1) m.history.checkpoints
+
+-- a version is there, and another machine has its tree
+pub record HasTreeOf (m n : Machine) (serial : ℕ) : Type 0 where
+  pub there : view_refusal m.history (View.Serial serial) ≡ None
+  pub tree : view_tree m (View.Serial serial) ≡ working_tree n
+
+-- it is ready, with the tree of this version of another machine, where one is given
+pub record IsReadyAfter (m : Machine) (last : Option ℕ) (n : Machine) : Type 0 where
+  pub ready : IsReady n
+  pub has : IfSome last (HasTreeOf m n)
 
 -- on a file system that shows a machine the first of these calls are accepted, and the next one is refused, which left its flash so
 pub record IsRefused (m : Machine) (calls : List Call) (left : Device) (fault : Fault) : Type 0 where

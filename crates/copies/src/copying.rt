@@ -12,7 +12,7 @@ ghost use Rattle.inquiries.specs.Versions.{kept_names, kept_serials};
 ghost use Rattle.mounting.specs.Formats.{IsFormatted};
 ghost use Rattle.system.specs.TreeSizes.{ShowRoots};
 ghost use Rattle.undofs.specs.Systems.{flash_name};
-ghost use Rattle.copies.specs.Calls.{IsReady, IsSynced};
+ghost use Rattle.copies.specs.Calls.{IsReady, IsReadyAfter, IsSynced};
 ghost use Rattle.copies.specs.Causes.{CopyCause, NotCopied, NotCopiedTo};
 ghost use Rattle.copies.specs.Copied.{Holds, IsCopied, IsCopiedTo, IsShared};
 
@@ -219,7 +219,7 @@ fn copy_checkpoint<F: Flash, G: Flash>(
         Ok(name) => View::Checkpoint(name),
         Err(_) => return Err(Uncopied::Refused(Fault::NoMemory)),
     };
-    bring(alloc, from, &view, to)?;
+    bring(alloc, from, None, &view, to)?;
     match to.checkpoint(name) {
         Ok(()) => Ok(()),
         Err(fault) => Err(Uncopied::Refused(fault)),
@@ -247,22 +247,26 @@ fn copy_versions<F: Flash, G: Flash>(
     ensures same_flash { flash_name to.new ≡ flash_name to.old }
     ensures err { IfErr result (NotCopied (shown from.old) (F.device from.old.flash.now) (F.device from.new.flash.now) (G.device to.new.flash.now)) }
 {
+    let mut last = None;
     for serial in serials {
-        copy_version(alloc, from, to, names, *serial)?;
+        copy_version(alloc, from, to, names, last, *serial)?;
+        last = Some(*serial);
     }
     Ok(())
 }
 
 /// Copies a version: where a checkpoint has its root, that of the copy is rolled back to, which writes nothing.
+/// Else by what differs from the version that was copied last, if any was.
 fn copy_version<F: Flash, G: Flash>(
     alloc: Global,
     from: &mut Fs<'_, F>,
     to: &mut Fs<'_, G>,
     names: &[CpName],
+    last: Option<u64>,
     serial: u64,
 ) -> Result<(), Uncopied>
     // What there is.
-    requires ready { IsReady (shown to.old) }
+    requires ready { IsReadyAfter (shown from.old) last (shown to.old) }
     requires there { view_refusal (shown from.old).history (View.Serial serial) ≡ None }
     requires names { names.now ≡ kept_names (shown from.old) }
     requires kept { (shown to.old).history.checkpoints ≡ (shown from.old).history.checkpoints }
@@ -270,7 +274,7 @@ fn copy_version<F: Flash, G: Flash>(
     // The version.
     ensures same { IsUnchanged from.old from.new }
     ensures ok { (limit : ℕ) (trees : List Tree) → Holds limit trees (shown from.old).history.checkpoints (shown to.old).history → OnOk result (Holds limit (trees ++ view_tree (shown from.old) (View.Serial serial) ∷ []) (shown from.old).history.checkpoints (shown to.new).history) }
-    ensures ready { OnOk result (IsReady (shown to.new)) }
+    ensures ready { OnOk result (IsReadyAfter (shown from.old) (Some serial) (shown to.new)) }
     ensures kept { OnOk result ((shown to.new).history.checkpoints ≡ (shown from.old).history.checkpoints) }
     ensures shared { (name : List ℕ) → Contains names.now name → ShowRoots from.old.system.state (View.Checkpoint name) (View.Serial serial) true → OnOk result (G.device to.new.flash.now ≡ G.device to.old.flash.now) }
     ensures same_flash { flash_name to.new ≡ flash_name to.old }
@@ -281,7 +285,7 @@ fn copy_version<F: Flash, G: Flash>(
             Ok(()) => Ok(()),
             Err(fault) => Err(Uncopied::Refused(fault)),
         },
-        Ok(None) => bring(alloc, from, &View::Serial(serial), to),
+        Ok(None) => bring(alloc, from, last, &View::Serial(serial), to),
         Err(fault) => Err(Uncopied::Unread(fault)),
     }
 }

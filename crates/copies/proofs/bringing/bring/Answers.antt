@@ -19,8 +19,8 @@ edited from to view changes is is' are =
 
 pub returns-in-Err-clause-err : goal.returns-in-Err-clause-err
 returns-in-Err-clause-err g c =
-    subst (NotCopied (shown c.args.from.now) (g.F.Flash.device c.args.from.now.flash.now) (g.F.Flash.device c.list_changes.new.second.flash.now) (g.G.Flash.device c.list_changes.new.first.flash.now)) (sym c.of_untold.ensures)
-    (untold c.args.to.now c.args.from.now c.list_changes.new.first c.list_changes.new.second c.args.view.now c.in-Err.fault c.requires.view c.requires.ready c.in-Err.ensures.err)
+    subst (NotCopied (shown c.args.from.now) (g.F.Flash.device c.args.from.now.flash.now) (g.F.Flash.device c.list_next.new.from.flash.now) (g.G.Flash.device c.list_next.new.to.flash.now)) (sym c.of_untold.ensures)
+    (untold c.args.to.now c.args.from.now c.list_next.new.to c.list_next.new.from c.args.view.now c.in-Err.fault c.requires.view c.requires.ready.ready c.in-Err.ensures.err)
 
 pub returns-clause-err : goal.returns-clause-err
 returns-clause-err g c =
@@ -28,10 +28,10 @@ returns-clause-err g c =
     let to = shown c.args.to.now in
     let stopped = c.in-Err-make_version.ensures.err in
     inl (record {
-      shows = shown c.list_changes.new.first;
+      shows = shown c.list_next.new.to;
       view = c.args.view.now;
       changes = c.deref.result.now;
-      brings = subst (λ (m : Machine). Brings (working_tree m) (view_tree from c.args.view.now) c.deref.result.now) (sym c.list_changes.ensures.first.machine)
+      brings = subst (λ (m : Machine). Brings (working_tree m) (view_tree from c.args.view.now) c.deref.result.now) (sym c.list_next.ensures.to.machine)
           (edited from to c.args.view.now c.deref.result.now c.args.from.now.mounted.mounted.machine c.args.to.now.mounted.mounted.machine (c.deref.ensures.value ∙ c.in-Ok.ensures.ok));
       path = stopped.0;
       stops = stopped.1;
@@ -42,8 +42,8 @@ made g c =
     let from = shown c.args.from.now in
     let to = shown c.args.to.now in
     let done = c.in-Ok-make_version.ensures.ok in
-    brought to (shown c.list_changes.new.first) (shown c.make_version.new.to) (view_tree from c.args.view.now) c.deref.result.now done.0 c.args.to.now.mounted.mounted.machine
-    c.requires.ready.rests c.list_changes.ensures.first.machine
+    brought to (shown c.list_next.new.to) (shown c.make_version.new.to) (view_tree from c.args.view.now) c.deref.result.now done.0 c.args.to.now.mounted.mounted.machine
+    c.requires.ready.ready.rests c.list_next.ensures.to.machine
     (edited from to c.args.view.now c.deref.result.now c.args.from.now.mounted.mounted.machine c.args.to.now.mounted.mounted.machine (c.deref.ensures.value ∙ c.in-Ok.ensures.ok)) done.1
 
 pub returns-in-Ok-make_version-clause-ok : goal.returns-in-Ok-make_version-clause-ok
@@ -51,4 +51,7 @@ returns-in-Ok-make_version-clause-ok g c = made g c
 
 pub returns-in-Ok-make_version-clause-ready : goal.returns-in-Ok-make_version-clause-ready
 returns-in-Ok-make_version-clause-ready g c =
-    ready_changed (shown c.args.to.now) (shown c.make_version.new.to) (view_tree (shown c.args.from.now) c.args.view.now) c.args.to.now.mounted.mounted.machine c.requires.ready c.in-Ok.ensures.small.1 (made g c)
+    ready_changed (shown c.args.to.now) (shown c.make_version.new.to) (view_tree (shown c.args.from.now) c.args.view.now) c.args.to.now.mounted.mounted.machine c.requires.ready.ready c.in-Ok.ensures.small.1 (made g c)
+
+pub list_next-requires-clause-last : goal.list_next-requires-clause-last
+list_next-requires-clause-last g c = c.requires.ready.has

@@ -28,3 +28,6 @@ returns-in-Err-checkpoint-clause-err g c = inr (move_stops _ _ _ _ tt c.in-Err-c
 -- there is no memory for the name
 pub returns-in-Err-clause-err : goal.returns-in-Err-clause-err
 returns-in-Err-clause-err g c = inr (shown c.args.to.now, Call.Checkpoint c.args.name.now, tt, inl refl)
+
+pub bring-requires-clause-ready : goal.bring-requires-clause-ready
+bring-requires-clause-ready g c = record { ready = c.requires.ready; has = tt }

@@ -1,7 +1,7 @@
 //! Tells how long calls wait for a flash: what single calls of a mixed work ask of it, each with its sync,
 //! and how long that takes by the times of a part. A share of the flash is filled before. Between two calls
-//! no step is taken, one of reclaiming and one of cleaning with a budget, one of reclaiming and one of preparing
-//! the blocks that are taken next, or the first two until nothing is left to do.
+//! no step is taken; one of reclaiming and one of cleaning with a budget, or both until nothing is left to do;
+//! or one of reclaiming, with a budget or to its end, and one of preparing the four blocks that are taken next.
 //! An argument tells how many calls each line measures, 2,000 where there is none.
 #![tactic(auto)]
 
@@ -35,9 +35,9 @@ const STEPS: [(&str, Steps); 6] = [
     ("no steps", Steps::None),
     ("steps of 4", Steps::Budget(4)),
     ("steps of 16", Steps::Budget(16)),
-    ("4 prepared", Steps::Prepared(4)),
-    ("16 prepared", Steps::Prepared(16)),
     ("all steps", Steps::All),
+    ("4 ahead", Steps::Ahead(4, 4)),
+    ("all and 4 ahead", Steps::Ahead(u64::MAX, 4)),
 ];
 
 fn main(rt: HostRuntime) -> Result<()> {

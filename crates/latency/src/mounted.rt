@@ -18,8 +18,9 @@ pub enum Steps {
     None,
     /// One of reclaiming and one of cleaning, each with this budget.
     Budget(u64),
-    /// One of reclaiming and one of preparing the blocks that are taken next, each with this budget.
-    Prepared(u64),
+    /// One of reclaiming with the first budget, and one of preparing the blocks that are taken next with the
+    /// second.
+    Ahead(u64, u64),
     /// Steps of reclaiming until none remains, and then of cleaning.
     All,
 }
@@ -60,9 +61,9 @@ impl Mounted {
                 self.system.reclaim_step(alloc, &mut self.flash, budget)?;
                 self.system.clean_step(&mut self.flash, budget)?;
             }
-            Steps::Prepared(budget) => {
-                self.system.reclaim_step(alloc, &mut self.flash, budget)?;
-                self.system.prepare_step(&mut self.flash, budget)?;
+            Steps::Ahead(reclaimed, prepared) => {
+                self.system.reclaim_step(alloc, &mut self.flash, reclaimed)?;
+                self.system.prepare_step(&mut self.flash, prepared)?;
             }
             Steps::All => {
                 self.system.reclaim_step(alloc, &mut self.flash, u64::MAX)?;

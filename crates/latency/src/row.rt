@@ -20,13 +20,13 @@ fn label_of(alloc: Global, name: &str, row: &Row) -> Result<String, AllocError> 
 /// Tells what the calls asked.
 pub fn tell_asked<R: Print + AllocGlobal>(rt: &R, name: &str, rows: &[Row]) -> Result<()> {
     println!(rt;
-        "{:<26}  p50 erases  p99 erases  most erases  p50 programs  p99 programs  most programs  p50 reads  p99 reads  most reads",
+        "{:<31}  p50 erases  p99 erases  most erases  p50 programs  p99 programs  most programs  p50 reads  p99 reads  most reads",
         name
     )?;
     for row in rows {
         let found = row.found;
         let (erases, programs, reads) = (found.erases, found.programs, found.reads);
-        print!(rt; "{:<26}", label_of(rt.alloc(), name, row)?)?;
+        print!(rt; "{:<31}", label_of(rt.alloc(), name, row)?)?;
         print!(rt;
             "{:>12}{:>12}{:>13}",
             erases.median, erases.late, erases.most
@@ -43,12 +43,12 @@ pub fn tell_asked<R: Print + AllocGlobal>(rt: &R, name: &str, rows: &[Row]) -> R
 /// Tells how long the calls took, and what the steps between two of them asked and took on the average.
 pub fn tell_taken<R: Print + AllocGlobal>(rt: &R, name: &str, rows: &[Row]) -> Result<()> {
     println!(rt;
-        "{:<26}   mean ms   p50 ms   p99 ms  most ms  step reads  step erases  step ms",
+        "{:<31}   mean ms   p50 ms   p99 ms  most ms  step reads  step erases  step ms",
         name
     )?;
     for row in rows {
         let found = row.found;
-        print!(rt; "{:<26}", label_of(rt.alloc(), name, row)?)?;
+        print!(rt; "{:<31}", label_of(rt.alloc(), name, row)?)?;
         tell_spread(rt, found.times)?;
         print!(rt; "{:>12}", found.step_reads)?;
         print!(rt; "{:>13}", found.step_erases)?;

@@ -2,7 +2,6 @@ pub mod Differing
 pub mod Lines
 pub mod Lists
 pub mod Pairs
-pub mod PathChanges
 pub mod Rows
 pub mod Trees
 pub mod VersionLines

@@ -1,4 +1,3 @@
-pub mod ChangeLaw
 pub mod DifferenceLaw
 pub mod LineLaw
 pub mod ListLaw

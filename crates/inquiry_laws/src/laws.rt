@@ -1,7 +1,6 @@
 //! The laws of what is told. Each function does nothing: its contract is the law.
 ghost use Rattle.inquiry_laws.specs.TreeLaw.{TreeLaw, PathOrderLaw, ViewTreeLaw};
 ghost use Rattle.inquiry_laws.specs.DifferenceLaw.{DifferenceLaw, NoDifferenceLaw};
-ghost use Rattle.inquiry_laws.specs.ChangeLaw.{ChangeLaw};
 ghost use Rattle.inquiry_laws.specs.LineLaw.{LineLaw};
 ghost use Rattle.inquiry_laws.specs.ListLaw.{ListLaw};
 ghost use Rattle.inquiry_laws.specs.VersionsLaw.{VersionsLaw, KeptTreesLaw};
@@ -17,11 +16,6 @@ pub fn tree_laws()
 /// What is told of a directory itself: each of its entries, once, and nothing else; of a file that file.
 pub fn list_laws()
     ensures lists { ListLaw }
-{}
-
-/// What the history of a path tells as changed: exactly where something else stands there, or below it.
-pub fn path_history_laws()
-    ensures changes { ChangeLaw }
 {}
 
 /// What is told of two trees: a line for each path at which they differ, and no other.

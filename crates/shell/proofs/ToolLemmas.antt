@@ -84,6 +84,7 @@ memory_job = record {
   mirror = false;
   skip_links = false;
   salvage = false;
+  changes = false;
 }
 
 memory_says : SaysJob (Some (codes "memory", [])) memory_job
@@ -117,6 +118,7 @@ memory_says = record {
   mirror = refl;
   skip_links = refl;
   salvage = refl;
+  changes = refl;
 }
 
 no_image : (image : Option (Bor (List ℕ))) → option_map (λ (s : Bor (List ℕ)). s.now) image ≡ None → image ≡ None

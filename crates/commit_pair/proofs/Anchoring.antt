@@ -61,7 +61,7 @@ listed_itself bad b = listed bad b b ∙ ap (λ t. t || set.contains bad b) (eq-
 pub listed_other : (bad : set.FinSet nat_cmp) (b c : ℕ) → c ≢ b → set.contains (set.insert bad b) c ≡ set.contains bad c
 listed_other bad b c apart = listed bad b c ∙ ap (λ t. t || set.contains bad c) (ne_eqb c b apart)
 
-new_listed : (bad : set.FinSet nat_cmp) (b c : ℕ) → set.contains (set.insert bad b) c ≡ true → set.contains bad c ≡ false → c ≡ b
+pub new_listed : (bad : set.FinSet nat_cmp) (b c : ℕ) → set.contains (set.insert bad b) c ≡ true → set.contains bad c ≡ false → c ≡ b
 new_listed bad b c now good =
     elim (or_cases (eqb c b) (set.contains bad c) (sym (listed bad b c) ∙ now)) [
       | inl same ↦ eqb-true c b same

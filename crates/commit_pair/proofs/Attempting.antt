@@ -101,6 +101,7 @@ module _ (old new : Device) (was now : set.FinSet nat_cmp) (r : Record) (anchor 
     fits = lt;
     list = wrote.changes.list;
     good = good;
+    others = wrote.changes.others;
     untouched = tt;
     asked =
         let all : found.head.count ≡ draft.count = ap (λ (h : PageHead). h.count) head in
@@ -116,6 +117,7 @@ module _ (old new : Device) (was now : set.FinSet nat_cmp) (r : Record) (anchor 
     fits = tt;
     list = tt;
     good = tt;
+    others = tt;
     untouched = failed_untouched old new now anchor (failed_listed was now anchor false refl wrote.changes.list) wrote.changes.others;
     asked = tt;
     tried =
@@ -133,6 +135,7 @@ module _ (old new : Device) (was now : set.FinSet nat_cmp) (r : Record) (anchor 
     fits = tt;
     list = tt;
     good = tt;
+    others = tt;
     untouched = tt;
     asked = tt;
     tried = tt;
@@ -164,6 +167,7 @@ not_attempted d bad r sequence anchor place more = record {
   fits = tt;
   list = tt;
   good = tt;
+  others = tt;
   untouched = λ p good. refl;
   asked = tt;
   tried = Asked_itself d;

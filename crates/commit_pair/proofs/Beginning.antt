@@ -1,10 +1,11 @@
 -- Where a commit begins, and what is remembered after one that was refused.
-use Rattle.std.proofs.Common.{◌≡◌, ◌≢◌, ℕ, ◌+◌, ◌*◌, ◌/◌, ◌<◌, ◌≤◌, ◌^◌, ◌-◌, ◌==◌, Bool, true, false, cond, not, Option, Some, None, Result, Ok, Err, refl, sym, ap, subst, ◌∙◌, inl, inr, arith}
+use Rattle.std.proofs.Common.{◌≡◌, ◌≢◌, ℕ, ◌+◌, ◌*◌, ◌/◌, ◌%◌, ◌<◌, ◌≤◌, ◌^◌, ◌-◌, ◌==◌, Bool, true, false, cond, not, Option, Some, None, Result, Ok, Err, refl, sym, ap, subst, ◌∙◌, inl, inr, arith}
 use Rattle.std.specs.Prelude.{IfErr}
 use Rattle.std.specs.FinSet as set
 use Rattle.std.specs.Ordering.{nat_cmp}
 use Rattle.std.proofs.lemmas.Bool.{both_ways, eqb-true, eq-eqb}
 use Rattle.std.proofs.lemmas.Nat.{div-mul-add, div_below}
+use Rattle.std.proofs.lemmas.Option.{none-some}
 use Rattle.std.specs.Option.{option_map}
 use Rattle.record_format.specs.Payloads.{payload_at}
 use Rattle.fs_types.specs.declared.fault.Fault.{Fault}
@@ -22,8 +23,10 @@ use Rattle.commit_pair.specs.Reading.{IsEnd, PageReadCause}
 use Rattle.commit_pair.specs.Anchored.{OnlyAnchors}
 use Rattle.commit_pair.specs.Keeping.{KeepsNewest, AreOlder, Spares}
 use Rattle.commit_pair.specs.Committing.{IsLowest, Commits, Untouched, IsInVain}
-use Rattle.commit_pair.specs.Remembering.{KnowsNewest, KnowsErased, MayCommit, begins_from, BeginsAt, CommitCause}
-use Rattle.commit_pair.specs.Newest.{remembered, KnowsEnd}
+use Rattle.commit_pair.specs.Remembering.{KnowsNewest, KnowsErased, MayCommit, IsErasedBeside, begins_from, BeginsAt, CommitCause}
+use Rattle.commit_pair.specs.Drafts.{IsBlankFrom}
+use Rattle.commit_pair.specs.Committing.{StandsLast}
+use Rattle.commit_pair.specs.Newest.{remembered, prepared_anchor, KnowsEnd}
 use Rattle.commit_pair.specs.Following.{StillMayCommit, CommittedIsNewest}
 use Rattle.commit_pair.proofs.Following.{was_good}
 use Rattle.commit_pair.proofs.NewestLaws.{found_is_newest, greatest_most, same_place}
@@ -97,7 +100,7 @@ best_found g parts found is = on (best_on g parts).twice is
     on false e = e
 
 -- the sequence of the newest record, whose place is known, is the greatest
-known_greatest : (d : Device) (g : Geometry) (bad : set.FinSet nat_cmp) (anchors : Anchors) → d.geometry ≡ g → MayCommit d bad anchors → remembered anchors ≢ None → sequence_of (remembered anchors) ≡ greatest_on g d.pages
+pub known_greatest : (d : Device) (g : Geometry) (bad : set.FinSet nat_cmp) (anchors : Anchors) → d.geometry ≡ g → MayCommit d bad anchors → remembered anchors ≢ None → sequence_of (remembered anchors) ≡ greatest_on g d.pages
 known_greatest d g bad anchors same ready some = elim ready [
   | inl k ↦
       let place = subst (λ (h : Geometry). newest_at h (parts_on h d.pages) ≡ Some k.found) same k.place in
@@ -141,12 +144,27 @@ reads_untouched d e bad reads p good = reads.pages p
 
 -- ---- after a refusal
 
-ends_still : (g : Geometry) (was now : ℕ → Page) (anchor end : ℕ) → ((m : ℕ) → m < g.pages → now (anchor * g.pages + m) ≡ was (anchor * g.pages + m)) → IsEnd g was anchor g.pages end → IsEnd g now anchor g.pages end
+pub ends_still : (g : Geometry) (was now : ℕ → Page) (anchor end : ℕ) → ((m : ℕ) → m < g.pages → now (anchor * g.pages + m) ≡ was (anchor * g.pages + m)) → IsEnd g was anchor g.pages end → IsEnd g now anchor g.pages end
 ends_still g was now anchor end same is = record {
   within = is.within;
   blank = λ m from below. same m below ∙ is.blank m from below;
   last = λ m at blank. is.last m at (sym (same m (let w = is.within in omega arith)) ∙ blank);
 }
+
+-- an anchor that was erased ahead is erased still, where its pages are as they were or it is bad
+pub beside_still : (old new : Device) (was now : set.FinSet nat_cmp) (anchors : Anchors) (found : Found) → new.geometry ≡ old.geometry → ((b : ℕ) → set.contains was b ≡ true → set.contains now b ≡ true)
+    → ((b : ℕ) → set.contains now b ≡ false → b < ANCHORS → (m : ℕ) → m < old.geometry.pages → new.pages (b * old.geometry.pages + m) ≡ old.pages (b * old.geometry.pages + m))
+    → IsErasedBeside old was anchors found → IsErasedBeside new now anchors found
+beside_still old new was now anchors found same stays pages before b is =
+    let x = before b is in
+    subst (λ (h : Geometry). (b ≢ found.page / h.pages) × IsBlankFrom h new.pages now b 0) (sym same) (
+      x.0,
+      record {
+        below = x.1.below;
+        within = λ good. omega arith;
+        blank = λ good m from lt. pages b good x.1.below m lt ∙ x.1.blank (was_good was now b stays good) m from lt;
+      },
+    )
 
 kept : (was now : ℕ → Page) (r : Record) (sequence : ℕ) (bad : set.FinSet nat_cmp) (fault : Fault) → fault ≢ PowerCut → Commits {T = Found} was now r sequence bad (Err fault) → KeepsNewest r.geometry was now
 kept was now r sequence bad PowerCut on is = absurd (on refl)
@@ -166,16 +184,58 @@ may_follow old new was now anchors r sequence fault same only on is untouched re
             ends_still old.geometry old.pages new.pages (k.found.page / old.geometry.pages) anchors.end
             (λ m below. untouched (k.found.page / old.geometry.pages * old.geometry.pages + m) (ap (set.contains now) (div-mul-add (k.found.page / old.geometry.pages) old.geometry.pages m below) ∙ good))
             (k.end (was_good was now (k.found.page / old.geometry.pages) only.stays_bad good)));
+        prepared = beside_still old new was now anchors k.found only.geometry only.stays_bad (λ b good below m lt.
+            untouched (b * old.geometry.pages + m) (ap (set.contains now) (div-mul-add b old.geometry.pages m lt) ∙ good)) k.prepared;
       })
       | inr k ↦ inr (record {
         none = k.none;
         cleared = k.cleared;
+        unprepared = k.unprepared;
         erased = λ p lt good.
             let block : block_of old p ≡ block_of new p = sym (ap (λ (h : Geometry). p / h.pages) only.geometry) in
             let still : set.contains now (block_of old p) ≡ false = ap (set.contains now) block ∙ good in
             untouched p still ∙ k.erased p (subst (λ b. b < ANCHORS) (sym block) lt) (was_good was now (block_of old p) only.stays_bad still);
       })
     ]
+
+-- ---- after a commit
+
+module _ (old new : Device) (was now : set.FinSet nat_cmp) (anchors : Anchors) (r : Record) (home place : ℕ) (found : Found) (sizes : old.geometry ≡ r.geometry) (same : new.geometry ≡ old.geometry)
+    (stays : (b : ℕ) → set.contains was b ≡ true → set.contains now b ≡ true) (ready : MayCommit old was anchors) (at : BeginsAt r.geometry was anchors home place)
+    (others : found.page / r.geometry.pages ≡ home → (p : ℕ) → block_of old p ≢ home → new.pages p ≡ old.pages p) where
+  -- an anchor that was erased ahead is erased still, where the record was placed on the anchor on which the commit began
+  beside_home : found.page / r.geometry.pages ≡ home → (b : ℕ) → anchors.prepared ≡ Some b → (b ≢ found.page / r.geometry.pages) × IsBlankFrom r.geometry new.pages now b 0
+  beside_home here b is = elim ready [
+    | inl k ↦
+        let began = at_newest r.geometry was anchors.end anchors.newest home place k.found k.here at in
+        let x = subst (λ (h : Geometry). (b ≢ k.found.page / h.pages) × IsBlankFrom h old.pages was b 0) sizes (k.prepared b is) in
+        let apart : b ≢ home = λ e. x.0 (e ∙ began.0) in (
+          λ e. apart (e ∙ here),
+          record {
+            below = x.1.below;
+            within = λ good. omega arith;
+            blank = λ good m from lt.
+                others here (b * r.geometry.pages + m) (λ e. apart (sym (div-mul-add b r.geometry.pages m lt) ∙ sym (ap (λ (h : Geometry). (b * r.geometry.pages + m) / h.pages) sizes) ∙ e)) ∙ x.1.blank (was_good was now b stays good) m from lt;
+          },
+        )
+    | inr k ↦ absurd (none-some b (sym k.unprepared ∙ is))
+  ]
+
+  beside_if : (is_home : Bool) → (found.page / r.geometry.pages == home) ≡ is_home → (b : ℕ) → cond is_home anchors.prepared None ≡ Some b → (b ≢ found.page / r.geometry.pages) × IsBlankFrom r.geometry new.pages now b 0
+  beside_if true tells b is = beside_home (eqb-true _ _ tells) b is
+  beside_if false tells b is = absurd (none-some b is)
+
+  pub committed_knows : (prepared : Option ℕ) → prepared ≡ cond (found.page / r.geometry.pages == home) anchors.prepared None → StandsLast new.pages r found
+      → MayCommit new now (record { newest = Some found; end = found.page % r.geometry.pages + found.head.count; cleared = false; prepared = prepared })
+  committed_knows prepared kept stands =
+      let last = subst (λ (h : Geometry). (newest_at h (parts_on h new.pages) ≡ Some found) × IsEnd h new.pages (found.page / h.pages) h.pages (found.page % r.geometry.pages + found.head.count)) (sym (same ∙ sizes)) (stands.place, stands.end) in
+      inl (record {
+        found = found;
+        here = refl;
+        place = last.0;
+        end = λ good. last.1;
+        prepared = λ b is. subst (λ (h : Geometry). (b ≢ found.page / h.pages) × IsBlankFrom h new.pages now b 0) (sym (same ∙ sizes)) (beside_if (found.page / r.geometry.pages == home) refl b (sym kept ∙ is));
+      })
 
 -- ---- the laws
 
@@ -194,10 +254,13 @@ still_may_commit old new was now anchors same pages stays ready = elim ready [
         place = subst (λ (h : Geometry). newest_at h (parts_on h new.pages) ≡ Some k.found) (sym same) (same_place g old.pages new.pages pages ∙ k.place);
         end = subst (λ (h : Geometry). set.contains now (k.found.page / h.pages) ≡ false → IsEnd h new.pages (k.found.page / h.pages) h.pages anchors.end) (sym same) (λ good.
             ends_still g old.pages new.pages home anchors.end still (k.end (was_good was now home stays good)));
+        prepared = beside_still old new was now anchors k.found same stays (λ b good below m lt.
+            pages (b * g.pages + m) (subst (λ c. c < ANCHORS) (sym (div-mul-add b g.pages m lt)) below)) k.prepared;
       })
   | inr k ↦ inr (record {
     none = k.none;
     cleared = k.cleared;
+    unprepared = k.unprepared;
     erased = λ p lt good.
         let block : block_of old p ≡ block_of new p = sym (ap (λ (h : Geometry). p / h.pages) same) in
         let lt_old : block_of old p < ANCHORS = subst (λ b. b < ANCHORS) (sym block) lt in
@@ -243,12 +306,14 @@ knows_end_at old later g found anchors same reads here end = λ at is.
     let on_flash = subst (λ (h : Geometry). IsEnd h old.pages (found.page / h.pages) h.pages anchors.end) (sym same) on_pages in
     subst (λ (f : Found). IsEnd old.geometry old.pages (f.page / old.geometry.pages) old.geometry.pages anchors.end) one on_flash
 
-pub ready_at : (old new : Device) (bad : set.FinSet nat_cmp) (anchors : Anchors) (found : Found) → OnlyReads old new → anchors.newest ≡ Some found → anchors.newest ≡ newest_at old.geometry (parts_on old.geometry old.pages) → KnowsEnd old anchors → MayCommit new bad anchors
-ready_at old new bad anchors found reads here at end = reads_may_commit old new bad anchors reads (inl (record {
+pub ready_at : (old new : Device) (bad : set.FinSet nat_cmp) (anchors : Anchors) (found : Found) → OnlyReads old new → anchors.newest ≡ Some found → anchors.newest ≡ newest_at old.geometry (parts_on old.geometry old.pages) → KnowsEnd old anchors
+    → prepared_anchor anchors ≡ None → MayCommit new bad anchors
+ready_at old new bad anchors found reads here at end none = reads_may_commit old new bad anchors reads (inl (record {
   found = found;
   here = here;
   place = sym at ∙ here;
   end = λ good. end found here;
+  prepared = λ b is. absurd (none-some b (sym none ∙ is));
 }))
 
 -- why a commit is refused

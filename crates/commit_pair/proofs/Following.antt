@@ -273,6 +273,7 @@ module _ (old : Device) (was : set.FinSet nat_cmp) (mid : Device) (between : set
             goes = inl (page, ap (set.contains now) (sym e.0) ∙ (ap (λ bads. set.contains bads start.anchor) attempted.list ∙ attempted.good));
             begun = λ here. Asked_later old mid new found.head.count so_far.only_anchors.geometry so_far.asked (asked_alone mid new found.head.count (rw e.2 at attempted.asked));
             elsewhere = λ apart. absurd (apart (ap (λ (p : ℕ). p / r.geometry.pages) page ∙ div-mul-add home r.geometry.pages place (rw e.1 at attempted.fits)));
+            others = subst (λ (x : Device). found.page / r.geometry.pages ≡ home → (p : ℕ) → block_of x p ≢ home → new.pages p ≡ x.pages p) (so_far.first none).0 (λ here. rw e.0 at attempted.others);
             writable = ap is_read_only attempted.list ∙ writable;
           })
           | inr more ↦ (let e = at.next (omega arith) in
@@ -283,6 +284,7 @@ module _ (old : Device) (was : set.FinSet nat_cmp) (mid : Device) (between : set
                 goes = inr (anchor_after home step, page, next, elim (so_far.lacks (omega arith)) [ inl is ↦ inl (attempted.only_anchors.stays_bad home is) | inr less ↦ inr less ]);
                 begun = λ here. absurd (other_anchor r.geometry now home found.page some below (anchor_after home step, page, next) here);
                 elsewhere = λ apart. Asked_later old mid new (1 + found.head.count) so_far.only_anchors.geometry so_far.asked (rw e.2 at attempted.asked);
+                others = λ here. absurd (other_anchor r.geometry now home found.page some below (anchor_after home step, page, next) here);
                 writable = ap is_read_only attempted.list ∙ writable;
               })
         ]

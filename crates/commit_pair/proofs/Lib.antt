@@ -16,3 +16,4 @@ pub mod Following
 pub mod Asking
 pub mod Wrote
 pub mod Beginning
+pub mod Preparing

@@ -74,6 +74,7 @@ pub record Attempted (old : Device) (was : set.FinSet nat_cmp) (new : Device) (n
   pub fits : IfPlaced result (λ found. place < r.geometry.pages)
   pub list : IfPlaced result (λ found. now ≡ was)
   pub good : IfPlaced result (λ found. set.contains was anchor ≡ false)
+  pub others : IfPlaced result (λ found. (p : ℕ) → block_of old p ≢ anchor → new.pages p ≡ old.pages p)
   pub untouched : OnNone result (Untouched old now new)
   pub asked : IfPlaced result (λ found. Asked old new (more + found.head.count))
   pub tried : OnNone result (Asked old new 0)
@@ -131,10 +132,11 @@ pub record IsInVain (old new : Device) (bad : set.FinSet nat_cmp) (fault : Fault
   pub why : TryCause new bad fault
   pub untouched : fault ≢ PowerCut → Untouched old bad new
 
--- a record stands where a commit from a place of its home puts it, and what was asked for it
+-- a record stands where a commit from a place of its home puts it, and what was asked for it. On its home it changes no page of another block
 pub record StandsFrom (old : Device) (was : set.FinSet nat_cmp) (new : Device) (now : set.FinSet nat_cmp) (r : Record) (home place : ℕ) (found : Found) : Type 0 where
   pub stands : StandsLast new.pages r found
   pub goes : GoesTo r was now home place found.page
   pub begun : found.page / r.geometry.pages ≡ home → Asked old new found.head.count
   pub elsewhere : found.page / r.geometry.pages ≢ home → Asked old new (1 + found.head.count)
+  pub others : found.page / r.geometry.pages ≡ home → (p : ℕ) → block_of old p ≢ home → new.pages p ≡ old.pages p
   pub writable : is_read_only now ≡ false

@@ -13,3 +13,4 @@ pub mod Drafts
 pub mod Commit
 pub mod Remembering
 pub mod Following
+pub mod Preparing

@@ -1,5 +1,5 @@
 -- The newest record of a flash, and why it may not be told.
-use Rattle.std.specs.Prelude.{◌≡◌, ◌⊎◌, ◌/◌, ◌<◌, true, false, Option, Some, None, Result, Ok, Err}
+use Rattle.std.specs.Prelude.{◌≡◌, ◌⊎◌, ℕ, ◌/◌, ◌<◌, true, false, Option, Some, None, Result, Ok, Err}
 use Rattle.std.specs.Option.{option_map}
 use Rattle.fs_types.specs.declared.fault.Fault.{Fault}
 use Rattle.fs_types.specs.declared.fault.Fault.TheVariants.{ReadFailed, PowerCut, NoMemory, Damaged, BadGeometry}
@@ -15,6 +15,10 @@ use Rattle.commit_pair.specs.Laws.{HasNone, HasTie}
 -- the place that is remembered
 abbrev pub remembered : Anchors → Option Found
 remembered anchors = anchors.newest
+
+-- the anchor that was erased ahead
+abbrev pub prepared_anchor : Anchors → Option ℕ
+prepared_anchor anchors = anchors.prepared
 
 -- the anchors were cleared, and no record was committed since
 abbrev pub IsCleared : Anchors → Type 0

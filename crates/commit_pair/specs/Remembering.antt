@@ -14,20 +14,28 @@ use Rattle.commit_pair.specs.declared.anchors.Anchors.{Anchors}
 use Rattle.commit_pair.specs.Parts.{parts_on, newest_at, greatest_on}
 use Rattle.commit_pair.specs.Reading.{IsEnd}
 use Rattle.commit_pair.specs.Anchored.{AreErased, Asked}
-use Rattle.commit_pair.specs.Newest.{remembered, IsCleared, IsUncleared}
+use Rattle.commit_pair.specs.Drafts.{IsBlankFrom}
+use Rattle.commit_pair.specs.Newest.{remembered, prepared_anchor, IsCleared, IsUncleared}
 use Rattle.commit_pair.specs.Committing.{IsLowest, GoesTo}
 
--- the place of the newest record is remembered, and, while its anchor is not bad, where that ends
+-- the anchor that was erased ahead is not the one that a record is on, and it is erased while it is not bad
+abbrev pub IsErasedBeside : Device → set.FinSet nat_cmp → Anchors → Found → Type 0
+IsErasedBeside d bad anchors found =
+    (anchor : ℕ) → prepared_anchor anchors ≡ Some anchor → (anchor ≢ found.page / d.geometry.pages) × IsBlankFrom d.geometry d.pages bad anchor 0
+
+-- the place of the newest record is remembered, and, while its anchor is not bad, where that ends; and the anchor that was erased ahead, if one was
 pub record KnowsNewest (d : Device) (bad : set.FinSet nat_cmp) (anchors : Anchors) : Type 0 where
   pub found : Found
   pub here : remembered anchors ≡ Some found
   pub place : newest_at d.geometry (parts_on d.geometry d.pages) ≡ Some found
   pub end : set.contains bad (found.page / d.geometry.pages) ≡ false → IsEnd d.geometry d.pages (found.page / d.geometry.pages) d.geometry.pages anchors.end
+  pub prepared : IsErasedBeside d bad anchors found
 
--- no record was committed since the anchors were cleared: those that are not bad are erased
+-- no record was committed since the anchors were cleared: those that are not bad are erased, and none ahead
 pub record KnowsErased (d : Device) (bad : set.FinSet nat_cmp) (anchors : Anchors) : Type 0 where
   pub none : remembered anchors ≡ None
   pub cleared : IsCleared anchors
+  pub unprepared : prepared_anchor anchors ≡ None
   pub erased : AreErased d bad ANCHORS
 
 -- a commit may follow

@@ -1,10 +1,10 @@
 //! The place of the newest record on the anchors, and the commit of the next one.
-ghost use Rattle.std.specs.Prelude.{◌≡◌, ◌≢◌, ℕ, ◌+◌, ◌*◌, ◌<◌, ◌≤◌, false, None, IfOk, OnOk, OnErr, IfErr, MatchResult, ◌-◌, ◌^◌, ◌==◌, true, not, Err, vec_capacity};
+ghost use Rattle.std.specs.Prelude.{◌≡◌, ◌≢◌, ℕ, ◌+◌, ◌*◌, ◌<◌, ◌≤◌, false, None, IfOk, OnOk, OnErr, IfErr, MatchResult, ◌-◌, ◌^◌, ◌==◌, true, not, Err, vec_capacity, if◌then◌else◌};
 ghost use Rattle.std.specs.Ordering.{nat_cmp};
 ghost use Rattle.flash_model.specs.Geometry.{IsGeometry};
 ghost use Rattle.flash_model.specs.Reading.{OnlyReads};
 ghost use Rattle.commit_pair.specs.Anchored.{OnlyAnchors, IsPowerCut, Fades, AreErased};
-ghost use Rattle.commit_pair.specs.Newest.{remembered, IsCleared, IsUncleared, KnowsEnd, IsNewestRecord, NewestCause};
+ghost use Rattle.commit_pair.specs.Newest.{remembered, prepared_anchor, IsCleared, IsUncleared, KnowsEnd, IsNewestRecord, NewestCause};
 ghost use Rattle.commit_pair.specs.Remembering.{MayCommit, BeginsAt, ReadsNone, IsPlaced, Remembers, TriesEach, RefusesLast, CommitCause};
 ghost use Rattle.fs_types.specs.declared.limits.TheConstants.{ANCHORS, MAX_BAD_BLOCKS};
 ghost use Rattle.bad_blocks.specs.Mode.{is_read_only};
@@ -33,6 +33,8 @@ pub struct Anchors {
     // the place after the last page that is not erased, on the anchor of the newest record
     pub(crate) end: u32,
     pub(crate) cleared: bool,
+    // the anchor that was erased ahead, where no record was committed off the newest one's anchor since
+    pub(crate) prepared: Option<u32>,
 }
 
 impl Anchors {
@@ -40,11 +42,13 @@ impl Anchors {
     pub fn new() -> Anchors
         ensures none { remembered result ≡ None }
         ensures uncleared { IsUncleared result }
+        ensures unprepared { prepared_anchor result ≡ None }
     {
         Anchors {
             newest: None,
             end: 0,
             cleared: false,
+            prepared: None,
         }
     }
 
@@ -281,11 +285,21 @@ impl Anchors {
         let geometry = commit.saved.geometry;
         let (home, place) = self.start(geometry, commit.bad);
         let found = commit.after(home, place)?;
+        let is_home = found.page / geometry.pages == home;
         self.end = found.page % geometry.pages + found.head.count as u32;
         self.newest = Some(found);
         self.cleared = false;
+        self.prepared = kept_if(self.prepared, is_home);
         Ok(())
     }
+}
+
+/// The anchor that is erased ahead after a commit: the one before, where the record stands on the anchor
+/// on which the commit began.
+fn kept_if(prepared: Option<u32>, is_home: bool) -> Option<u32>
+    ensures { result ≡ if is_home then prepared else None }
+{
+    if is_home { prepared } else { None }
 }
 
 /// The lowest anchor that is not in the list.

@@ -8,6 +8,7 @@ mod commit;
 mod draft;
 mod laws;
 mod newest;
+mod next_anchor;
 mod scan;
 
 pub use anchors::Anchors;

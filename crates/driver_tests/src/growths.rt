@@ -16,8 +16,8 @@ const STEP: usize = 16;
 const MOST_BUDGETS: usize = 16_384;
 
 /// The first words of the lines that want none, and are never refused for it.
-const FREE: [&str; 8] = [
-    "undo", "redo", "goto", "close", "begin", "end", "abandon", "clean",
+const FREE: [&str; 9] = [
+    "undo", "redo", "goto", "close", "begin", "end", "abandon", "clean", "prepare",
 ];
 
 /// The first words of the lines that take memory, and of what comes before each script: each is refused
@@ -65,7 +65,7 @@ const SCRIPTS: [(u32, &str); 7] = [
     ),
     (
         32,
-        "mkdir /a|write /a/f 616263|files /a g 41 h -|write /a/f 61|checkpoint v|write /a/f 62|df|space|forgetfree 9|forgetfree 12|df|space|sync|forgetfree 99|reclaim 99|clean 99|mkdir /b|space",
+        "mkdir /a|write /a/f 616263|files /a g 41 h -|write /a/f 61|checkpoint v|write /a/f 62|df|space|forgetfree 9|forgetfree 12|df|space|sync|forgetfree 99|reclaim 99|clean 99|prepare 99|mkdir /b|space",
     ),
     (
         16,

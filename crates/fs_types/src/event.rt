@@ -11,6 +11,8 @@ pub enum Event {
     ReclaimStep(u64),
     /// A step of cleaning, which looks at so many free blocks at most.
     CleanStep(u64),
+    /// A step of preparing, which erases so many of the blocks that are taken next at most.
+    PrepareStep(u64),
     /// The power is put on, and the system is mounted anew.
     Restart,
 }

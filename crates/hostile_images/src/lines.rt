@@ -54,9 +54,9 @@ const LINES: [&str; 40] = [
 ];
 
 /// Lines that are asked of every fourth image after these, in this order: of what the history keeps and of versions that are
-/// forgotten for their blocks, of many files, of entries and of cleaning, and changes that write over what
-/// was cleaned.
-const LATER: [&str; 17] = [
+/// forgotten for their blocks, of many files, of entries, of cleaning and of preparing, and changes that write
+/// over what was cleaned and prepared.
+const LATER: [&str; 19] = [
     "df",
     "space",
     "forgetfree 9",
@@ -67,9 +67,11 @@ const LATER: [&str; 17] = [
     "clean 3",
     "files /a g 636465 h 00",
     "clean 99",
+    "prepare 3",
     "mkdir /c",
     "files /c f 66",
     "entries /a g 2 =v",
+    "prepare 99",
     "clean 99",
     "df",
     "space",

@@ -1,6 +1,6 @@
 //! Mounts images of flashes that are made by a fixed rule, lawful and not, and asks twenty calls of
 //! each that mounts; of every fourth then what its history keeps, many files in one call, entries and steps
-//! of cleaning. A mount is refused only for what the newest record or its trees are; each tree that is
+//! of cleaning and of preparing. A mount is refused only for what the newest record or its trees are; each tree that is
 //! mounted is whole; each answer is what a plain machine says that begins with what the mount shows, or one
 //! of the further refusals with its cause; and what is shown after all of it, and after a restart then, is
 //! what that machine keeps. For each kind of image it prints what became of them, and of the twenty calls.

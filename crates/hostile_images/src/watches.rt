@@ -35,9 +35,9 @@ impl Watch {
         self.asked = self.asked.saturating_add(1);
     }
 
-    /// Whether this may be told, as far as the record lets it: in read-only mode no version is forgotten,
-    /// and no change, no commit and no step of cleaning is accepted, after the greatest sequence no commit,
-    /// and `df` tells the bad blocks.
+    /// Whether this may be told, as far as the record lets it: in read-only mode no version is forgotten, and
+    /// no change, no commit and no step of cleaning or of preparing is accepted, after the greatest sequence
+    /// no commit, and `df` tells the bad blocks.
     pub fn may_tell(self, ask: &Ask, told: &Told) -> bool {
         match (ask, told) {
             (Ask::Event(event), Told::Answer(answer)) => self.may_answer(event, answer),
@@ -53,7 +53,7 @@ impl Watch {
                     && !(self.facts.sequence == u64::MAX && is_commit(call))
                     && self.facts.has_space(reply)
             }
-            (Event::CleanStep(_), Answer::Done(_)) => !self.is_read_only(),
+            (Event::CleanStep(_) | Event::PrepareStep(_), Answer::Done(_)) => !self.is_read_only(),
             _ => true,
         }
     }

@@ -1,8 +1,8 @@
 //! What fills a flash before the work.
 use crate::error::LatencyError;
-use crate::mounted::Mounted;
 use crate::part::Part;
 use crate::work::write_whole;
+use crate::worked::Worked;
 use fs_types::{Call, Path, Reply};
 use std::alloc::Global;
 
@@ -13,9 +13,9 @@ const HEAD: u64 = 80;
 const MOST_NODES: u64 = 32;
 
 /// Writes files in a directory `/c` until so many of a hundred data blocks are used.
-pub fn fill(
+pub fn fill<W: Worked>(
     alloc: Global,
-    mounted: &mut Mounted,
+    mounted: &mut W,
     part: &Part,
     percent: u64,
 ) -> Result<(), LatencyError> {
@@ -34,7 +34,11 @@ pub fn fill(
 }
 
 /// How many blocks have to be used before so many of a hundred are.
-fn blocks_to_fill(alloc: Global, mounted: &mut Mounted, percent: u64) -> Result<u64, LatencyError> {
+fn blocks_to_fill<W: Worked>(
+    alloc: Global,
+    mounted: &mut W,
+    percent: u64,
+) -> Result<u64, LatencyError> {
     let Reply::Df { blocks, free, .. } = mounted.call(alloc, &Call::Df)? else {
         return Err(LatencyError::Reply);
     };
@@ -43,9 +47,9 @@ fn blocks_to_fill(alloc: Global, mounted: &mut Mounted, percent: u64) -> Result<
 }
 
 /// Writes a file of so many nodes.
-fn write_nodes(
+fn write_nodes<W: Worked>(
     alloc: Global,
-    mounted: &mut Mounted,
+    mounted: &mut W,
     part: &Part,
     number: u64,
     nodes: u64,

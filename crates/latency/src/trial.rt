@@ -1,12 +1,13 @@
 //! A trial: the work on a flash that is filled to a share, with steps of a kind between its calls.
 use crate::error::LatencyError;
 use crate::filling::fill;
-use crate::mounted::{Mounted, Steps};
+use crate::mounted::Mounted;
 use crate::part::Part;
 use crate::samples::{Samples, Spread};
 use crate::watched::Asked;
 use crate::work::{Work, opening};
-use fs_types::{Call, Fault};
+use crate::worked::{Steps, Worked, call_and_sync, take_steps};
+use fs_types::Call;
 use std::alloc::{AllocError, Global};
 
 /// A trial: the part, how many of a hundred data blocks are used before it, the steps between two calls, and
@@ -125,20 +126,16 @@ impl<'p> Run<'p> {
     /// Takes the steps between two calls.
     fn take_steps(&mut self, alloc: Global) -> Result<(), LatencyError> {
         let before = self.mounted.asked();
-        self.mounted.take_steps(alloc, self.trial.steps)?;
+        take_steps(alloc, &mut self.mounted, self.trial.steps)?;
         let asked = self.mounted.asked().beyond(before);
         self.taken.steps = self.taken.steps.and(asked);
         Ok(())
     }
 
-    /// Carries out a call and a sync. A file that is not there is no fault of the flash.
+    /// Carries out a call and a sync.
     fn take_call(&mut self, alloc: Global, call: &Call) -> Result<(), LatencyError> {
         let before = self.mounted.asked();
-        match self.mounted.call(alloc, call) {
-            Ok(_) | Err(Fault::NoEntry) => {}
-            Err(fault) => return Err(LatencyError::Refused(fault)),
-        }
-        self.mounted.call(alloc, &Call::Sync)?;
+        call_and_sync(alloc, &mut self.mounted, call)?;
         let asked = self.mounted.asked().beyond(before);
         self.taken.add(asked, self.trial.part.time(asked))?;
         Ok(())

@@ -143,11 +143,16 @@ pub fn opening(alloc: Global) -> Result<Vec<Call>, LatencyError> {
     }
     let log = Path::parse(alloc, b"/log")?;
     calls.push(write_whole(alloc, log, LONG_LOG)?)?;
-    calls.push(Call::Open {
+    calls.push(open_log(alloc)?)?;
+    Ok(calls)
+}
+
+/// The call that opens the log, which is the first file that is open.
+pub fn open_log(alloc: Global) -> Result<Call, LatencyError> {
+    Ok(Call::Open {
         path: Path::parse(alloc, b"/log")?,
         flags: OpenFlags::from_bits_retain(7),
-    })?;
-    Ok(calls)
+    })
 }
 
 /// Writes a file of so many bytes.

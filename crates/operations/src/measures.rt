@@ -99,6 +99,10 @@ const THOUSAND_ENTRIES: &[&str] = &["wide 1000"];
 
 const THOUSAND_ENTRIES_CLEANED: &[&str] = &["wide 1000", "reclaim 9999", "clean 9999"];
 
+const THOUSAND_ENTRIES_RECLAIMED: &[&str] = &["wide 1000", "reclaim 9999"];
+
+const THOUSAND_ENTRIES_PREPARED: &[&str] = &["wide 1000", "reclaim 9999", "prepare 99"];
+
 const THOUSAND_FILES: &[&str] = &["flat 1000"];
 
 const FILE_OF_THOUSAND: &[&str] = &["flat 1000", "open /1999 7", "fill 1000"];
@@ -270,6 +274,12 @@ pub const MEASURES: &[Measure] = &[
         nodes: 33,
     },
     Measure {
+        name: "mkdir among 1,000 entries after preparing",
+        before: THOUSAND_ENTRIES_PREPARED,
+        call: "mkdir /a",
+        nodes: 33,
+    },
+    Measure {
         name: "mkdir below the first of 1,000 entries",
         before: THOUSAND_ENTRIES,
         call: "mkdir /1000/a",
@@ -369,6 +379,24 @@ pub const MEASURES: &[Measure] = &[
         name: "sync where the anchor is full",
         before: FULL_ANCHOR,
         call: "sync",
+        nodes: 0,
+    },
+    Measure {
+        name: "prepare of 4, where no block is prepared",
+        before: THOUSAND_ENTRIES_RECLAIMED,
+        call: "prepare 4",
+        nodes: 0,
+    },
+    Measure {
+        name: "prepare of 99, where no block is prepared",
+        before: THOUSAND_ENTRIES_RECLAIMED,
+        call: "prepare 99",
+        nodes: 0,
+    },
+    Measure {
+        name: "prepare of 99, where all 64 are prepared",
+        before: THOUSAND_ENTRIES_PREPARED,
+        call: "prepare 99",
         nodes: 0,
     },
 ];

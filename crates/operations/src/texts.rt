@@ -139,6 +139,10 @@ fn take_step(
         system.clean_step(budget as u64)?;
         return Ok(true);
     }
+    if let Some(budget) = number_after(line, "prepare ") {
+        system.prepare_step(budget as u64)?;
+        return Ok(true);
+    }
     Ok(false)
 }
 

@@ -6,7 +6,7 @@ use std::io;
 use std::io::{ErrorKind, Read, Write};
 use std::test::Fail;
 
-const LINES: [(&str, &str); 81] = [
+const LINES: [(&str, &str); 84] = [
     (
         "open /f 7",
         "Call(Open { path: Path { names: [Name { bytes: [102] }] }, flags: OpenFlags(7) })",
@@ -154,6 +154,9 @@ const LINES: [(&str, &str); 81] = [
     ("forgetfree", "Syntax"),
     ("reclaim 5", "ReclaimStep(5)"),
     ("clean 5", "CleanStep(5)"),
+    ("prepare 5", "PrepareStep(5)"),
+    ("prepare", "Syntax"),
+    ("prepare 5 5", "Syntax"),
     ("restart", "Restart"),
     (
         "fault 1 program-fail",

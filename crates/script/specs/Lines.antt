@@ -15,7 +15,7 @@ use Rattle.script.specs.Verbs.{verbs}
 use Rattle.script.specs.declared.verb.Verb.{Verb}
 use Rattle.script.specs.Words.{well_formed, number_from, text_from, data_from}
 use Rattle.script.specs.declared.line.Line.{Line}
-use Rattle.script.specs.declared.line.Line.TheVariants.{Call, ReclaimStep, CleanStep, Space, ForgetFree, Restart, PlanFault, Refused, Syntax}
+use Rattle.script.specs.declared.line.Line.TheVariants.{Call, ReclaimStep, CleanStep, PrepareStep, Space, ForgetFree, Restart, PlanFault, Refused, Syntax}
 use Rattle.script.specs.declared.misread.Misread.{Misread}
 use Rattle.script.specs.declared.misread.Misread.TheVariants.{Syntax as no_form, Refused as refused}
 use Rattle.script.specs.declared.views.NamedView.{NamedView}
@@ -249,6 +249,7 @@ asked Verb.Df words = alone (Call Df) words
 asked Verb.Space words = alone Space words
 asked Verb.Reclaim words = only_number words >>= λ budget. Ok (ReclaimStep budget)
 asked Verb.Clean words = only_number words >>= λ budget. Ok (CleanStep budget)
+asked Verb.Prepare words = only_number words >>= λ budget. Ok (PrepareStep budget)
 asked Verb.Restart words = alone Restart words
 asked Verb.PlanFault words = fault_line words
 

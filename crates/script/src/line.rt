@@ -27,6 +27,8 @@ pub enum Line {
     ReclaimStep(u64),
     /// A step of cleaning of at most this many blocks.
     CleanStep(u64),
+    /// A step of preparing of at most this many erases.
+    PrepareStep(u64),
     /// What each version and each checkpoint keeps.
     Space,
     /// The fewest of the oldest versions are to be forgotten that leave so many blocks free.
@@ -92,6 +94,7 @@ fn line_by_verb(alloc: Global, verb: Verb, words: &[&[u8]]) -> Result<Line, Misr
         Verb::Space => line_without_words(words, Line::Space),
         Verb::Reclaim => only_number(words).map(Line::ReclaimStep),
         Verb::Clean => only_number(words).map(Line::CleanStep),
+        Verb::Prepare => only_number(words).map(Line::PrepareStep),
         Verb::Restart => line_without_words(words, Line::Restart),
         Verb::PlanFault => fault(words),
     }

@@ -41,11 +41,12 @@ pub enum Verb {
     Space,
     Reclaim,
     Clean,
+    Prepare,
     Restart,
     PlanFault,
 }
 
-const VERBS: [(&[u8], Verb); 34] = [
+const VERBS: [(&[u8], Verb); 35] = [
     (b"open", Verb::Open),
     (b"close", Verb::Close),
     (b"pread", Verb::Pread),
@@ -78,6 +79,7 @@ const VERBS: [(&[u8], Verb); 34] = [
     (b"space", Verb::Space),
     (b"reclaim", Verb::Reclaim),
     (b"clean", Verb::Clean),
+    (b"prepare", Verb::Prepare),
     (b"restart", Verb::Restart),
     (b"fault", Verb::PlanFault),
 ];

@@ -40,11 +40,12 @@ use Rattle.script_runs.specs.declared.scripts.Refusal.{Refusal}
 use Rattle.script_runs.specs.declared.scripts.ScriptFault.{ScriptFault}
 use Rattle.script_runs.specs.declared.scripts.Stop.{Stop}
 
--- what a line asks for: a call, a step of reclaiming, a restart, or what the history holds
+-- what a line asks for: a call, a step of reclaiming, of cleaning or of preparing, a restart, or what the history holds
 abbrev pub ask_of : Line → Option Ask
 ask_of (Line.Call call) = Some (Ask.Event (Event.Call call))
 ask_of (Line.ReclaimStep budget) = Some (Ask.Event (Event.ReclaimStep budget))
 ask_of (Line.CleanStep budget) = Some (Ask.Event (Event.CleanStep budget))
+ask_of (Line.PrepareStep budget) = Some (Ask.Event (Event.PrepareStep budget))
 ask_of Line.Restart = Some (Ask.Event Event.Restart)
 ask_of Line.Space = Some Ask.Space
 ask_of (Line.ForgetFree blocks) = Some (Ask.ForgetFree blocks)

@@ -229,6 +229,9 @@ fn carry_out_on<F: Flash, P: Planning<F>>(
         Line::CleanStep(budget) => {
             ask::<F, P>(alloc, flash, system, Ask::Event(Event::CleanStep(budget)))
         }
+        Line::PrepareStep(budget) => {
+            ask::<F, P>(alloc, flash, system, Ask::Event(Event::PrepareStep(budget)))
+        }
         Line::Restart => ask::<F, P>(alloc, flash, system, Ask::Event(Event::Restart)),
         Line::Space => ask::<F, P>(alloc, flash, system, Ask::Space),
         Line::ForgetFree(blocks) => ask::<F, P>(alloc, flash, system, Ask::ForgetFree(blocks)),

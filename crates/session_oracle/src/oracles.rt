@@ -198,7 +198,7 @@ impl<'a> Oracle<'a> {
         }
         match event {
             Event::Call(call) => self.compare(alloc, call, answer),
-            Event::ReclaimStep(_) | Event::CleanStep(_) => {
+            Event::ReclaimStep(_) | Event::CleanStep(_) | Event::PrepareStep(_) => {
                 Ok(matches!(answer, Answer::Done(Reply::Step(_))))
             }
             Event::Restart => Ok(false),
@@ -235,7 +235,7 @@ impl<'a> Oracle<'a> {
                 Ok(true)
             }
             (Fault::ReadFailed, _) => Ok(true),
-            (_, Event::CleanStep(_)) => Ok(fault == Fault::ReadOnly),
+            (_, Event::CleanStep(_) | Event::PrepareStep(_)) => Ok(fault == Fault::ReadOnly),
             (_, Event::Call(call)) => {
                 let (refusal, is_change) = try_call(alloc, &mut self.machine, call)?;
                 self.machine = replay_all(alloc, &self.beginning, &self.steps)?;

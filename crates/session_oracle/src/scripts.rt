@@ -91,6 +91,7 @@ pub fn ask_of(alloc: Global, line: &str) -> Result<Option<Ask>, Fault> {
         Line::Call(call) => Some(Ask::Event(Event::Call(call))),
         Line::ReclaimStep(budget) => Some(Ask::Event(Event::ReclaimStep(budget))),
         Line::CleanStep(budget) => Some(Ask::Event(Event::CleanStep(budget))),
+        Line::PrepareStep(budget) => Some(Ask::Event(Event::PrepareStep(budget))),
         Line::Space => Some(Ask::Space),
         Line::ForgetFree(blocks) => Some(Ask::ForgetFree(blocks)),
         _ => None,

@@ -198,6 +198,7 @@ fn serve_event<F: Flash>(alloc: Global, system: &mut Fs<'_, F>, event: &Event) -
         Event::Call(call) => answer_of(system.call(alloc, call)),
         Event::ReclaimStep(budget) => answer_of_step(system.reclaim_step(alloc, *budget)),
         Event::CleanStep(budget) => answer_of_step(system.clean_step(*budget)),
+        Event::PrepareStep(budget) => answer_of_step(system.prepare_step(*budget)),
         Event::Restart => Answer::Unmounted,
     }
 }

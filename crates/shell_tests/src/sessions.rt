@@ -15,6 +15,7 @@ fn event_of(alloc: Global, line: &str) -> Result<Event, Fault> {
         Line::Call(call) => Ok(Event::Call(call)),
         Line::ReclaimStep(budget) => Ok(Event::ReclaimStep(budget)),
         Line::CleanStep(budget) => Ok(Event::CleanStep(budget)),
+        Line::PrepareStep(budget) => Ok(Event::PrepareStep(budget)),
         Line::Restart => Ok(Event::Restart),
         _ => Err(Fault::Invalid),
     }

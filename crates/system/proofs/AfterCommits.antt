@@ -30,7 +30,7 @@ use Rattle.commit_pair.specs.Parts.{greatest_on}
 use Rattle.commit_pair.specs.Committing.{Commits}
 use Rattle.commit_pair.specs.Reading.{IsEnd}
 use Rattle.commit_pair.specs.Newest.{remembered}
-use Rattle.commit_pair.specs.Remembering.{KnowsNewest, MayCommit}
+use Rattle.commit_pair.specs.Remembering.{IsErasedBeside, KnowsNewest, MayCommit}
 use Rattle.working_state.specs.Seen.{machine_on}
 use Rattle.working_state.specs.Steps.{is_cut_answer}
 use Rattle.working_state.specs.Mounted.{IsStanding, IsMounted}
@@ -55,7 +55,7 @@ knows d bad anchors k = on (remembered anchors) refl k.some
   where
     on : (o : Option Found) → remembered anchors ≡ o → is_some o ≡ true → KnowsNewest d bad anchors
     on None is none = absurd (true≢false (sym none))
-    on (Some found) is some = record { found = found; here = is; place = k.place ∙ is; end = k.end found is }
+    on (Some found) is some = record { found = found; here = is; place = k.place ∙ is; end = k.end found is; prepared = k.prepared found is }
 
 same_found : (a b : Found) → Some a ≡ Some b → a ≡ b
 same_found a b e = cc
@@ -66,6 +66,7 @@ known d bad anchors k = record {
   place = k.place ∙ sym k.here;
   end = λ found here. subst (λ (x : Found). set.contains bad (x.page / d.geometry.pages) ≡ false → IsEnd d.geometry d.pages (x.page / d.geometry.pages) d.geometry.pages anchors.end)
       (same_found k.found found (sym k.here ∙ here)) k.end;
+  prepared = λ found here. subst (IsErasedBeside d bad anchors) (same_found k.found found (sym k.here ∙ here)) k.prepared;
 }
 
 -- where a commit may follow and a place is remembered, it is the newest record's

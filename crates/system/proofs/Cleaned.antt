@@ -27,7 +27,6 @@ use Rattle.block_trees.specs.Reached.{Reached}
 use Rattle.block_trees.specs.Trees.{IsRoot, root_tree}
 use Rattle.block_trees.proofs.Frames.{frame_law}
 use Rattle.block_cleaning.specs.Cleaning.{CleanEnds, CleansBlocks, ErasesFree, is_free}
-use Rattle.block_cleaning.specs.Preparing.{PreparesBlocks, preparation}
 use Rattle.block_cleaning.proofs.Preparing.{looked_frees}
 use Rattle.reclaim.specs.Passes.{Pass}
 use Rattle.reclaim.specs.Verified.{AreRoots}
@@ -35,6 +34,7 @@ use Rattle.reclaim.proofs.Marking.{reached_back}
 use Rattle.record_format.specs.declared.record.Record.{Record}
 use Rattle.commit_pair.specs.Newest.{remembered}
 use Rattle.commit_pair.proofs.NewestLaws.{only_anchors_matter}
+use Rattle.commit_pair.proofs.Preparing.{anchors_keep}
 use Rattle.commit_pair.proofs.Beginning.{still_may_commit}
 use Rattle.working_state.specs.Roots.{HasRoot}
 use Rattle.working_state.specs.Seen.{capacity_of, tree_on, machine_on}
@@ -47,8 +47,7 @@ use Rattle.mounting.specs.Records.{history_of, roots_of, trees_of}
 use Rattle.mounting.specs.Saved.{saved_on, saved_trees, IsWholeRecord}
 use Rattle.mounting.proofs.PlainRoots.{plain_stays}
 use Rattle.mounting.proofs.Loading.{contains_front, contains_back}
-use Rattle.system.specs.Cleaning.{Cleans, IsUndisturbed, StepCleans, TellsRound}
-use Rattle.system.specs.Preparing.{PreparesAhead, StepPrepares, preparation_on}
+use Rattle.system.specs.Cleaning.{Cleans, IsUndisturbed, LeavesAnchors, StepCleans, TellsRound}
 use Rattle.system.specs.Systems.{IsSystem, IsRunning, MustStay}
 use Rattle.system.specs.declared.systems.System.{System}
 use Rattle.system.proofs.AfterCommits.{knows, known, is_newest, not_none}
@@ -219,10 +218,10 @@ module _ (d e : Device) (m : System) (t : Storage) (s : IsSystem d m) (on : m.st
       ring = erases.ring;
       pass = refl;
       record_roots = refl;
-      anchors = refl;
+      remembered = refl;
       room = erases.fits.same_room;
       busy_pages = busy_page;
-      anchor_pages = anchor_page;
+      newest = anchors_keep d.geometry d.pages e.pages anchor_page;
       kept = λ p reached. used_page p ((s.mounted.roots reached.0 reached.1).held reached.0 refl (block_of d p) reached.2);
       record_kept = λ r is p reached. used_page p (record_used r is (block_of d p) reached);
       saved = same_trees;
@@ -245,35 +244,22 @@ module _ (d e : Device) (m : System) (t : Storage) (budget : ℕ) (ended : Resul
   pub round_undisturbed : IsUndisturbed d m e (with_cleaned m t to m.prepared)
   round_undisturbed = is_undisturbed d e m t s on frees to m.prepared refl
 
+  pub round_leaves : LeavesAnchors d m e (with_cleaned m t to m.prepared)
+  round_leaves = record { anchors = refl; pages = anchor_page d e m t s on frees }
+
   pub round_cleans : (result : Result Bool Fault) (read_only : Bool) → read_only ≡ false → read_only ≡ is_read_only m.state.storage.bad → TellsRound ended result to → StepCleans d m budget result e (with_cleaned m t to m.prepared)
   round_cleans result read_only writable same tells = record {
     read_only = λ is. absurd (both_ways read_only writable (same ∙ is));
     goes_on = λ _. record { ended = ended; cleans = cleans; tells = tells };
   }
 
--- ---- blocks that were prepared
-
-module _ (d e : Device) (m : System) (t : Storage) (prepared : BlockSet) (budget : ℕ) (result : Result Bool Fault) (s : IsSystem d m) (on : m.state.is_off ≡ false)
-    (prepares : PreparesBlocks (preparation_on d m) budget result (preparation e t prepared)) where
-  pub prepared_system : IsSystem e (with_cleaned m t m.cleaned_to prepared)
-  prepared_system = cleaned_system d e m t s on prepares.erases m.cleaned_to prepared prepares.blocks
-
-  pub prepared_undisturbed : IsUndisturbed d m e (with_cleaned m t m.cleaned_to prepared)
-  prepared_undisturbed = is_undisturbed d e m t s on prepares.erases m.cleaned_to prepared prepares.blocks
-
-  pub prepared_step : is_read_only m.state.storage.bad ≡ false → StepPrepares d m budget result e (with_cleaned m t m.cleaned_to prepared)
-  prepared_step writable = record {
-    read_only = λ is. absurd (both_ways (is_read_only m.state.storage.bad) writable is);
-    prepares = λ _. prepares;
-  }
-
 -- ---- the power
 
 module _ (d e : Device) (m n : System) (off : Bool) where
-  abbrev turned : System
+  abbrev pub turned : System
   turned = record n { state = record n.state { is_off = off } }
 
-  undisturbed_still : IsUndisturbed d m e n → IsUndisturbed d m e turned
+  pub undisturbed_still : IsUndisturbed d m e n → IsUndisturbed d m e turned
   undisturbed_still u = record {
     device = u.device;
     history = u.history;
@@ -282,10 +268,10 @@ module _ (d e : Device) (m n : System) (off : Bool) where
     ring = u.ring;
     pass = u.pass;
     record_roots = u.record_roots;
-    anchors = u.anchors;
+    remembered = u.remembered;
     room = u.room;
     busy_pages = u.busy_pages;
-    anchor_pages = u.anchor_pages;
+    newest = u.newest;
     kept = u.kept;
     record_kept = u.record_kept;
     saved = u.saved;
@@ -319,7 +305,7 @@ cut_off d m budget (Err PowerCut) e n step cut = by (is_read_only m.state.storag
 cut_off d m budget (Err _) e n step cut = absurd (true≢false (sym cut))
 
 -- it leaves a system
-module _ (d e : Device) (m n : System) (budget : ℕ) (answer : Result Bool Fault) (on : m.state.is_off ≡ false) (system : IsSystem e n) (still_on : n.state.is_off ≡ false) (u : IsUndisturbed d m e n)
+module _ (d e : Device) (m n : System) (budget : ℕ) (answer : Result Bool Fault) (on : m.state.is_off ≡ false) (system : IsSystem e n) (still_on : n.state.is_off ≡ false) (u : IsUndisturbed d m e n) (leaves : LeavesAnchors d m e n)
     (unprepared : n.prepared ≡ m.prepared) (step : StepCleans d m budget answer e n) where
   abbrev off : Bool
   off = n.state.is_off || is_cut_answer answer
@@ -334,45 +320,9 @@ module _ (d e : Device) (m n : System) (budget : ℕ) (answer : Result Bool Faul
         power_system e n off system still_on is_dark,
         record {
           undisturbed = undisturbed_still d e m n off u;
+          anchors = record { anchors = leaves.anchors; pages = leaves.pages };
           prepared = unprepared;
           cleans = λ _. step_still d e m n off budget answer step;
-          off = ap (λ (x : Bool). x || is_cut_answer answer) (still_on ∙ sym on);
-          stopped = λ stopped. absurd (both_ways m.state.is_off on stopped);
-        },
-      ))
-
--- ---- the same of a step that prepares
-
-prepare_cut : (d : Device) (m : System) (budget : ℕ) (result : Result Bool Fault) (e : Device) (n : System) → StepPrepares d m budget result e n → is_cut_answer result ≡ true → e.powered ≡ false
-prepare_cut d m budget (Ok done) e n step cut = absurd (true≢false (sym cut))
-prepare_cut d m budget (Err PowerCut) e n step cut = by (is_read_only m.state.storage.bad) refl
-  where
-    by : (x : Bool) → is_read_only m.state.storage.bad ≡ x → e.powered ≡ false
-    by true read_only = let wrong : Err PowerCut ≡ Err ReadOnly = (step.read_only read_only).0 in absurd cc
-    by false writable = (step.prepares writable).ends.5
-prepare_cut d m budget (Err _) e n step cut = absurd (true≢false (sym cut))
-
-module _ (d e : Device) (m n : System) (budget : ℕ) (answer : Result Bool Fault) (on : m.state.is_off ≡ false) (system : IsSystem e n) (still_on : n.state.is_off ≡ false) (u : IsUndisturbed d m e n)
-    (uncleaned : n.cleaned_to ≡ m.cleaned_to) (step : StepPrepares d m budget answer e n) where
-  abbrev off_then : Bool
-  off_then = n.state.is_off || is_cut_answer answer
-
-  went_dark : off_then ≡ true → e.powered ≡ false
-  went_dark dark = prepare_cut d m budget answer e n step (sym (ap (λ (x : Bool). x || is_cut_answer answer) still_on) ∙ dark)
-
-  still_prepares : StepPrepares d m budget answer e (turned d e m n off_then)
-  still_prepares = record { read_only = step.read_only; prepares = step.prepares }
-
-  pub prepared_ahead : (t : State) (result : Result Bool Fault) → t ≡ record n.state { is_off = off_then } → result ≡ answer
-      → IsSystem e (record n { state = t }) × PreparesAhead d m budget result e (record n { state = t })
-  prepared_ahead t result is same =
-      subst (λ (r : Result Bool Fault). IsSystem e (record n { state = t }) × PreparesAhead d m budget r e (record n { state = t })) (sym same)
-      (subst (λ (v : State). IsSystem e (record n { state = v }) × PreparesAhead d m budget answer e (record n { state = v })) (sym is) (
-        power_system e n off_then system still_on went_dark,
-        record {
-          undisturbed = undisturbed_still d e m n off_then u;
-          cleaned_to = uncleaned;
-          prepares = λ _. still_prepares;
           off = ap (λ (x : Bool). x || is_cut_answer answer) (still_on ∙ sym on);
           stopped = λ stopped. absurd (both_ways m.state.is_off on stopped);
         },

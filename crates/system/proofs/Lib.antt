@@ -24,3 +24,5 @@ pub mod LooksAsDf
 pub mod SpaceLaws
 pub mod ToldBefore
 pub mod Cleaned
+pub mod NextAnchor
+pub mod Prepared

@@ -18,7 +18,8 @@ use Rattle.commit_pair.specs.declared.anchors.Anchors.{Anchors}
 use Rattle.commit_pair.specs.declared.best.Found.{Found}
 use Rattle.commit_pair.specs.Parts.{RecordBytes, parts_on, newest_at, newest_on, payload_of}
 use Rattle.commit_pair.specs.Laws.{HasNone}
-use Rattle.commit_pair.specs.Newest.{IsUncleared, committed_on}
+use Rattle.commit_pair.specs.Drafts.{IsBlankFrom}
+use Rattle.commit_pair.specs.Newest.{IsUncleared, committed_on, prepared_anchor}
 use Rattle.commit_pair.specs.Reading.{IsEnd}
 use Rattle.commit_pair.specs.Remembering.{MayCommit, KnowsNewest}
 use Rattle.commit_pair.proofs.Committed.{committed_wants}
@@ -72,6 +73,7 @@ knows_on d e bad known reads k =
       here = k.here;
       place = (λ i. newest_at (sizes i) (parts_on (sizes i) (pages i))) ∙ k.place;
       end = subst (λ (x : Geometry × (ℕ → Page)). set.contains bad (k.found.page / x.0.pages) ≡ false → IsEnd x.0 x.1 (k.found.page / x.0.pages) x.0.pages known.end) (λ i. (sym sizes i, sym pages i)) k.end;
+      prepared = subst (λ (x : Geometry × (ℕ → Page)). (b : ℕ) → prepared_anchor known ≡ Some b → (b ≢ k.found.page / x.0.pages) × IsBlankFrom x.0 x.1 bad b 0) (λ i. (sym sizes i, sym pages i)) k.prepared;
     }
 
 pub not_none : (o : Option Record) (r : Record) → o ≡ Some r → o ≢ None

@@ -14,6 +14,7 @@ use Rattle.commit_pair.specs.declared.best.Found.{Found}
 use Rattle.commit_pair.specs.Parts.{parts_on, newest_at}
 use Rattle.commit_pair.specs.Newest.{remembered}
 use Rattle.commit_pair.specs.Reading.{IsEnd}
+use Rattle.commit_pair.specs.Remembering.{IsErasedBeside}
 use Rattle.working_state.specs.Mounted.{IsStanding, IsMounted}
 use Rattle.working_state.specs.OpenBodies.{KnowsBodies}
 use Rattle.working_state.specs.Roots.{IsReached}
@@ -21,12 +22,14 @@ use Rattle.mounting.specs.Records.{history_of, roots_of}
 use Rattle.mounting.specs.Saved.{saved_on}
 use Rattle.system.specs.declared.systems.System.{System}
 
--- the place of the newest record is remembered, and, while its anchor is not bad, where that ends
+-- the place of the newest record is remembered, and, while its anchor is not bad, where that ends; and the anchor that
+-- was erased ahead, if one was
 pub record IsKnown (d : Device) (bad : set.FinSet nat_cmp) (anchors : Anchors) : Type 0 where
   pub some : is_some (remembered anchors) ≡ true
   pub place : newest_at d.geometry (parts_on d.geometry d.pages) ≡ remembered anchors
   pub end : (found : Found) → remembered anchors ≡ Some found → set.contains bad (found.page / d.geometry.pages) ≡ false
       → IsEnd d.geometry d.pages (found.page / d.geometry.pages) d.geometry.pages anchors.end
+  pub prepared : (found : Found) → remembered anchors ≡ Some found → IsErasedBeside d bad anchors found
 
 -- a version or a checkpoint reaches this block, of the working history or of the newest record, or the group that
 -- is open

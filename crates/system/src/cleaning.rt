@@ -1,6 +1,6 @@
 //! Free blocks are erased in steps, before a write takes them.
 ghost use Rattle.std.specs.Prelude.{◌≡◌, true, false};
-ghost use Rattle.system.specs.Cleaning.{Cleans, IsUndisturbed, StepCleans};
+ghost use Rattle.system.specs.Cleaning.{Cleans, IsUndisturbed, LeavesAnchors, StepCleans};
 ghost use Rattle.system.specs.Systems.{IsSystem};
 
 use crate::systems::System;
@@ -36,6 +36,7 @@ impl System {
         ensures system { IsSystem (F.device flash.new) self.new }
         ensures is_on { self.new.state.is_off ≡ false }
         ensures undisturbed { IsUndisturbed (F.device flash.old) self.old (F.device flash.new) self.new }
+        ensures anchors { LeavesAnchors (F.device flash.old) self.old (F.device flash.new) self.new }
         ensures prepared { self.new.prepared ≡ self.old.prepared }
         ensures cleans { StepCleans (F.device flash.old) self.old budget result (F.device flash.new) self.new }
     {

@@ -75,6 +75,14 @@ found_stays past w m (Event.CleanStep budget ∷ events) (Answer.Refused fault �
     (found_stays past between m events answers v (here.after, here.is, here.step.undisturbed.machine ∙ shown w m here.before is here.was) same there each calls rest h has)
 found_stays past w m (Event.CleanStep budget ∷ events) (Answer.Mounted ∷ answers) v is same there each calls (between, here, rest) h has = absurd here
 found_stays past w m (Event.CleanStep budget ∷ events) (Answer.Unmounted ∷ answers) v is same there each calls (between, here, rest) h has = absurd (not_both w is.0 is.1 here.0)
+found_stays past w m (Event.PrepareStep budget ∷ events) (Answer.Done reply ∷ answers) v is same there each calls (between, here, rest) h has =
+    subst (λ (x : List (Past Tree)). IsOld x past h) here.2.found
+    (found_stays past between m events answers v (here.2.after, here.2.is, here.2.step.undisturbed.machine ∙ shown w m here.2.before is here.2.was) same there each calls rest h has)
+found_stays past w m (Event.PrepareStep budget ∷ events) (Answer.Refused fault ∷ answers) v is same there each calls (between, here, rest) h has =
+    subst (λ (x : List (Past Tree)). IsOld x past h) here.found
+    (found_stays past between m events answers v (here.after, here.is, here.step.undisturbed.machine ∙ shown w m here.before is here.was) same there each calls rest h has)
+found_stays past w m (Event.PrepareStep budget ∷ events) (Answer.Mounted ∷ answers) v is same there each calls (between, here, rest) h has = absurd here
+found_stays past w m (Event.PrepareStep budget ∷ events) (Answer.Unmounted ∷ answers) v is same there each calls (between, here, rest) h has = absurd (not_both w is.0 is.1 here.0)
 found_stays past w m (Event.Restart ∷ events) (answer ∷ answers) v is same there each calls run h has = absurd calls
 
 -- what a restart may find after `begin`

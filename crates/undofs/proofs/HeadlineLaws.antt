@@ -19,7 +19,7 @@ use Rattle.mounting.specs.Records.{trees_of, HasTrees}
 use Rattle.record_format.specs.declared.record.Record.{Record}
 use Rattle.system.specs.Systems.{IsSystem}
 use Rattle.system.specs.declared.systems.System.{System}
-use Rattle.undofs.specs.Runs.{World, Shows, Happens, ReclaimsOn, CleansOn, Mounts, Run, NoneRestarts, accepted}
+use Rattle.undofs.specs.Runs.{World, Shows, Happens, ReclaimsOn, CleansOn, PreparesOn, Mounts, Run, NoneRestarts, accepted}
 use Rattle.undofs.specs.Headline.{Accepts, Answers, CarriesOut, GivesBack, HeadlineLaw, SoundHeadlineLaw, FormattedLaw}
 use Rattle.undofs.proofs.RedoBetween.{redo_between}
 use Rattle.undofs.proofs.CourseLaws.{course_law}
@@ -40,6 +40,10 @@ reclaim_shows w v m budget result is here = (here.after, here.is, here.step.stay
 -- and so does a step of cleaning
 clean_shows : (w v : World) (m : Machine) (budget : ℕ) (result : Result Bool Fault) → Shows w m → CleansOn w budget result v → Shows v m
 clean_shows w v m budget result is here = (here.after, here.is, here.step.undisturbed.machine ∙ shown w m here.before is here.was)
+
+-- and of preparing
+prepare_shows : (w v : World) (m : Machine) (budget : ℕ) (result : Result Bool Fault) → Shows w m → PreparesOn w budget result v → Shows v m
+prepare_shows w v m budget result is here = (here.after, here.is, here.step.undisturbed.machine ∙ shown w m here.before is here.was)
 
 shows_after : (w : World) (m : Machine) (events : List Event) (answers : List Answer) (v : World) → Shows w m → NoneRestarts events → Run w events answers v → Shows v (after m (accepted events answers))
 shows_after w m [] [] v is calls run = subst (λ (x : World). Shows x m) (sym run) is
@@ -64,6 +68,12 @@ shows_after w m (Event.CleanStep budget ∷ events) (Answer.Refused fault ∷ an
     shows_after between m events answers v (clean_shows w between m budget (Err fault) is here) calls rest
 shows_after w m (Event.CleanStep budget ∷ events) (Answer.Mounted ∷ answers) v is calls (between, here, rest) = absurd here
 shows_after w m (Event.CleanStep budget ∷ events) (Answer.Unmounted ∷ answers) v is calls (between, here, rest) = absurd (not_both w is.0 is.1 here.0)
+shows_after w m (Event.PrepareStep budget ∷ events) (Answer.Done reply ∷ answers) v is calls (between, here, rest) =
+    shows_after between m events answers v (prepare_shows w between m budget (Ok here.0) is here.2) calls rest
+shows_after w m (Event.PrepareStep budget ∷ events) (Answer.Refused fault ∷ answers) v is calls (between, here, rest) =
+    shows_after between m events answers v (prepare_shows w between m budget (Err fault) is here) calls rest
+shows_after w m (Event.PrepareStep budget ∷ events) (Answer.Mounted ∷ answers) v is calls (between, here, rest) = absurd here
+shows_after w m (Event.PrepareStep budget ∷ events) (Answer.Unmounted ∷ answers) v is calls (between, here, rest) = absurd (not_both w is.0 is.1 here.0)
 shows_after w m (Event.Restart ∷ events) (answer ∷ answers) v is calls run = absurd calls
 
 pub answers_after : (w v : World) (m : Machine) (calls : List Call) → Shows w m → Answers w calls v → Shows v (after m calls)
@@ -158,6 +168,10 @@ holds_on w (event ∷ events) (answer ∷ answers) v holds (between, here, rest)
     next_holds (Event.CleanStep budget) (Answer.Refused fault) here = λ s is. the_system between here.after s here.is here.mounted is
     next_holds (Event.CleanStep budget) Answer.Mounted here = absurd here
     next_holds (Event.CleanStep budget) Answer.Unmounted here = subst Holds (sym here.1) holds
+    next_holds (Event.PrepareStep budget) (Answer.Done reply) here = λ s is. the_system between here.2.after s here.2.is here.2.mounted is
+    next_holds (Event.PrepareStep budget) (Answer.Refused fault) here = λ s is. the_system between here.after s here.is here.mounted is
+    next_holds (Event.PrepareStep budget) Answer.Mounted here = absurd here
+    next_holds (Event.PrepareStep budget) Answer.Unmounted here = subst Holds (sym here.1) holds
     next_holds Event.Restart (Answer.Done reply) here = absurd here
     next_holds Event.Restart (Answer.Refused fault) here = λ s is. absurd (not_both between s is here.0)
     next_holds Event.Restart Answer.Mounted here = λ s is. the_system between here.system s here.is here.mounted is

@@ -28,14 +28,15 @@ use Rattle.working_state.specs.Steps.{is_sync}
 use Rattle.system.specs.Steps.{SystemStep}
 use Rattle.mounting.specs.Records.{trees_of, HasTrees}
 use Rattle.system.specs.Mounts.{IsMountOf, MountCause}
-use Rattle.system.specs.Cleaning.{Cleans}
+use Rattle.system.specs.Cleaning.{Cleans, IsUndisturbed}
+use Rattle.system.specs.Preparing.{PreparesAhead}
 use Rattle.system.specs.Reclaiming.{Reclaims}
 use Rattle.mounting.specs.Saved.{record_in, saved_on, saved_trees, IsWholeRecord}
 use Rattle.system.specs.Systems.{IsSystem}
 use Rattle.system.specs.declared.systems.System.{System}
 use Rattle.system.proofs.SameRecords.{still_saved, same_trees, still_whole}
 use Rattle.system.proofs.Syncs.{sync_syncs, fsync_syncs}
-use Rattle.undofs.specs.Runs.{Shows, IsSaved, found_after, ReclaimsOn, CleansOn, put_on, MayRefuseMount, Mounts, Happens, Run}
+use Rattle.undofs.specs.Runs.{Shows, IsSaved, found_after, ReclaimsOn, CleansOn, PreparesOn, put_on, MayRefuseMount, Mounts, Happens, Run}
 use Rattle.undofs.specs.Sessions.{IsSound, Stands, world, Starts, Serves, AreServed, IsServed, ServeLaw, IsSession}
 use Rattle.undofs.proofs.RunLaws.{shown, refused_keeps}
 
@@ -166,26 +167,38 @@ step_leads d m budget (Ok done) e n found step system stands =
 step_leads d m budget (Err fault) e n found step system stands =
     (found, step_happens d m budget e n found stands (Err fault) step system, step_stands d m budget e n found stands (Err fault) step system)
 
+-- ---- after a step that disturbs nothing
+
+module _ (d : Device) (m : System) (e : Device) (n : System) (found : List (Past Tree)) (stands : Stands (world d (Some m) found)) (undisturbed : IsUndisturbed d m e n) where
+  undisturbed_saved : IsSaved e found
+  undisturbed_saved = record {
+    history = stands.saved.history;
+    saved = undisturbed.saved ∙ stands.saved.saved;
+    among = stands.saved.among;
+    whole = undisturbed.whole stands.saved.whole;
+  }
+
+  undisturbed_stands : IsSystem e n → Stands (world e (Some n) found)
+  undisturbed_stands system = record {
+    lawful = system.mounted.lawful;
+    saved = undisturbed_saved;
+    shown = shows_system e n found (subst (λ (x : Machine). Contains found x.history) (sym undisturbed.machine) (stands.shown (machine_on d m.state) (m, refl, refl)));
+  }
+
 -- ---- after a step of cleaning
 
-module _ (d : Device) (m : System) (budget : ℕ) (e : Device) (n : System) (found : List (Past Tree)) (stands : Stands (world d (Some m) found)) where
-  clean_saved : (result : Result Bool Fault) → Cleans d m budget result e n → IsSaved e found
-  clean_saved result step = record {
-    history = stands.saved.history;
-    saved = step.undisturbed.saved ∙ stands.saved.saved;
-    among = stands.saved.among;
-    whole = step.undisturbed.whole stands.saved.whole;
-  }
-
-  clean_happens : (result : Result Bool Fault) → Cleans d m budget result e n → IsSystem e n → CleansOn (world d (Some m) found) budget result (world e (Some n) found)
-  clean_happens result step system = record { before = m; after = n; was = refl; is = refl; step = step; mounted = system; found = refl; saved = clean_saved result step }
-
-  clean_stands : (result : Result Bool Fault) → Cleans d m budget result e n → IsSystem e n → Stands (world e (Some n) found)
-  clean_stands result step system = record {
-    lawful = system.mounted.lawful;
-    saved = clean_saved result step;
-    shown = shows_system e n found (subst (λ (x : Machine). Contains found x.history) (sym step.undisturbed.machine) (stands.shown (machine_on d m.state) (m, refl, refl)));
-  }
+clean_happens : (d : Device) (m : System) (budget : ℕ) (result : Result Bool Fault) (e : Device) (n : System) (found : List (Past Tree)) → Cleans d m budget result e n → IsSystem e n
+    → Stands (world d (Some m) found) → CleansOn (world d (Some m) found) budget result (world e (Some n) found)
+clean_happens d m budget result e n found step system stands = record {
+  before = m;
+  after = n;
+  was = refl;
+  is = refl;
+  step = step;
+  mounted = system;
+  found = refl;
+  saved = undisturbed_saved d m e n found stands step.undisturbed;
+}
 
 pub clean_serves : (d : Device) (m : System) (budget : ℕ) (result : Result Bool Fault) (e : Device) (n : System) → Cleans d m budget result e n → IsSystem e n
     → Serves d (Some m) (Event.CleanStep budget) (step_answer result) e (Some n)
@@ -195,9 +208,36 @@ clean_serves d m budget (Err fault) e n step system = record { before = m; after
 clean_leads : (d : Device) (m : System) (budget : ℕ) (result : Result Bool Fault) (e : Device) (n : System) (found : List (Past Tree)) → Cleans d m budget result e n → IsSystem e n
     → Stands (world d (Some m) found) → Leads d (Some m) (Event.CleanStep budget) (step_answer result) e (Some n) found
 clean_leads d m budget (Ok done) e n found step system stands =
-    (found, (done, refl, clean_happens d m budget e n found stands (Ok done) step system), clean_stands d m budget e n found stands (Ok done) step system)
+    (found, (done, refl, clean_happens d m budget (Ok done) e n found step system stands), undisturbed_stands d m e n found stands step.undisturbed system)
 clean_leads d m budget (Err fault) e n found step system stands =
-    (found, clean_happens d m budget e n found stands (Err fault) step system, clean_stands d m budget e n found stands (Err fault) step system)
+    (found, clean_happens d m budget (Err fault) e n found step system stands, undisturbed_stands d m e n found stands step.undisturbed system)
+
+-- ---- after a step of preparing
+
+prepare_happens : (d : Device) (m : System) (budget : ℕ) (result : Result Bool Fault) (e : Device) (n : System) (found : List (Past Tree)) → PreparesAhead d m budget result e n → IsSystem e n
+    → Stands (world d (Some m) found) → PreparesOn (world d (Some m) found) budget result (world e (Some n) found)
+prepare_happens d m budget result e n found step system stands = record {
+  before = m;
+  after = n;
+  was = refl;
+  is = refl;
+  step = step;
+  mounted = system;
+  found = refl;
+  saved = undisturbed_saved d m e n found stands step.undisturbed;
+}
+
+pub prepare_serves : (d : Device) (m : System) (budget : ℕ) (result : Result Bool Fault) (e : Device) (n : System) → PreparesAhead d m budget result e n → IsSystem e n
+    → Serves d (Some m) (Event.PrepareStep budget) (step_answer result) e (Some n)
+prepare_serves d m budget (Ok done) e n step system = (done, refl, record { before = m; after = n; was = refl; is = refl; step = step; mounted = system })
+prepare_serves d m budget (Err fault) e n step system = record { before = m; after = n; was = refl; is = refl; step = step; mounted = system }
+
+prepare_leads : (d : Device) (m : System) (budget : ℕ) (result : Result Bool Fault) (e : Device) (n : System) (found : List (Past Tree)) → PreparesAhead d m budget result e n → IsSystem e n
+    → Stands (world d (Some m) found) → Leads d (Some m) (Event.PrepareStep budget) (step_answer result) e (Some n) found
+prepare_leads d m budget (Ok done) e n found step system stands =
+    (found, (done, refl, prepare_happens d m budget (Ok done) e n found step system stands), undisturbed_stands d m e n found stands step.undisturbed system)
+prepare_leads d m budget (Err fault) e n found step system stands =
+    (found, prepare_happens d m budget (Err fault) e n found step system stands, undisturbed_stands d m e n found stands step.undisturbed system)
 
 -- ---- after a mount
 
@@ -343,6 +383,14 @@ serve_law d e s t (Event.CleanStep budget) (Answer.Refused fault) found h stands
     on_systems d e s t (Event.CleanStep budget) (Answer.Refused fault) found h.before h.after h.was h.is (clean_leads d h.before budget (Err fault) e h.after found h.step h.mounted) stands
 serve_law d e s t (Event.CleanStep budget) Answer.Mounted found h stands = absurd h
 serve_law d e s t (Event.CleanStep budget) Answer.Unmounted found (none, device, system) stands =
+    let same = same_world d e s t found device system in (found, (none, same), subst Stands (sym same) stands)
+serve_law d e s t (Event.PrepareStep budget) (Answer.Done reply) found (done, is, h) stands =
+    subst (λ (x : Reply). Leads d s (Event.PrepareStep budget) (Answer.Done x) e t found) (sym is)
+    (on_systems d e s t (Event.PrepareStep budget) (Answer.Done (Reply.Step done)) found h.before h.after h.was h.is (prepare_leads d h.before budget (Ok done) e h.after found h.step h.mounted) stands)
+serve_law d e s t (Event.PrepareStep budget) (Answer.Refused fault) found h stands =
+    on_systems d e s t (Event.PrepareStep budget) (Answer.Refused fault) found h.before h.after h.was h.is (prepare_leads d h.before budget (Err fault) e h.after found h.step h.mounted) stands
+serve_law d e s t (Event.PrepareStep budget) Answer.Mounted found h stands = absurd h
+serve_law d e s t (Event.PrepareStep budget) Answer.Unmounted found (none, device, system) stands =
     let same = same_world d e s t found device system in (found, (none, same), subst Stands (sym same) stands)
 serve_law d e s t Event.Restart answer found h stands =
     start_leads (put_on d) e t answer found h stands.lawful (stays_saved d (put_on d) stands.lawful refl (λ p. refl) found stands.saved)

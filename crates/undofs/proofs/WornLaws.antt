@@ -20,14 +20,14 @@ use Rattle.commit_pair.proofs.Beginning.{committed_is_newest}
 use Rattle.commit_pair.proofs.NewestLaws.{only_anchors_matter}
 use Rattle.working_state.specs.Steps.{is_sync}
 use Rattle.system.specs.Commits.{record_on, Saves, TriesOnce}
-use Rattle.system.specs.Cleaning.{Cleans}
+use Rattle.system.specs.Cleaning.{IsUndisturbed}
 use Rattle.system.specs.Reclaiming.{Reclaims}
 use Rattle.system.specs.Rooms.{MarksAnew, LacksCommit}
 use Rattle.mounting.specs.Saved.{record_in, saved_on}
 use Rattle.system.specs.Steps.{SystemStep, TriesTwice}
 use Rattle.system.specs.declared.systems.System.{System}
 use Rattle.system.proofs.Committed.{same_saved}
-use Rattle.undofs.specs.Runs.{World, put_on, Calls, ReclaimsOn, CleansOn, Mounts, Happens, Run}
+use Rattle.undofs.specs.Runs.{World, put_on, Calls, ReclaimsOn, CleansOn, PreparesOn, Mounts, Happens, Run}
 use Rattle.undofs.specs.Worn.{AreWorn, RecordListsWorn, SystemListsWorn, WornLaw}
 use Rattle.undofs.proofs.RunLaws.{not_both}
 
@@ -168,17 +168,19 @@ reclaimed_worn : (w : World) (budget : ℕ) (result : Result Bool Fault) (v : Wo
 reclaimed_worn w budget result v here worn =
     with_system v here.after here.is (reclaims_worn w.device here.before budget result v.device here.after here.step (of_system w here.before here.was worn))
 
-cleans_worn : (d : Device) (m : System) (budget : ℕ) (result : Result Bool Fault) (e : Device) (n : System) → Cleans d m budget result e n → ListWorn d m → ListWorn e n
-cleans_worn d m budget result e n step worn =
-    let u = step.undisturbed in
-    record {
-      saved = same_record_worn d e (same_saved d e u.device.geometry (only_anchors_matter d.geometry d.pages e.pages u.anchor_pages)) u.device.worn worn.saved;
-      listed = grown_worn d e m.state.storage.bad n.state.storage.bad (λ b now before. (u.new_bad b now before).1) u.device.worn worn.listed;
-    }
+undisturbed_worn : (d : Device) (m : System) (e : Device) (n : System) → IsUndisturbed d m e n → ListWorn d m → ListWorn e n
+undisturbed_worn d m e n u worn = record {
+  saved = same_record_worn d e (same_saved d e u.device.geometry u.newest.newest) u.device.worn worn.saved;
+  listed = grown_worn d e m.state.storage.bad n.state.storage.bad (λ b now before. (u.new_bad b now before).1) u.device.worn worn.listed;
+}
 
 cleaned_worn : (w : World) (budget : ℕ) (result : Result Bool Fault) (v : World) → CleansOn w budget result v → IsWorn w → IsWorn v
 cleaned_worn w budget result v here worn =
-    with_system v here.after here.is (cleans_worn w.device here.before budget result v.device here.after here.step (of_system w here.before here.was worn))
+    with_system v here.after here.is (undisturbed_worn w.device here.before v.device here.after here.step.undisturbed (of_system w here.before here.was worn))
+
+prepared_worn : (w : World) (budget : ℕ) (result : Result Bool Fault) (v : World) → PreparesOn w budget result v → IsWorn w → IsWorn v
+prepared_worn w budget result v here worn =
+    with_system v here.after here.is (undisturbed_worn w.device here.before v.device here.after here.step.undisturbed (of_system w here.before here.was worn))
 
 mounts_worn : (d : Device) (found : List (Past Tree)) (answer : Answer) (v : World) → Mounts d found answer v → RecordListsWorn d → IsWorn v
 mounts_worn d found Answer.Mounted v here worn = with_system v here.system here.is (record {
@@ -205,6 +207,10 @@ happens_worn w (Event.CleanStep budget) (Answer.Done reply) v here worn = cleane
 happens_worn w (Event.CleanStep budget) (Answer.Refused fault) v here worn = cleaned_worn w budget (Err fault) v here worn
 happens_worn w (Event.CleanStep budget) Answer.Mounted v here worn = absurd here
 happens_worn w (Event.CleanStep budget) Answer.Unmounted v here worn = subst IsWorn (sym here.1) worn
+happens_worn w (Event.PrepareStep budget) (Answer.Done reply) v here worn = prepared_worn w budget (Ok here.0) v here.2 worn
+happens_worn w (Event.PrepareStep budget) (Answer.Refused fault) v here worn = prepared_worn w budget (Err fault) v here worn
+happens_worn w (Event.PrepareStep budget) Answer.Mounted v here worn = absurd here
+happens_worn w (Event.PrepareStep budget) Answer.Unmounted v here worn = subst IsWorn (sym here.1) worn
 happens_worn w Event.Restart answer v here worn = mounts_worn (put_on w.device) w.found answer v here worn.saved
 
 run_worn : (w : World) (events : List Event) (answers : List Answer) (v : World) → Run w events answers v → IsWorn w → IsWorn v

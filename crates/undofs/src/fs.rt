@@ -683,10 +683,11 @@ impl<'f, F: Flash> Fs<'f, F> {
         self.system.clean_step(self.flash, budget)
     }
 
-    /// Erases the free blocks that are taken next, `budget` of them at most, and remembers each until it is
-    /// taken ([`System::prepare_step`]), so that a later write need not wait for the erase, where the driver
-    /// answers that of a blank block at once. Whether the next 64 are prepared, or all that are free: then
-    /// nothing is asked of the flash.
+    /// Erases ahead, in `budget` erases at most, the anchor that the next records go to, once few pages are
+    /// left on the newest one's, and the free blocks that are taken next, and remembers each until it is
+    /// taken ([`System::prepare_step`]). So a later `sync` or write need not wait for the erase, where the
+    /// driver answers that of a blank block at once. Whether the anchor and the next 64 blocks are
+    /// prepared, or all that are free: then nothing is asked of the flash.
     pub fn prepare_step(&mut self, budget: u64) -> Result<bool, Fault>
         ensures step { PreparesAhead (F.device self.old.flash.now) self.old.system budget result (F.device self.new.flash.now) self.new.system }
         ensures same_flash { flash_name self.new ≡ flash_name self.old }

@@ -1,7 +1,7 @@
 use Rattle.std.proofs.Common.{◌≢◌, Err, refl, ap, ◌∙◌}
 use Rattle.std.proofs.lemmas.Result.{err_from_is_err_and}
 use Rattle.fs_types.specs.declared.fault.Fault.TheVariants.{PowerCut}
-use Rattle.commit_pair.proofs.Beginning.{begins_below, begins_within, begins_blank, begins_spares, may_follow}
+use Rattle.commit_pair.proofs.Beginning.{begins_below, begins_within, begins_blank, begins_spares, committed_knows, may_follow}
 use Rattle.commit_pair.proofs.Following.{leaves_too}
 use Rattle.commit_pair.proofs.anchors.Anchors.commit_as.Goals as goal
 
@@ -36,3 +36,11 @@ returns-in_err-found-clause-ready g c = λ on.
 
 pub returns-in_err-found-clause-remembers : goal.returns-in_err-found-clause-remembers
 returns-in_err-found-clause-remembers g c = rw (err_from_is_err_and c.from_residual.result c.from_residual.ensures.1).1 refl
+
+pub returns-clause-ready : goal.returns-clause-ready
+returns-clause-ready g c = λ on.
+    let leaves = c.in_ok-found.ensures.leaves in
+    let stands = c.in_ok-found.ensures.stands in
+    committed_knows (g.F.Flash.device c.args.commit.now.flash.now) (g.F.Flash.device c.after.new.self.flash.now) c.args.commit.now.bad.now c.after.new.self.bad.now c.args.self.now c.args.commit.now.saved.now
+    c.start-home.result.0 c.start-home.result.1 c.in_ok-found.found c.requires.ready.suits.same leaves.only_anchors.geometry leaves.only_anchors.stays_bad c.requires.may c.start-home.ensures.begins stands.others
+    c.kept_if-self.result c.kept_if-self.ensures stands.stands

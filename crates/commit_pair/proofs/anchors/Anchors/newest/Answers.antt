@@ -9,7 +9,7 @@ use Rattle.flash_model.specs.Reading.{OnlyReads, OnlyReads_itself, OnlyReads_on,
 use Rattle.record_format.specs.declared.record.Record.{Record}
 use Rattle.commit_pair.specs.declared.anchors.Anchors.{Anchors}
 use Rattle.commit_pair.specs.declared.best.Found.{Found}
-use Rattle.commit_pair.specs.Newest.{KnowsEnd, IsNewestRecord}
+use Rattle.commit_pair.specs.Newest.{KnowsEnd, IsNewestRecord, prepared_anchor}
 use Rattle.commit_pair.specs.Parts.{parts_on, best_on, newest_at}
 use Rattle.commit_pair.specs.Reading.{IsEnd}
 use Rattle.commit_pair.specs.Remembering.{MayCommit}
@@ -24,12 +24,12 @@ knows_end old g anchors same end found is = knows_end_at old old g found anchors
 
 -- a commit may follow where a record was found
 ready_found : (old mid new : Device) (g : Geometry) (anchors : Anchors) (newest : Option Record) (bad : set.FinSet nat_cmp) → old.geometry ≡ g → OnlyReads old mid → OnlyReads mid new → anchors.newest ≡ newest_at g (parts_on g mid.pages)
-    → IsNewestRecord mid newest → ((found : Found) → anchors.newest ≡ Some found → IsEnd g old.pages (found.page / g.pages) g.pages anchors.end) → newest ≢ None → MayCommit new bad anchors
-ready_found old mid new g anchors newest bad same first next at is end some = on anchors.newest refl
+    → IsNewestRecord mid newest → ((found : Found) → anchors.newest ≡ Some found → IsEnd g old.pages (found.page / g.pages) g.pages anchors.end) → prepared_anchor anchors ≡ None → newest ≢ None → MayCommit new bad anchors
+ready_found old mid new g anchors newest bad same first next at is end none some = on anchors.newest refl
   where
     on : (found : Option Found) → anchors.newest ≡ found → MayCommit new bad anchors
-    on None none = absurd (some (none_committed mid g anchors.newest newest (first.geometry ∙ same) at none is))
-    on (Some found) here = ready_at old new bad anchors found (OnlyReads_on old mid new first next) here (remembers_at old mid g anchors.newest same first at) (knows_end old g anchors same end)
+    on None none_found = absurd (some (none_committed mid g anchors.newest newest (first.geometry ∙ same) at none_found is))
+    on (Some found) here = ready_at old new bad anchors found (OnlyReads_on old mid new first next) here (remembers_at old mid g anchors.newest same first at) (knows_end old g anchors same end) none
 
 pub read_best-requires-clause-best : goal.read_best-requires-clause-best
 read_best-requires-clause-best g c =
@@ -132,7 +132,7 @@ returns-clause-end g c =
 pub returns-clause-ready : goal.returns-clause-ready
 returns-clause-ready g c = λ some bad.
     let anchors : Anchors = record c.new.result { newest = c.in_ok-best.best.found; end = c.in_ok-best.end } in
-    ready_found (g.F.Flash.device c.args.flash.now) (g.F.Flash.device c.find_best.new.flash) (g.F.Flash.device c.read_best.new.flash) c.geometry-geometry.result anchors c.in_ok-newest.newest bad (sym c.geometry-geometry.ensures) c.in_ok-best.ensures.reads.only_reads c.in_ok-newest.ensures.only_reads c.in_ok-newest.ensures.found c.in_ok-newest.ensures.newest c.in_ok-best.ensures.end some
+    ready_found (g.F.Flash.device c.args.flash.now) (g.F.Flash.device c.find_best.new.flash) (g.F.Flash.device c.read_best.new.flash) c.geometry-geometry.result anchors c.in_ok-newest.newest bad (sym c.geometry-geometry.ensures) c.in_ok-best.ensures.reads.only_reads c.in_ok-newest.ensures.only_reads c.in_ok-newest.ensures.found c.in_ok-newest.ensures.newest c.in_ok-best.ensures.end c.new.ensures.unprepared some
 
 pub returns-clause-uncleared : goal.returns-clause-uncleared
 returns-clause-uncleared g c = c.new.ensures.uncleared

@@ -1,6 +1,7 @@
-use Rattle.std.proofs.Common.{Err, refl, sym, ap, ◌∙◌, rules}
+use Rattle.std.proofs.Common.{Err, inl, refl, sym, ap, ◌∙◌, rules}
 use Rattle.mounting.specs.Contents.{record_of}
 use Rattle.std.proofs.lemmas.Result.{err_from_is_err_and}
+use Rattle.system.proofs.AfterCommits.{knows}
 use Rattle.system.proofs.Syncs.{known_greatest, turned_away}
 use Rattle.system.proofs.Tried.{tried_commit}
 use Rattle.system.proofs.systems.System.commit.Goals as goal
@@ -43,3 +44,6 @@ returns-in_err-saved-clause-last g c = λ lacks. absurd (c.in_ok-check_commit.en
 
 pub returns-in_err-roots-clause-last : goal.returns-in_err-roots-clause-last
 returns-in_err-roots-clause-last g c = λ lacks. absurd (c.in_ok-check_commit.ensures.next (sym (known_greatest (g.F.Flash.device c.args.flash.now) c.args.self.now c.requires.system c.requires.is_on) ∙ lacks.1))
+
+pub commit-answer-requires-clause-ready : goal.commit-answer-requires-clause-ready
+commit-answer-requires-clause-ready g c = inl (knows (g.F.Flash.device c.args.flash.now) c.args.self.now.state.storage.bad c.args.self.now.anchors (c.requires.system.known c.requires.is_on))

@@ -1,4 +1,4 @@
-use Rattle.system.proofs.Cleaned.{prepared_ahead}
+use Rattle.system.proofs.Prepared.{prepared_ahead}
 use Rattle.system.proofs.systems.System.prepare_step.Goals as goal
 
 pub returns : goal.returns

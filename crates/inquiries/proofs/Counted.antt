@@ -12,11 +12,12 @@ use Rattle.history_machine.specs.History.{view_refusal, seen_root}
 use Rattle.history_machine.specs.HistoryMaps.{view_refusal-map, seen_root-map}
 use Rattle.history_machine.specs.Machine.{view_tree}
 use Rattle.flash_model.specs.Device.{Device}
-use Rattle.working_state.specs.Seen.{seen_on, machine_on, tree_on}
+use Rattle.node_store.specs.declared.storage.Storage.{Storage}
+use Rattle.working_state.specs.Seen.{seen_of, seen_on, machine_on, tree_on}
 use Rattle.working_state.specs.Worked.{ReadCause}
 use Rattle.working_state.specs.declared.state.State.{State}
 use Rattle.system.specs.Systems.{IsSystem}
-use Rattle.system.specs.TreeSizes.{TellsSize, CountsTree, ShowRoots, RefusesRoots, FindsSize}
+use Rattle.system.specs.TreeSizes.{TellsSize, CountsTree, ShowRoots, RefusesRoots}
 use Rattle.system.specs.declared.systems.System.{System}
 use Rattle.tree_counts.specs.Sizes.{size_of}
 use Rattle.tree_counts.specs.declared.tree_size.TreeSize.{TreeSize}
@@ -26,11 +27,15 @@ use Rattle.inquiries.specs.Readings.{Meets}
 own : (d : Device) (s : State) (view : View) → view_refusal (machine_on d s).history view ≡ view_refusal s.history view
 own d s view = view_refusal-map (tree_on d) s.history view
 
+-- what a reading of nodes met
+pub reads_meet : (d e : Device) (s t : Storage) (fault : Fault) → ReadCause (seen_of d s) fault (seen_of e t) → Meets d e fault
+reads_meet d e s t ReadFailed cause = cause
+reads_meet d e s t PowerCut cause = cause
+reads_meet d e s t NoMemory cause = tt
+reads_meet d e s t _ cause = absurd cause
+
 pub cause_meets : (d e : Device) (m n : System) (fault : Fault) → ReadCause (seen_on d m.state) fault (seen_on e n.state) → Meets d e fault
-cause_meets d e m n ReadFailed cause = cause
-cause_meets d e m n PowerCut cause = cause
-cause_meets d e m n NoMemory cause = tt
-cause_meets d e m n _ cause = absurd cause
+cause_meets d e m n fault cause = reads_meet d e m.state.storage n.state.storage fault cause
 
 -- how a count ended
 pub record Ended (d : Device) (m : System) (view : View) (result : Result TreeSize Fault) (e : Device) (n : System) : Type 0 where

@@ -1,11 +1,8 @@
--- Whether a tree is small, and what is met where a view is there.
-use Rattle.std.proofs.Common.{◌≡◌, ◌∙◌, ◌⊎◌, inl, inr, ◌≤◌, ◌^◌, ℕ, Bool, true, false, Option, Some, None, sym, ap}
-use Rattle.std.proofs.lemmas.Bool.{true≢false}
-use Rattle.std.specs.Bool.{Decides}
+-- How much a tree has, and what is met where a view is there.
+use Rattle.std.proofs.Common.{◌≡◌, ◌∙◌, ◌⊎◌, inl, inr, ◌≤◌, ◌^◌, ℕ, Option, Some, None, sym, ap}
 use Rattle.plain_trees.specs.Trees.{Tree}
 use Rattle.tree_counts.specs.Sizes.{entries_of, lengths_of, size_of}
 use Rattle.tree_counts.specs.declared.tree_size.TreeSize.{TreeSize}
-use Rattle.inquiries.specs.Folders.{IsSmall}
 use Rattle.inquiries.proofs.Sizes.{word_some, word_none}
 
 module _ (t : Tree) (size : TreeSize) (is : size ≡ size_of t) where
@@ -20,10 +17,6 @@ module _ (t : Tree) (size : TreeSize) (is : size ≡ size_of t) where
 
   pub bytes_none : size.bytes ≡ None → 2 ^ 64 ≤ lengths_of t
   bytes_none none = word_none (lengths_of t) (sym none ∙ ap (λ (s : TreeSize). s.bytes) is)
-
--- a test that decides it and fails
-pub not_small : (b : Bool) (t : Tree) → b ≡ false → Decides b (IsSmall t) → IsSmall t → ⊥
-not_small b t fails decides small = true≢false (sym (decides.1 small) ∙ fails)
 
 -- a refusal of its own that there is not
 pub no_own : {A : Type 0} (own : Option A) (fault : A) (M : Type 0) → own ≡ None → (own ≡ Some fault) ⊎ M → M

@@ -3,11 +3,14 @@ pub mod DifferenceLemmas
 pub mod Entries
 pub mod FolderLemmas
 pub mod KeptSpace
+pub mod KeptTrees
 pub mod LineLemmas
 pub mod PairLines
 pub mod PathLemmas
+pub mod PathRoom
 pub mod PrunedLemmas
 pub mod Readings
 pub mod Shared
 pub mod Sizes
 pub mod VersionLemmas
+pub mod WithinLemmas

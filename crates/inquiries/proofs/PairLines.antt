@@ -15,13 +15,13 @@ got_some xs i r x gives is =
     let some : IsItemAt xs i (Some x) = subst (IsItemAt xs i) is gives in
     (some.3.0, sym some.1)
 
-zip_long : {X Y : Type 0} (xs : List X) (ys : List Y) (i : ℕ) → i < length xs → i < length ys → i < length (zip xs ys)
+pub zip_long : {X Y : Type 0} (xs : List X) (ys : List Y) (i : ℕ) → i < length xs → i < length ys → i < length (zip xs ys)
 zip_long [] ys i within there = absurd (omega arith)
 zip_long (x ∷ xs) [] i within there = absurd (omega arith)
 zip_long (x ∷ xs) (y ∷ ys) zero within there = omega arith
 zip_long (x ∷ xs) (y ∷ ys) (suc i) within there = let rest : i < length (zip xs ys) = zip_long xs ys i (omega arith) (omega arith) in omega arith
 
-zip_short : {X Y : Type 0} (xs : List X) (ys : List Y) (i : ℕ) → (length xs ≤ i) ⊎ (length ys ≤ i) → length (zip xs ys) ≤ i
+pub zip_short : {X Y : Type 0} (xs : List X) (ys : List Y) (i : ℕ) → (length xs ≤ i) ⊎ (length ys ≤ i) → length (zip xs ys) ≤ i
 zip_short [] ys i past = omega arith
 zip_short (x ∷ xs) [] i past = omega arith
 zip_short (x ∷ xs) (y ∷ ys) zero (inl past) = absurd (omega arith)
@@ -29,7 +29,7 @@ zip_short (x ∷ xs) (y ∷ ys) zero (inr past) = absurd (omega arith)
 zip_short (x ∷ xs) (y ∷ ys) (suc i) (inl past) = let rest : length (zip xs ys) ≤ i = zip_short xs ys i (inl (omega arith)) in omega arith
 zip_short (x ∷ xs) (y ∷ ys) (suc i) (inr past) = let rest : length (zip xs ys) ≤ i = zip_short xs ys i (inr (omega arith)) in omega arith
 
-zip_at : {X Y : Type 0} (xs : List X) (ys : List Y) (i : ℕ) (x : X) (y : Y) → i < length xs → i < length ys → get_or (zip xs ys) i (x, y) ≡ (get_or xs i x, get_or ys i y)
+pub zip_at : {X Y : Type 0} (xs : List X) (ys : List Y) (i : ℕ) (x : X) (y : Y) → i < length xs → i < length ys → get_or (zip xs ys) i (x, y) ≡ (get_or xs i x, get_or ys i y)
 zip_at [] ys i x y within there = absurd (omega arith)
 zip_at (a ∷ xs) [] i x y within there = absurd (omega arith)
 zip_at (a ∷ xs) (b ∷ ys) zero x y within there = refl

@@ -1,12 +1,13 @@
 -- What stands at a path of the views that are kept.
-use Rattle.std.proofs.Common.{◌≡◌, ◌≢◌, ◌∙◌, ◌||◌, ◌-◌, ◌<◌, ℕ, Bool, false, Option, Some, None, Result, Ok, Err, List, [], ◌++◌, length, get_or, map, refl, sym, ap, ap₂, subst, arith}
-use Rattle.std.proofs.lemmas.Bool.{ne_eqb}
+use Rattle.std.proofs.Common.{◌≡◌, ◌≢◌, ◌∙◌, ◌||◌, ◌-◌, ◌<◌, ℕ, Bool, true, false, Option, Some, None, Result, Ok, Err, List, [], ◌++◌, length, get_or, map, refl, sym, ap, ap₂, subst, arith}
+use Rattle.std.proofs.lemmas.Bool.{true≢false, eq-eqb, ne_eqb}
 use Rattle.std.proofs.lemmas.List.{get_or_default}
 use Rattle.std.proofs.lemmas.List.Elements.{All-append, All-map}
 use Rattle.std.proofs.lemmas.Slice.Eq.{bytes_eq-Decides}
-use Rattle.std.specs.Prelude.{All, IfOk, not}
+use Rattle.std.specs.Prelude.{All, IfOk, not, ◌==◌}
 use Rattle.std.specs.FinMap.{get}
 use Rattle.std.specs.Option.{option_map}
+use Rattle.std.specs.Str.{bytes_eq}
 use Rattle.fs_types.specs.Names.{Path}
 use Rattle.fs_types.specs.declared.fault.Fault.{Fault}
 use Rattle.fs_types.specs.declared.call.Stat.{Stat}
@@ -24,6 +25,7 @@ use Rattle.inquiries.specs.Differences.{difference_below}
 use Rattle.inquiries.specs.Items.{items_below}
 use Rattle.inquiries.specs.PathHistories.{is_changed, is_checkpoint, is_filled, is_other, is_told, kept_views, looked_below}
 use Rattle.inquiries.specs.Versions.{kept_names, kept_serials}
+use Rattle.inquiries.specs.Within.{have_other_lengths}
 use Rattle.inquiries.specs.declared.counterpart.Counterpart.{Counterpart}
 use Rattle.inquiries.specs.declared.printing.Side.{Side}
 use Rattle.inquiries.proofs.Shared.{lines_itself}
@@ -112,6 +114,25 @@ module _ (t u : Tree) (path : Path) where
 
     pub both_files : place ≡ Counterpart.File → (get t path ≡ Some (Entry.File (bytes_of_file t path))) × (get u path ≡ Some (Entry.File (bytes_of_file u path)))
     both_files same = files (get t path) (get u path) stat (sym some ∙ told) (sym (found ∙ ap (counterpart_of stat) there) ∙ same)
+
+-- ---- files of other lengths
+
+-- they have other bytes
+pub other_lengths : (t u : Tree) (path : Path) (differs : Bool) (o n : Option Entry) → have_other_lengths (option_map (λ (entry : Entry). stat_of t path (Some entry)) o) (option_map (λ (entry : Entry). stat_of u path (Some entry)) n) ≡ true
+    → true ≡ is_other differs o n
+other_lengths t u path differs None n is = absurd (true≢false (sym is))
+other_lengths t u path differs (Some Entry.Dir) n is = absurd (true≢false (sym is))
+other_lengths t u path differs (Some (Entry.File bytes)) None is = absurd (true≢false (sym is))
+other_lengths t u path differs (Some (Entry.File bytes)) (Some Entry.Dir) is = absurd (true≢false (sym is))
+other_lengths t u path differs (Some (Entry.File bytes)) (Some (Entry.File others)) is = by (bytes_eq bytes others) refl
+  where
+    by : (b : Bool) → bytes_eq bytes others ≡ b → true ≡ not b
+    by false unlike = refl
+    by true alike =
+        absurd (true≢false (sym is ∙ ap not (le_eq (length bytes) (length others) (ap length ((bytes_eq-Decides bytes others).0 alike)))))
+      where
+        le_eq : (m n : ℕ) → m ≡ n → (m == n) ≡ true
+        le_eq m n same = eq-eqb m n same
 
 -- ---- nothing changed from a tree to itself
 

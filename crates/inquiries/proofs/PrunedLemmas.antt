@@ -56,7 +56,7 @@ row_items t levels directory ((n, true) ∷ es) below =
     ∙ sym (map-append (item_at t) (path ∷ paths_below t levels path) (flat_map (path_row t levels directory) es))
 row_items t levels directory ((n, false) ∷ es) below = ap (λ (l : List Item). item_at t (directory ++ n ∷ []) ∷ l) (row_items t levels directory es below)
 
-items_listed : (t : Tree) (levels : ℕ) (directory : Path) → items_below t levels directory ≡ map (item_at t) (paths_below t levels directory)
+pub items_listed : (t : Tree) (levels : ℕ) (directory : Path) → items_below t levels directory ≡ map (item_at t) (paths_below t levels directory)
 unfolding items_below paths_below
 items_listed t zero directory = refl
 items_listed t (suc levels) directory = row_items t levels directory (children t directory) (λ d. items_listed t levels d)
@@ -70,7 +70,7 @@ filter_items t keeps (path ∷ paths) = by (keeps path) (filter_items t keeps pa
     by true rest = ap (λ (l : List Item). item_at t path ∷ l) rest
     by false rest = rest
 
-kept_items : (t : Tree) (keeps : Path → Bool) → map (item_at t) (filter keeps (paths_of t)) ≡ filter (λ (item : Item). keeps item.path) (items_of t)
+pub kept_items : (t : Tree) (keeps : Path → Bool) → map (item_at t) (filter keeps (paths_of t)) ≡ filter (λ (item : Item). keeps item.path) (items_of t)
 kept_items t keeps = filter_items t keeps (paths_of t) ∙ ap (filter (λ (item : Item). keeps item.path)) (sym (items_listed t MAX_NAMES []))
 
 stand_at : (t : Tree) (paths : List Path) → All (IsItemOf t) (map (item_at t) paths) → All (λ path. IsSome (get t path)) paths

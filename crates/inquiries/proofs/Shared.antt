@@ -1,15 +1,14 @@
 -- Nothing differs between a tree and itself.
-use Rattle.std.proofs.Common.{◌≡◌, ◌∙◌, ℕ, Bool, true, false, cond, Option, Some, None, List, [], ◌∷◌, ◌++◌, IsSome, refl, sym, ap, ap₂, subst}
+use Rattle.std.proofs.Common.{◌≡◌, ℕ, Bool, cond, Option, Some, None, List, [], ◌∷◌, ◌++◌, IsSome, refl, ap, ap₂, subst}
 use Rattle.std.proofs.lemmas.List.Elements.{All-head, All-tail}
 use Rattle.std.proofs.lemmas.Slice.Eq.{bytes_eq-Decides}
 use Rattle.std.specs.Prelude.{All}
 use Rattle.std.specs.FinMap.{get}
 use Rattle.std.specs.List.{flat_map}
-use Rattle.fs_types.specs.Names.{Path}
 use Rattle.fs_types.specs.declared.limits.TheConstants.{MAX_NAMES}
 use Rattle.plain_trees.specs.Contents.{Entry}
 use Rattle.plain_trees.specs.Trees.{Tree}
-use Rattle.inquiries.specs.Differences.{line_beside, file_beside, changed_line, item_beside, lines_beside, difference_lines}
+use Rattle.inquiries.specs.Differences.{line_beside, changed_line, item_beside, difference_lines}
 use Rattle.inquiries.specs.Items.{items_of, IsItemOf}
 use Rattle.inquiries.specs.declared.items.Item.{Item}
 use Rattle.inquiries.specs.declared.printing.Side.{Side}

@@ -1,22 +1,21 @@
 -- How much stands in a tree, by the list of all that stands there.
-use Rattle.std.proofs.Common.{◌≡◌, ◌∙◌, ◌⊎◌, inl, inr, ◌+◌, ◌<◌, ◌≤◌, ◌^◌, ℕ, zero, suc, Bool, true, false, cond, Option, Some, None, Result, Ok, Err, List, [], ◌∷◌, ◌++◌, length, append_assoc, refl, sym, ap, ap₂, subst, arith}
+use Rattle.std.proofs.Common.{◌≡◌, ◌∙◌, ◌+◌, ◌<◌, ◌≤◌, ◌^◌, ℕ, zero, suc, Bool, true, false, Option, Some, None, List, [], ◌∷◌, ◌++◌, length, refl, sym, ap, ap₂, subst, arith}
 use Rattle.std.proofs.lemmas.List.Concat.{length-flat_map}
 use Rattle.std.proofs.lemmas.List.Sums.{sum_by-cons}
 use Rattle.std.specs.Bool.{Decides}
-use Rattle.std.specs.Prelude.{IfOk, is_ok, sum_by, nat_lt, nat_le, decimal, codes, if◌then◌else◌}
+use Rattle.std.specs.Prelude.{sum_by, nat_lt, nat_le, decimal, codes, if◌then◌else◌}
 use Rattle.std.specs.FinMap.{get}
-use Rattle.std.specs.List.{flat_map}
 use Rattle.fs_types.specs.Names.{Name, Path}
 use Rattle.fs_types.specs.declared.limits.TheConstants.{MAX_NAMES}
 use Rattle.plain_trees.specs.Contents.{Entry}
 use Rattle.plain_trees.specs.Trees.{Tree, children}
 use Rattle.history_machine.specs.Machine.{stat_of}
 use Rattle.std.proofs.lemmas.Bool.{true≢false, leb-true, leb-false, le-leb, ltb-false}
-use Rattle.tree_counts.specs.Sizes.{in_word, sum_below, one, file_length, entries_of, lengths_of, sized, size_of}
+use Rattle.tree_counts.specs.Sizes.{in_word, sum_below, one, file_length, entries_of, lengths_of, size_of}
 use Rattle.tree_counts.specs.declared.tree_size.TreeSize.{TreeSize}
 use Rattle.tree_counts.proofs.Sums.{sum_same, sum_flat}
 use Rattle.inquiries.specs.Items.{item_at, items_below, items_of}
-use Rattle.inquiries.specs.Printed.{stat_bytes, file_bytes, count_text, sizes_text}
+use Rattle.inquiries.specs.Printed.{stat_bytes, file_bytes, count_text, size_text, sizes_text, word_text}
 use Rattle.inquiries.specs.declared.items.Item.{Item}
 use Rattle.inquiries.proofs.Entries.{row}
 
@@ -76,34 +75,19 @@ word_none n is = ltb-false n (2 ^ 64) (by (nat_lt n (2 ^ 64)) is)
     by true same = absurd (let wrong : None ≡ Some n = same in cc)
     by false same = refl
 
-pub count_some : (n k : ℕ) → Some k ≡ in_word n → decimal k ≡ count_text n
-count_some n k is = by (nat_lt n (2 ^ 64)) is
+-- what is printed of it
+word_said : (n : ℕ) → word_text (in_word n) ≡ count_text n
+word_said n = by (nat_lt n (2 ^ 64))
   where
-    by : (b : Bool) → Some k ≡ (if b then Some n else None) → decimal k ≡ (if b then decimal n else codes ">18446744073709551615")
-    by true same = let number : k ≡ n = cc in ap decimal number
-    by false same = absurd (let wrong : Some k ≡ None = same in cc)
-
-pub count_none : (n : ℕ) → None ≡ in_word n → codes ">18446744073709551615" ≡ count_text n
-count_none n is = by (nat_lt n (2 ^ 64)) is
-  where
-    by : (b : Bool) → None ≡ (if b then Some n else None) → codes ">18446744073709551615" ≡ (if b then decimal n else codes ">18446744073709551615")
-    by true same = absurd (let wrong : None ≡ Some n = same in cc)
-    by false same = refl
+    by : (b : Bool) → word_text (if b then Some n else None) ≡ (if b then decimal n else codes ">18446744073709551615")
+    by true = refl
+    by false = refl
 
 -- what is printed of a tree
-pub sizes_printed : (t : Tree) → codes " entries " ++ count_text (entries_of t) ++ codes " bytes " ++ count_text (lengths_of t) ≡ sizes_text (items_of t)
-sizes_printed t = ap₂ (λ (a b : ℕ). codes " entries " ++ count_text a ++ codes " bytes " ++ count_text b) (entries_are t) (lengths_are t)
-
--- texts one after the other
-joined : (o a b c d : List ℕ) → (((o ++ a) ++ b) ++ c) ++ d ≡ o ++ (a ++ b ++ c ++ d)
-joined o a b c d = simp append_assoc
-
-pub size_line : (t : Tree) (o p q r : List ℕ) → p ≡ o ++ codes " entries " → q ≡ p ++ count_text (entries_of t) → r ≡ q ++ codes " bytes " → r ++ count_text (lengths_of t) ≡ o ++ sizes_text (items_of t)
-size_line t o p q r first second third =
-    let entries : List ℕ = count_text (entries_of t) in
-    let bytes : List ℕ = count_text (lengths_of t) in
-    ap (λ (x : List ℕ). x ++ bytes) (third ∙ ap (λ (x : List ℕ). x ++ codes " bytes ") (second ∙ ap (λ (x : List ℕ). x ++ entries) first))
-    ∙ joined o (codes " entries ") entries (codes " bytes ") bytes ∙ ap (λ (x : List ℕ). o ++ x) (sizes_printed t)
+pub sizes_said : (t : Tree) → size_text (size_of t) ≡ sizes_text (items_of t)
+sizes_said t =
+    ap₂ (λ (a b : List ℕ). codes " entries " ++ a ++ codes " bytes " ++ b) (word_said (entries_of t)) (word_said (lengths_of t))
+    ∙ ap₂ (λ (a b : ℕ). codes " entries " ++ count_text a ++ codes " bytes " ++ count_text b) (entries_are t) (lengths_are t)
 
 -- ---- whether there are few
 
@@ -129,8 +113,3 @@ many_tested b n most fails decides = by (nat_le n most) refl
     by : (few : Bool) → nat_le n most ≡ few → most < n
     by true is = absurd (true≢false (sym (decides.1 (leb-true n most is)) ∙ fails))
     by false is = leb-false n most is
-
--- a text after another, where there was room
-pub appended : {T E : Type 0} (r : Result T E) (new old xs ys : List ℕ) → new ≡ (if is_ok r then old ++ xs else old) → xs ≡ ys → IfOk r (λ _. new ≡ old ++ ys)
-appended (Ok x) new old xs ys is same = is ∙ ap (λ (text : List ℕ). old ++ text) same
-appended (Err e) new old xs ys is same = tt

@@ -1,5 +1,5 @@
 -- What is told of a file system to who asks: over the trees of its machine, and of what they keep of the flash.
-use Rattle.std.specs.Prelude.{◌≡◌, ◌⊎◌, ◌≤◌, ◌<◌, ◌+◌, ℕ, Option, None, List, length, sum_by}
+use Rattle.std.specs.Prelude.{◌≡◌, ◌⊎◌, ◌≤◌, ◌<◌, ◌+◌, ℕ, Bool, true, false, Option, None, List, length, sum_by}
 use Rattle.std.specs.Option.{option_or}
 use Rattle.fs_types.specs.declared.call.Call.{Call}
 use Rattle.fs_types.specs.declared.fault.Fault.{Fault}
@@ -14,6 +14,7 @@ use Rattle.working_state.specs.Seen.{machine_on}
 use Rattle.working_state.specs.declared.state.State.{State}
 use Rattle.inquiries.specs.Differences.{difference_lines}
 use Rattle.inquiries.specs.Items.{items_of}
+use Rattle.inquiries.specs.PathBytes.{HasShortPaths}
 use Rattle.inquiries.specs.PathHistories.{history_lines, kept_views, looked_at, nowhere_in}
 use Rattle.inquiries.specs.Printed.{list_lines, tree_lines}
 use Rattle.inquiries.specs.Readings.{shown, Fails}
@@ -31,6 +32,11 @@ inquiry_refusal m (Inquiry.History path) = nowhere_in m path (kept_views m)
 inquiry_refusal m (Inquiry.Differences old new) = option_or (view_refusal m.history old) (view_refusal m.history new)
 inquiry_refusal m Inquiry.Versions = None
 
+-- what is asked of all that is kept, and of no view
+abbrev pub is_of_versions : Inquiry → Bool
+is_of_versions Inquiry.Versions = true
+is_of_versions _ = false
+
 -- how many entries have to be looked at: those of one tree, each of which has a line, or of two, each of which has a line at most,
 -- or those of each tree that is kept, where a directory stands at the path
 abbrev pub look_count : Machine → Inquiry → ℕ
@@ -39,18 +45,24 @@ look_count m (Inquiry.Differences old new) = length (items_of (view_tree m old))
 look_count m (Inquiry.History path) = sum_by (looked_at m path) (kept_views m)
 look_count m _ = 0
 
+-- the trees of which all paths are kept have short ones
+abbrev pub HaveShortPaths : Machine → Inquiry → Type 0
+HaveShortPaths m (Inquiry.Tree view) = HasShortPaths (view_tree m view)
+HaveShortPaths m (Inquiry.Differences old new) = HasShortPaths (view_tree m old) × HasShortPaths (view_tree m new)
+HaveShortPaths m _ = Unit {0}
+
 -- of two views of the same tree nothing differs, whatever stands in it
 abbrev pub ShowSame : Machine → Inquiry → Type 0
 ShowSame m (Inquiry.Differences old new) = view_tree m old ≡ view_tree m new
 ShowSame m _ = ⊥
 
--- no more are looked at than may be
+-- no more are looked at than may be, and no more bytes of paths are kept
 abbrev pub HasFewLines : Machine → Inquiry → Type 0
-HasFewLines m inquiry = ShowSame m inquiry ⊎ (look_count m inquiry ≤ MAX_LINES)
+HasFewLines m inquiry = ShowSame m inquiry ⊎ ((look_count m inquiry ≤ MAX_LINES) × HaveShortPaths m inquiry)
 
 -- more would have to be
 abbrev pub HasManyLines : Machine → Inquiry → Type 0
-HasManyLines m inquiry = MAX_LINES < look_count m inquiry
+HasManyLines m inquiry = (MAX_LINES < look_count m inquiry) ⊎ (HaveShortPaths m inquiry → ⊥)
 
 -- what is told of a system that is mounted on a flash
 abbrev pub IsTold : Device → State → Inquiry → List ℕ → Type 0

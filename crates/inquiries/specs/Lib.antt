@@ -4,8 +4,10 @@ pub mod Differences
 pub mod Folders
 pub mod Inquiries
 pub mod Items
+pub mod PathBytes
 pub mod PathHistories
 pub mod Printed
 pub mod Pruned
 pub mod Readings
 pub mod Versions
+pub mod Within

@@ -1,10 +1,11 @@
 -- What is printed of trees.
-use Rattle.std.specs.Prelude.{ℕ, ◌^◌, nat_lt, List, ◌++◌, length, sum_by, decimal, codes, if◌then◌else◌}
+use Rattle.std.specs.Prelude.{ℕ, ◌^◌, nat_lt, Option, Some, None, List, ◌++◌, length, sum_by, decimal, codes, if◌then◌else◌}
 use Rattle.std.specs.List.{flat_map}
 use Rattle.fs_types.specs.Names.{Name, Path}
 use Rattle.fs_types.specs.declared.call.Stat.{Stat}
 use Rattle.plain_trees.specs.Trees.{Tree}
 use Rattle.script.specs.Replies.{escaped}
+use Rattle.tree_counts.specs.declared.tree_size.TreeSize.{TreeSize}
 use Rattle.inquiries.specs.Items.{items_at, items_of}
 use Rattle.inquiries.specs.declared.items.Item.{Item}
 
@@ -38,6 +39,14 @@ count_text n = if nat_lt n (2 ^ 64) then decimal n else codes ">1844674407370955
 -- how many directories and files these are, and how many bytes the files have
 abbrev pub sizes_text : List Item → List ℕ
 sizes_text items = codes " entries " ++ count_text (length items) ++ codes " bytes " ++ count_text (sum_by file_bytes items)
+
+-- the same of a number that a word holds, if it does
+abbrev pub word_text : Option ℕ → List ℕ
+word_text (Some n) = decimal n
+word_text None = codes ">18446744073709551615"
+
+abbrev pub size_text : TreeSize → List ℕ
+size_text size = codes " entries " ++ word_text size.entries ++ codes " bytes " ++ word_text size.bytes
 
 -- a line for each directory and each file
 abbrev pub tree_lines : Tree → List ℕ

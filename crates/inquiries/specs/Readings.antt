@@ -5,6 +5,7 @@ use Rattle.history_machine.specs.Machine.{Machine}
 use Rattle.flash_model.specs.Device.{Device}
 use Rattle.flash_model.specs.declared.flash.Flash.{Ghosts}
 use Rattle.working_state.specs.Seen.{machine_on}
+use Rattle.working_state.specs.declared.state.State.{State}
 use Rattle.undofs.specs.Systems.{flash_name}
 use Rattle.undofs.specs.declared.fs.Fs.{Fs}
 
@@ -14,6 +15,12 @@ Meets old new Fault.ReadFailed = old.failed_reads < new.failed_reads
 Meets old new Fault.PowerCut = new.powered ≡ false
 Meets old new Fault.NoMemory = Unit {0}
 Meets old new _ = ⊥
+
+-- a flash with a state on it shows what another one does, of which no page is other
+pub record IsStillShown (d : Device) (s : State) (e : Device) (t : State) : Type 0 where
+  pub machine : machine_on e t ≡ machine_on d s
+  pub pages : (p : ℕ) → e.pages p ≡ d.pages p
+  pub failed_reads : d.failed_reads ≤ e.failed_reads
 
 module _ {F : Type 0} {flash : Ghosts F} where
   -- the machine that a file system shows

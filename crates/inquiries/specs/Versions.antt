@@ -1,8 +1,9 @@
 -- How much stands in the trees that are kept, and what each keeps of the flash.
-use Rattle.std.specs.Prelude.{◌≡◌, ℕ, ◌==◌, List, [], ◌++◌, map, codes, decimal, if◌then◌else◌, Bool, Option, Some, None}
+use Rattle.std.specs.Prelude.{◌≡◌, ℕ, ◌==◌, List, [], ◌++◌, length, map, drop, codes, decimal, if◌then◌else◌, Bool, Option, Some, None}
 use Rattle.std.specs.List.{flat_map, enumerate_from, zip}
 use Rattle.fs_types.specs.Names.{Name}
 use Rattle.fs_types.specs.declared.call.View.{View}
+use Rattle.history_machine.specs.History.{Past}
 use Rattle.history_machine.specs.Machine.{Machine, view_tree}
 use Rattle.flash_model.specs.Device.{Device}
 use Rattle.script.specs.Replies.{escaped}
@@ -11,8 +12,9 @@ use Rattle.system.specs.declared.version_space.HistorySpace.{HistorySpace}
 use Rattle.system.specs.declared.version_space.VersionSpace.{VersionSpace}
 use Rattle.working_state.specs.Seen.{machine_on}
 use Rattle.working_state.specs.declared.state.State.{State}
+use Rattle.tree_counts.specs.declared.tree_size.TreeSize.{TreeSize}
 use Rattle.inquiries.specs.Items.{items_of}
-use Rattle.inquiries.specs.Printed.{sizes_text}
+use Rattle.inquiries.specs.Printed.{sizes_text, size_text}
 
 -- how much stands in the tree of a view
 abbrev pub view_sizes : Machine → View → List ℕ
@@ -60,3 +62,23 @@ pub record AreVersionLines (d : Device) (s : State) (bytes : List ℕ) : Type 0 
   pub space : HistorySpace
   pub kept : IsHistorySpace d s space
   pub lines : bytes ≡ versions_lines (machine_on d s) space
+
+-- ---- the same lines by the sizes of the trees
+
+-- the line of a version by its serial, the size of its tree, and what it keeps
+abbrev pub version_row : ℕ → TreeSize → VersionSpace → Bool → List ℕ
+version_row serial size kept is_present = codes "@" ++ decimal serial ++ size_text size ++ kept_text kept ++ (if is_present then codes " present" else []) ++ codes "\n"
+
+-- a place among the versions, the serial there, the size of that version's tree, and what it keeps
+abbrev pub row_at : ℕ → ℕ × (ℕ × (TreeSize × VersionSpace)) → List ℕ
+row_at cursor row = version_row row.1.0 row.1.1.0 row.1.1.1 (row.0 == cursor)
+
+-- the name of a checkpoint, the size of its tree, and how many blocks it keeps alone
+abbrev pub checkpoint_row : Name × (TreeSize × ℕ) → List ℕ
+checkpoint_row row = codes "=" ++ escaped row.0 ++ size_text row.1.0 ++ alone_text row.1.1 ++ codes "\n"
+
+-- the lines of a history by the sizes of its trees, the versions' and then the checkpoints'
+abbrev pub kept_rows : Past ℕ → List TreeSize → HistorySpace → List ℕ
+kept_rows h sizes space =
+    flat_map (row_at h.cursor) (enumerate_from 0 (zip (map (λ v. v.serial) h.versions) (zip sizes space.versions)))
+    ++ flat_map checkpoint_row (zip (map (λ e. e.0) h.checkpoints) (zip (drop (length h.versions) sizes) space.checkpoints))

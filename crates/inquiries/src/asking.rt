@@ -1,12 +1,15 @@
 //! What is asked of a flash.
 ghost use Rattle.std.specs.Prelude.{◌≡◌, ℕ, IfOk, IfErr};
 ghost use Rattle.inquiries.specs.Asked.{Tells, AskCause};
+ghost use Rattle.inquiries.specs.declared.inquiry.Inquiry.{Inquiry};
 
-use crate::inquiry::{Inquiry, tell};
+use crate::inquiry::{Inquiry, is_of_versions, tell};
 use crate::tell_fault::TellFault;
+use crate::versions::tell_versions;
 use flash_model::Flash;
 use fs_types::{Bytes, Fault};
 use std::alloc::Global;
+use system::mount;
 use thiserror::Error;
 use undofs::{Fs, RefusedMount};
 
@@ -24,13 +27,29 @@ pub enum AskFault {
     TooManyLines,
 }
 
-/// Mounts what the newest record of a flash holds, and tells what is asked of it ([`tell`]). The flash
-/// is only read: no page of it changes, whatever is answered.
+/// Mounts what the newest record of a flash holds, and tells what is asked of it. The flash is only read:
+/// no page of it changes, whatever is answered.
+///
+/// [`AskFault::Unmounted`] as a mount is refused. [`AskFault::Refused`] as the calls are that it takes: for
+/// a view, of two the first one before the other, for a path that is looked up, and for a directory in place
+/// of a file; [`Inquiry::History`] with [`Fault::NoEntry`] where nothing stands at the path in any version or
+/// checkpoint; [`Inquiry::Versions`] as [`Fs::df`]. Else [`Fault::ReadFailed`], [`Fault::PowerCut`] and
+/// [`Fault::NoMemory`] may come.
+///
+/// [`AskFault::TooManyLines`] for [`Inquiry::Tree`] where its answer would have over
+/// [`MAX_LINES`](crate::MAX_LINES) lines; for [`Inquiry::Differences`] where two trees of different roots have
+/// more entries together; for [`Inquiry::History`] where the trees have in which a directory stands at the
+/// path. That is counted by node before a tree is walked. For the first two also where the paths of a tree
+/// have over [`MAX_PATH_BYTES`](crate::MAX_PATH_BYTES), which is counted before one of them is kept. So the
+/// work is bounded whatever the flash holds.
 pub fn ask<F: Flash>(alloc: Global, flash: &mut F, inquiry: &Inquiry) -> Result<Bytes, AskFault>
     ensures ok { IfOk result (Tells (F.device flash.old) inquiry.now) }
     ensures pages { (p : ℕ) → (F.device flash.new).pages p ≡ (F.device flash.old).pages p }
     ensures err { IfErr result (AskCause (F.device flash.old) inquiry.now (F.device flash.new)) }
 {
+    if is_of_versions(inquiry) {
+        return ask_versions(alloc, flash);
+    }
     match Fs::mount_or_release(alloc, flash) {
         Ok(fs) => {
             let mut fs = fs;
@@ -49,5 +68,21 @@ pub fn ask<F: Flash>(alloc: Global, flash: &mut F, inquiry: &Inquiry) -> Result<
             let _left = left;
             Err(AskFault::Unmounted(fault))
         }
+    }
+}
+
+/// The same, of the versions and checkpoints.
+fn ask_versions<F: Flash>(alloc: Global, flash: &mut F) -> Result<Bytes, AskFault>
+    ensures ok { IfOk result (Tells (F.device flash.old) Inquiry.Versions) }
+    ensures pages { (p : ℕ) → (F.device flash.new).pages p ≡ (F.device flash.old).pages p }
+    ensures err { IfErr result (AskCause (F.device flash.old) Inquiry.Versions (F.device flash.new)) }
+{
+    let mut system = match mount(alloc, flash) {
+        Ok(system) => system,
+        Err(fault) => return Err(AskFault::Unmounted(fault)),
+    };
+    match tell_versions(alloc, flash, &mut system) {
+        Ok(bytes) => Ok(bytes),
+        Err(fault) => Err(AskFault::Refused(fault)),
     }
 }

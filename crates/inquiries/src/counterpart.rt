@@ -49,8 +49,9 @@ pub(crate) fn counterpart_of(stat: Stat, there: Option<Stat>) -> Counterpart
     }
 }
 
-/// What stands at a path of a view, if anything does.
-pub(crate) fn stat_if_there<F: Flash>(
+/// What stands at a path of a view, if anything does. [`Fault::ReadFailed`], [`Fault::PowerCut`] and
+/// [`Fault::NoMemory`] may come.
+pub fn stat_if_there<F: Flash>(
     fs: &mut Fs<'_, F>,
     view: &View,
     path: &Path,

@@ -1,30 +1,31 @@
 //! What differs between two trees.
-ghost use Rattle.std.specs.Prelude.{◌≡◌, ◌++◌, ◌+◌, ◌≤◌, ◌↔◌, not, None, length, All, IsTrue, IfOk, OnOk, IfErr};
+ghost use Rattle.std.specs.Prelude.{◌≡◌, ◌++◌, ◌+◌, ◌≤◌, ◌↔◌, not, None, length, IsTrue, IfOk, OnOk, IfErr};
 ghost use Rattle.std.specs.FinMap.{get};
-ghost use Rattle.std.specs.List.{flat_map};
 ghost use Rattle.std.specs.Option.{option_or};
 ghost use Rattle.std.specs.Str.{bytes_eq};
 ghost use Rattle.plain_trees.specs.Trees.{Tree, bytes_of_file};
 ghost use Rattle.tree_counts.specs.Sizes.{size_of};
 ghost use Rattle.history_machine.specs.History.{view_refusal};
 ghost use Rattle.history_machine.specs.Machine.{view_tree};
-ghost use Rattle.inquiries.specs.Differences.{line_beside, file_beside, item_beside, lines_beside, lines_below, difference_below, difference_lines};
+ghost use Rattle.inquiries.specs.Differences.{line_beside, file_beside, lines_beside, lines_below, difference_below, difference_lines};
 ghost use Rattle.inquiries.specs.Inquiries.{inquiry_refusal, HasFewLines, Untold};
 ghost use Rattle.inquiries.specs.Items.{items_of, IsItemOf, IsDirectoryOf, IsFileOf};
+ghost use Rattle.inquiries.specs.PathBytes.{HasShortPaths};
 ghost use Rattle.inquiries.specs.PathHistories.{is_filled};
 ghost use Rattle.inquiries.specs.Readings.{shown, IsUnchanged, Fails, Meets};
+ghost use Rattle.inquiries.specs.Within.{is_below, tells_below};
 ghost use Rattle.inquiries.specs.declared.inquiry.Inquiry.{Inquiry};
 ghost use Rattle.inquiries.specs.declared.tell_fault.TheConstants.{MAX_LINES};
 
 use crate::counterpart::{Counterpart, find_counterpart};
-use crate::folders::list_below;
 use crate::items::Item;
+use crate::path_room::are_paths_short;
 use crate::printing::{Side, print_change, print_marked};
 use crate::pruned::differing_items;
 use crate::reading::{check_view, read_file, show_same, size_of_tree};
 use crate::tell_fault::{MAX_LINES, TellFault};
 use flash_model::Flash;
-use fs_types::{Bytes, Fault, MAX_NAMES, Path, View};
+use fs_types::{Bytes, Fault, Path, View};
 use std::alloc::Global;
 use undofs::{Fs, TreeSize};
 
@@ -50,6 +51,10 @@ pub(crate) fn tell_differences<F: Flash>(
     if !are_few(first, second) {
         return Err(TellFault::TooManyLines);
     }
+    let short = are_both_short(alloc, fs, old, first, new, second)?;
+    if !short {
+        return Err(TellFault::TooManyLines);
+    }
     Ok(list_differences(alloc, fs, old, new)?)
 }
 
@@ -61,6 +66,30 @@ fn are_few(first: TreeSize, second: TreeSize) -> bool
         (Some(first), Some(second)) => first <= MAX_LINES && second <= MAX_LINES - first,
         _ => false,
     }
+}
+
+/// Whether the paths are short of two trees, which have these sizes.
+fn are_both_short<F: Flash>(
+    alloc: Global,
+    fs: &mut Fs<'_, F>,
+    old: &View,
+    first: TreeSize,
+    new: &View,
+    second: TreeSize,
+) -> Result<bool, Fault>
+    requires old { view_refusal (shown fs.old).history old.now ≡ None }
+    requires first { first ≡ size_of (view_tree (shown fs.old) old.now) }
+    requires new { view_refusal (shown fs.old).history new.now ≡ None }
+    requires second { second ≡ size_of (view_tree (shown fs.old) new.now) }
+    ensures same { IsUnchanged fs.old fs.new }
+    ensures ok { IfOk result (λ short. IsTrue short ↔ (HasShortPaths (view_tree (shown fs.old) old.now) × HasShortPaths (view_tree (shown fs.old) new.now))) }
+    ensures err { IfErr result (Meets (F.device fs.old.flash.now) (F.device fs.new.flash.now)) }
+{
+    let short = are_paths_short(alloc, fs, old, first)?;
+    if !short {
+        return Ok(false);
+    }
+    are_paths_short(alloc, fs, new, second)
 }
 
 /// The lines of what differs between the trees of two views: first what went and what changed, then
@@ -106,30 +135,8 @@ fn add_lines<F: Flash>(
     Ok(())
 }
 
-/// Adds the lines of what stands in one of two trees, by what stands in the other.
-fn add_item_lines<F: Flash>(
-    alloc: Global,
-    fs: &mut Fs<'_, F>,
-    side: Side,
-    view: &View,
-    other: &View,
-    items: &[Item],
-    out: &mut Vec<u8>,
-) -> Result<(), Fault>
-    requires view { view_refusal (shown fs.old).history view.now ≡ None }
-    requires other { view_refusal (shown fs.old).history other.now ≡ None }
-    requires there { All (IsItemOf (view_tree (shown fs.old) view.now)) items.now }
-    ensures same { IsUnchanged fs.old fs.new }
-    ensures ok { OnOk result (out.new.items ≡ out.old.items ++ flat_map (item_beside side (view_tree (shown fs.old) view.now) (view_tree (shown fs.old) other.now)) items.now) }
-    ensures err { IfErr result (Meets (F.device fs.old.flash.now) (F.device fs.new.flash.now)) }
-{
-    for item in items {
-        add_line(alloc, fs, side, view, other, item, out)?;
-    }
-    Ok(())
-}
-
-/// Whether something differs below a directory that stands in the trees of two views.
+/// Whether something differs below a directory that stands in the trees of two views. What both have in one
+/// block is not read.
 pub(crate) fn differ_below<F: Flash>(
     alloc: Global,
     fs: &mut Fs<'_, F>,
@@ -143,30 +150,70 @@ pub(crate) fn differ_below<F: Flash>(
     ensures ok { IfOk result (λ differ. differ ≡ is_filled (difference_below (view_tree (shown fs.old) old.now) (view_tree (shown fs.old) new.now) directory.now)) }
     ensures err { IfErr result (Meets (F.device fs.old.flash.now) (F.device fs.new.flash.now)) }
 {
-    let mut lines = Vec::new(alloc);
-    add_lines_below(alloc, fs, Side::Old, old, new, directory, &mut lines)?;
-    add_lines_below(alloc, fs, Side::New, new, old, directory, &mut lines)?;
-    Ok(!lines.is_empty())
+    let went = tells_below(alloc, fs, Side::Old, old, new, directory)?;
+    if went {
+        return Ok(true);
+    }
+    tells_below(alloc, fs, Side::New, new, old, directory)
 }
 
-/// Adds the lines of what stands below a directory of one of two trees, by what stands in the other.
-fn add_lines_below<F: Flash>(
+/// Whether something below a directory has a line in one of two trees, by what stands in the other.
+fn tells_below<F: Flash>(
     alloc: Global,
     fs: &mut Fs<'_, F>,
     side: Side,
     view: &View,
     other: &View,
     directory: &Path,
-    out: &mut Vec<u8>,
-) -> Result<(), Fault>
-    requires view { IsDirectoryOf (shown fs.old) view.now directory.now }
+) -> Result<bool, Fault>
+    requires view { view_refusal (shown fs.old).history view.now ≡ None }
     requires other { view_refusal (shown fs.old).history other.now ≡ None }
     ensures same { IsUnchanged fs.old fs.new }
-    ensures ok { OnOk result (out.new.items ≡ out.old.items ++ lines_below side (view_tree (shown fs.old) view.now) (view_tree (shown fs.old) other.now) directory.now) }
+    ensures ok { IfOk result (λ tells. tells ≡ is_filled (lines_below side (view_tree (shown fs.old) view.now) (view_tree (shown fs.old) other.now) directory.now)) }
     ensures err { IfErr result (Meets (F.device fs.old.flash.now) (F.device fs.new.flash.now)) }
 {
-    let items = list_below(alloc, fs, view, directory, MAX_NAMES)?;
-    add_item_lines(alloc, fs, side, view, other, &items, out)
+    let items = differing_items(alloc, fs, view, other)?;
+    for item in &items {
+        let tells = tells_item(alloc, fs, side, view, other, directory, item)?;
+        if tells {
+            return Ok(true);
+        }
+    }
+    Ok(false)
+}
+
+/// Whether an item stands below a directory and has a line.
+fn tells_item<F: Flash>(
+    alloc: Global,
+    fs: &mut Fs<'_, F>,
+    side: Side,
+    view: &View,
+    other: &View,
+    directory: &Path,
+    item: &Item,
+) -> Result<bool, Fault>
+    requires view { view_refusal (shown fs.old).history view.now ≡ None }
+    requires other { view_refusal (shown fs.old).history other.now ≡ None }
+    requires there { IsItemOf (view_tree (shown fs.old) view.now) item.now }
+    ensures same { IsUnchanged fs.old fs.new }
+    ensures ok { IfOk result (λ tells. tells ≡ tells_below side (view_tree (shown fs.old) view.now) (view_tree (shown fs.old) other.now) directory.now item.now) }
+    ensures err { IfErr result (Meets (F.device fs.old.flash.now) (F.device fs.new.flash.now)) }
+{
+    if !is_below(directory, &item.path) {
+        return Ok(false);
+    }
+    let mut line = Vec::new(alloc);
+    add_line(alloc, fs, side, view, other, item, &mut line)?;
+    Ok(!line.is_empty())
+}
+
+/// Whether a path goes on from that of a directory.
+fn is_below(directory: &Path, path: &Path) -> bool
+    ensures { result ≡ is_below directory.now path.now }
+{
+    let above = directory.names();
+    let names = path.names();
+    above.len() < names.len() && names.starts_with(above)
 }
 
 /// Adds the line of what stands in one of two trees, if it has one.

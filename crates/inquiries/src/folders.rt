@@ -1,14 +1,18 @@
 //! What stands in a directory, to be copied out of a tree.
-ghost use Rattle.std.specs.Prelude.{◌≡◌, ◌↔◌, IsTrue, IfOk, OnOk, IfErr};
+ghost use Rattle.std.specs.Prelude.{◌≡◌, ◌≤◌, ◌↔◌, None, IsTrue, IfOk, OnOk, IfErr};
 ghost use Rattle.fs_types.specs.declared.limits.TheConstants.{MAX_NAMES};
 ghost use Rattle.plain_trees.specs.Trees.{Tree};
+ghost use Rattle.history_machine.specs.History.{view_refusal};
 ghost use Rattle.history_machine.specs.Machine.{view_tree};
-ghost use Rattle.tree_counts.specs.Sizes.{size_of};
+ghost use Rattle.tree_counts.specs.Sizes.{entries_of, lengths_of, size_of};
 ghost use Rattle.inquiries.specs.Folders.{IsSmall, Unlisted};
 ghost use Rattle.inquiries.specs.Items.{items_below, IsDirectoryOf};
 ghost use Rattle.inquiries.specs.Readings.{shown, IsUnchanged, Meets};
+ghost use Rattle.inquiries.specs.declared.folders.TheConstants.{MAX_TREE_BYTES};
+ghost use Rattle.inquiries.specs.declared.tell_fault.TheConstants.{MAX_LINES};
 
 use crate::items::{Item, add_items};
+use crate::path_room::are_paths_short;
 use crate::reading::size_of_tree;
 use crate::tell_fault::{MAX_LINES, TellFault};
 use flash_model::Flash;
@@ -22,8 +26,9 @@ pub const MAX_TREE_BYTES: u64 = 67_108_864;
 
 /// All that stands below a directory of a view: a directory before what stands in it, and names in byte
 /// order. [`TellFault::TooManyLines`] where the whole tree has over [`MAX_LINES`] directories and files,
-/// or over [`MAX_TREE_BYTES`] bytes in these: that is counted by node before it is walked. Else
-/// [`Fault::ReadFailed`], [`Fault::PowerCut`] and [`Fault::NoMemory`] may come.
+/// or over [`MAX_TREE_BYTES`] bytes in these, which is counted by node before it is walked, or its paths have
+/// over [`MAX_PATH_BYTES`](crate::MAX_PATH_BYTES). Else [`Fault::ReadFailed`], [`Fault::PowerCut`] and
+/// [`Fault::NoMemory`] may come.
 pub fn list_folder<F: Flash>(
     alloc: Global,
     fs: &mut Fs<'_, F>,
@@ -36,16 +41,36 @@ pub fn list_folder<F: Flash>(
     ensures ok { IfOk result (λ items. items.items ≡ items_below (view_tree (shown fs.old) view.now) MAX_NAMES directory.now) }
     ensures err { IfErr result (Unlisted (view_tree (shown fs.old) view.now) fs.old fs.new) }
 {
-    let size = size_of_tree(alloc, fs, view)?;
-    if !is_small(size) {
-        return Err(TellFault::TooManyLines);
-    }
+    check_small(alloc, fs, view)?;
     Ok(list_below(alloc, fs, view, directory, MAX_NAMES)?)
 }
 
-/// Whether a tree is small enough that something is copied out of it.
-pub(crate) fn is_small(size: TreeSize) -> bool
-    ensures { (t : Tree) → size ≡ size_of t → IsTrue result ↔ IsSmall t }
+/// Looks whether the tree of a view is small enough that something is copied out of it.
+pub(crate) fn check_small<F: Flash>(
+    alloc: Global,
+    fs: &mut Fs<'_, F>,
+    view: &View,
+) -> Result<(), TellFault>
+    requires { view_refusal (shown fs.old).history view.now ≡ None }
+    ensures same { IsUnchanged fs.old fs.new }
+    ensures small { OnOk result (IsSmall (view_tree (shown fs.old) view.now)) }
+    ensures err { IfErr result (Unlisted (view_tree (shown fs.old) view.now) fs.old fs.new) }
+{
+    let size = size_of_tree(alloc, fs, view)?;
+    if !has_few(size) {
+        return Err(TellFault::TooManyLines);
+    }
+    let short = are_paths_short(alloc, fs, view, size)?;
+    if !short {
+        return Err(TellFault::TooManyLines);
+    }
+    Ok(())
+}
+
+/// Whether a tree has few enough directories and files, and bytes in these, that something is copied out
+/// of it.
+fn has_few(size: TreeSize) -> bool
+    ensures { (t : Tree) → size ≡ size_of t → IsTrue result ↔ ((entries_of t ≤ MAX_LINES) × (lengths_of t ≤ MAX_TREE_BYTES)) }
 {
     match (size.entries, size.bytes) {
         (Some(entries), Some(bytes)) => entries <= MAX_LINES && bytes <= MAX_TREE_BYTES,
@@ -53,8 +78,9 @@ pub(crate) fn is_small(size: TreeSize) -> bool
     }
 }
 
-/// What stands below a directory of a view, in so many levels.
-pub(crate) fn list_below<F: Flash>(
+/// What stands below a directory of a view, in so many levels, however much that is.
+/// [`Fault::ReadFailed`], [`Fault::PowerCut`] and [`Fault::NoMemory`] may come.
+pub fn list_below<F: Flash>(
     alloc: Global,
     fs: &mut Fs<'_, F>,
     view: &View,

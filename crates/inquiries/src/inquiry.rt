@@ -1,10 +1,10 @@
 //! What is asked, and what is told.
-ghost use Rattle.std.specs.Prelude.{◌≡◌, ◌≤◌, ◌↔◌, None, length, IsTrue, IfOk, IfErr};
+ghost use Rattle.std.specs.Prelude.{◌≡◌, ◌≤◌, ◌↔◌, false, None, length, IsTrue, IfOk, IfErr};
 ghost use Rattle.plain_trees.specs.Trees.{Tree};
 ghost use Rattle.history_machine.specs.History.{view_refusal};
 ghost use Rattle.history_machine.specs.Machine.{view_tree};
 ghost use Rattle.tree_counts.specs.Sizes.{size_of};
-ghost use Rattle.inquiries.specs.Inquiries.{inquiry_refusal, IsTold, HasFewLines, Untold};
+ghost use Rattle.inquiries.specs.Inquiries.{inquiry_refusal, is_of_versions, IsTold, HasFewLines, Untold};
 ghost use Rattle.inquiries.specs.Items.{items_of};
 ghost use Rattle.inquiries.specs.Printed.{tree_lines};
 ghost use Rattle.inquiries.specs.declared.tell_fault.TheConstants.{MAX_LINES};
@@ -15,10 +15,10 @@ use crate::differences::tell_differences;
 use crate::items::{Item, items_of};
 use crate::listed::tell_entries;
 use crate::path_history::tell_path_history;
+use crate::path_room::are_paths_short;
 use crate::printing::lines_of;
 use crate::reading::{read_file, size_of_tree};
 use crate::tell_fault::{MAX_LINES, TellFault};
-use crate::versions::tell_versions;
 use flash_model::Flash;
 use fs_types::{Bytes, Fault, Path, View};
 use std::alloc::Global;
@@ -64,22 +64,13 @@ pub enum Inquiry {
     Versions,
 }
 
-/// Tells what is asked of a file system, which is only read.
-///
-/// Refused as the calls are that it takes: for a view, of two the first one before the other, for a path
-/// that is looked up, and for a directory in place of a file; [`Inquiry::History`] with [`Fault::NoEntry`] where
-/// nothing stands at the path in any version or checkpoint; [`Inquiry::Versions`] as [`Fs::df`]. Else
-/// [`Fault::ReadFailed`], [`Fault::PowerCut`] and [`Fault::NoMemory`] may come.
-///
-/// [`TellFault::TooManyLines`] for [`Inquiry::Tree`] where its answer would have over [`MAX_LINES`] lines;
-/// for [`Inquiry::Differences`] where two trees of different roots have more entries together; for
-/// [`Inquiry::History`] where the trees have in which a directory stands at the path. That is
-/// counted by node before a tree is walked, so the work is bounded whatever the flash holds.
-pub fn tell<F: Flash>(
+/// Tells what is asked of trees of a file system, which is only read.
+pub(crate) fn tell<F: Flash>(
     alloc: Global,
     fs: &mut Fs<'_, F>,
     inquiry: &Inquiry,
 ) -> Result<Bytes, TellFault>
+    requires { is_of_versions inquiry.now ≡ false }
     ensures same { IsUnchanged fs.old fs.new }
     ensures same_flash { flash_name fs.new ≡ flash_name fs.old }
     ensures accepted { IfOk result (λ _. inquiry_refusal (shown fs.old) inquiry.now ≡ None) }
@@ -93,8 +84,15 @@ pub fn tell<F: Flash>(
         Inquiry::List { view, path } => Ok(tell_entries(alloc, fs, view, path)?),
         Inquiry::History { path } => tell_path_history(alloc, fs, path),
         Inquiry::Differences { old, new } => tell_differences(alloc, fs, old, new),
-        Inquiry::Versions => Ok(tell_versions(alloc, fs)?),
+        Inquiry::Versions => unreachable!(),
     }
+}
+
+/// Whether this is asked of all that is kept, and of no view.
+pub(crate) fn is_of_versions(inquiry: &Inquiry) -> bool
+    ensures { result ≡ is_of_versions inquiry.now }
+{
+    matches!(inquiry, Inquiry::Versions)
 }
 
 /// The lines of a view's tree, where these are not too many.
@@ -123,6 +121,10 @@ pub(crate) fn few_items<F: Flash>(
 {
     let size = size_of_tree(alloc, fs, view)?;
     if !is_few(size) {
+        return Err(TellFault::TooManyLines);
+    }
+    let short = are_paths_short(alloc, fs, view, size)?;
+    if !short {
         return Err(TellFault::TooManyLines);
     }
     Ok(items_of(alloc, fs, view)?)

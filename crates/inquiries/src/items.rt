@@ -71,7 +71,7 @@ pub(crate) fn add_items<F: Flash>(
 }
 
 /// How many levels stand below what stands in a directory of so many: nothing stands below a file.
-fn levels_below(stat: Stat, levels: usize) -> usize
+pub(crate) fn levels_below(stat: Stat, levels: usize) -> usize
     requires { 0 < levels }
     ensures { result ≡ levels_below stat levels }
 {
@@ -82,7 +82,7 @@ fn levels_below(stat: Stat, levels: usize) -> usize
 }
 
 /// The path of an entry of a directory.
-fn child_of(alloc: Global, directory: &Path, name: &Name) -> Result<Path, AllocError>
+pub(crate) fn child_of(alloc: Global, directory: &Path, name: &Name) -> Result<Path, AllocError>
     requires { is_path (directory.now ++ name.now ∷ []) ≡ true }
     ensures { IfOk result (λ path. path ≡ directory.now ++ name.now ∷ []) }
 {

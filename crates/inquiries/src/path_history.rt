@@ -9,6 +9,7 @@ ghost use Rattle.tree_counts.specs.Sizes.{in_word};
 ghost use Rattle.inquiries.specs.Inquiries.{inquiry_refusal, HasFewLines, Untold};
 ghost use Rattle.inquiries.specs.PathHistories.{history_line, history_lines, is_changed, is_checkpoint, is_there, is_told, kept_views, looked_at, nowhere_in, state_line};
 ghost use Rattle.inquiries.specs.Readings.{shown, IsUnchanged, Fails, Meets};
+ghost use Rattle.inquiries.specs.Within.{have_other_lengths};
 ghost use Rattle.inquiries.specs.declared.inquiry.Inquiry.{Inquiry};
 ghost use Rattle.inquiries.specs.declared.tell_fault.TheConstants.{MAX_LINES};
 
@@ -203,8 +204,18 @@ fn is_checkpoint(view: &View) -> bool
     matches!(view, View::Checkpoint(_))
 }
 
+/// Whether two files have other lengths.
+fn have_other_lengths(was: Option<Stat>, is: Option<Stat>) -> bool
+    ensures { result ≡ have_other_lengths was is }
+{
+    match (was, is) {
+        (Some(Stat::File(bytes)), Some(Stat::File(others))) => bytes != others,
+        _ => false,
+    }
+}
+
 /// Whether something else stands at a path of a view than of the one before. Two views of one root are not
-/// looked at.
+/// looked at, nor is what directories of both have in one block. Files of one length are read.
 fn is_changed<F: Flash>(
     alloc: Global,
     fs: &mut Fs<'_, F>,
@@ -223,6 +234,9 @@ fn is_changed<F: Flash>(
     }
     let was = stat_if_there(fs, old, path)?;
     let is = stat_if_there(fs, new, path)?;
+    if have_other_lengths(was, is) {
+        return Ok(true);
+    }
     match was {
         None => Ok(is.is_some()),
         Some(stat) => match counterpart_of(stat, is) {

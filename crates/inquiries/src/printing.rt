@@ -1,10 +1,7 @@
 //! What is printed of trees.
-ghost use Rattle.std.specs.Prelude.{◌≡◌, ◌++◌, ℕ, codes, decimal, OnOk, IfOk};
+ghost use Rattle.std.specs.Prelude.{◌≡◌, ◌++◌, codes, decimal, OnOk, IfOk};
 ghost use Rattle.std.specs.List.{flat_map};
-ghost use Rattle.plain_trees.specs.Trees.{Tree};
-ghost use Rattle.tree_counts.specs.Sizes.{in_word, size_of};
-ghost use Rattle.inquiries.specs.Items.{items_of};
-ghost use Rattle.inquiries.specs.Printed.{path_text, stat_mark, item_line, sizes_text, count_text};
+ghost use Rattle.inquiries.specs.Printed.{path_text, stat_mark, item_line, size_text, word_text};
 ghost use Rattle.inquiries.specs.Differences.{side_mark, changed_line};
 ghost use Rattle.inquiries.specs.PathHistories.{state_text, view_text};
 ghost use Rattle.inquiries.specs.Versions.{alone_text, kept_text};
@@ -57,7 +54,7 @@ pub(crate) fn print_change(out: &mut Vec<u8>, path: &Path) -> Result<(), AllocEr
 
 /// Appends how many directories and files stand in a tree, and how many bytes the files have.
 pub(crate) fn print_size(out: &mut Vec<u8>, size: TreeSize) -> Result<(), AllocError>
-    ensures { (t : Tree) → size ≡ size_of t → OnOk result (out.new.items ≡ out.old.items ++ sizes_text (items_of t)) }
+    ensures { OnOk result (out.new.items ≡ out.old.items ++ size_text size) }
 {
     out.extend_from_slice(b" entries ")?;
     print_count(out, size.entries)?;
@@ -127,7 +124,7 @@ fn print_counted(out: &mut Vec<u8>, text: &[u8], number: u64) -> Result<(), Allo
 
 /// Appends a number, or that it is past the greatest one.
 fn print_count(out: &mut Vec<u8>, count: Option<u64>) -> Result<(), AllocError>
-    ensures { (n : ℕ) → count ≡ in_word n → OnOk result (out.new.items ≡ out.old.items ++ count_text n) }
+    ensures { OnOk result (out.new.items ≡ out.old.items ++ word_text count) }
 {
     match count {
         Some(count) => print_number(out, count),

@@ -8,9 +8,9 @@ ghost use Rattle.inquiries.specs.Items.{item_at};
 ghost use Rattle.inquiries.specs.Pruned.{AreElsewhere, IsElsewhere, IsPruned};
 ghost use Rattle.inquiries.specs.Readings.{shown, IsUnchanged, Meets};
 
-use crate::folders::is_small;
+use crate::folders::check_small;
 use crate::items::Item;
-use crate::reading::{size_of_tree, stat_at};
+use crate::reading::stat_at;
 use crate::tell_fault::TellFault;
 use flash_model::Flash;
 use fs_types::{Fault, Path, Sequence, View};
@@ -35,10 +35,7 @@ pub fn list_differing<F: Flash>(
     ensures ok { IfOk result (λ items. IsPruned (view_tree (shown fs.old) view.now) (view_tree (shown fs.old) other.now) items.items) }
     ensures err { IfErr result (Unlisted (view_tree (shown fs.old) view.now) fs.old fs.new) }
 {
-    let size = size_of_tree(alloc, fs, view)?;
-    if !is_small(size) {
-        return Err(TellFault::TooManyLines);
-    }
+    check_small(alloc, fs, view)?;
     Ok(differing_items(alloc, fs, view, other)?)
 }
 

@@ -6,7 +6,6 @@ ghost use Rattle.plain_trees.specs.Contents.{Entry};
 ghost use Rattle.history_machine.specs.History.{view_refusal};
 ghost use Rattle.history_machine.specs.Machine.{refusal, view_tree, stat_of};
 ghost use Rattle.fs_types.specs.declared.call.Call.{Call};
-ghost use Rattle.system.specs.VersionSpace.{IsHistorySpace};
 ghost use Rattle.tree_counts.specs.Sizes.{size_of};
 ghost use Rattle.inquiries.specs.Items.{all_entries};
 ghost use Rattle.inquiries.specs.Readings.{shown, IsUnchanged, Fails, Meets};
@@ -15,7 +14,7 @@ ghost use Rattle.inquiries.specs.Versions.{kept_serials, kept_names};
 use flash_model::Flash;
 use fs_types::{Bytes, Fault, MAX_FILE_BYTES, Name, Path, Sequence, Stat, View};
 use std::alloc::Global;
-use undofs::{Fs, HistorySpace, Log, TreeSize};
+use undofs::{Fs, Log, TreeSize};
 
 /// So many bytes are asked for where all bytes of a file are: none has more.
 const ALL_BYTES: u64 = MAX_FILE_BYTES as u64;
@@ -89,15 +88,6 @@ pub(crate) fn kept_trees<F: Flash>(alloc: Global, fs: &Fs<'_, F>) -> Result<Log,
     ensures err { IfErr result (Meets (F.device fs.now.flash.now) (F.device fs.now.flash.now)) }
 {
     fs.log(alloc)
-}
-
-/// What the trees that are kept keep of the flash.
-pub(crate) fn kept_space<F: Flash>(alloc: Global, fs: &mut Fs<'_, F>) -> Result<HistorySpace, Fault>
-    ensures same { IsUnchanged fs.old fs.new }
-    ensures space { IfOk result (IsHistorySpace (F.device fs.old.flash.now) fs.old.system.state) }
-    ensures err { IfErr result (Meets (F.device fs.old.flash.now) (F.device fs.new.flash.now)) }
-{
-    fs.space_by_version(alloc)
 }
 
 /// All bytes of a file of a view. Refused as the call is that reads it.

@@ -10,13 +10,18 @@ use thiserror::Error;
 /// The most lines that are told of a tree, and the most entries that are looked at for those that differ.
 pub const MAX_LINES: u64 = 1_048_576;
 
+/// The most bytes that the paths of all that stands in a tree may have together, with a `/` before each name,
+/// where all of them are kept before a line is told.
+pub const MAX_PATH_BYTES: u64 = 67_108_864;
+
 /// Why what is asked of a file system is not told.
 #[derive(Clone, Copy, Debug, PartialEq, Eq, Error)]
 pub enum TellFault {
     /// What is asked is refused.
     #[error("refused: {0}")]
     Refused(Fault),
-    /// More lines would be told than [`MAX_LINES`], or as many entries would have to be looked at.
+    /// More lines would be told than [`MAX_LINES`], or as many entries would have to be looked at; or their
+    /// paths have over [`MAX_PATH_BYTES`].
     #[error("too many lines")]
     TooManyLines,
 }

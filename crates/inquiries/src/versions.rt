@@ -1,107 +1,136 @@
 //! The versions and the checkpoints, with what their trees hold and what they keep of the flash.
-ghost use Rattle.std.specs.Prelude.{◌≡◌, ◌++◌, None, IfOk, OnOk, IfErr};
+ghost use Rattle.std.specs.Prelude.{◌≡◌, ◌++◌, ◌≤◌, ℕ, length, map, IfOk, OnOk, IfErr};
 ghost use Rattle.std.specs.List.{flat_map, enumerate_from, zip};
-ghost use Rattle.history_machine.specs.History.{view_refusal};
-ghost use Rattle.fs_types.specs.declared.call.View.{View};
-ghost use Rattle.inquiries.specs.Readings.{shown, IsUnchanged, Meets};
-ghost use Rattle.inquiries.specs.Versions.{AreVersionLines, version_text, version_line, checkpoint_line, view_sizes, kept_serials, kept_names, versions_lines};
+ghost use Rattle.mounting.specs.Records.{roots_of};
+ghost use Rattle.system.specs.Systems.{IsSystem};
+ghost use Rattle.system.specs.VersionSpace.{IsHistorySpace};
+ghost use Rattle.tree_counts.specs.Sizes.{size_of};
+ghost use Rattle.working_state.specs.Mounted.{IsMounted};
+ghost use Rattle.working_state.specs.Seen.{tree_on};
+ghost use Rattle.inquiries.specs.Readings.{IsStillShown, Meets};
+ghost use Rattle.inquiries.specs.Versions.{AreVersionLines, version_row, row_at, checkpoint_row, kept_rows};
 
 use crate::printing::{print_alone, print_kept, print_size};
-use crate::reading::{kept_space, kept_trees, size_of_tree};
 use flash_model::Flash;
-use fs_types::{Bytes, CpName, Fault, View};
+use fs_types::{Bytes, CpName, Fault};
+use history::History;
+use mounting::list_roots;
 use script::{print_name, print_number};
-use std::alloc::Global;
-use undofs::{Fs, HistorySpace, Log, VersionSpace};
+use std::alloc::{AllocError, Global};
+use stored_sizes::sizes_of_roots_on;
+use system::System;
+use tree_counts::TreeSize;
+use undofs::{HistorySpace, VersionSpace};
+use working_state::State;
 
 /// A line for each kept version, the oldest first, and then for each checkpoint, in byte order of
-/// their names.
-pub(crate) fn tell_versions<F: Flash>(alloc: Global, fs: &mut Fs<'_, F>) -> Result<Bytes, Fault>
-    ensures same { IsUnchanged fs.old fs.new }
-    ensures ok { IfOk result (AreVersionLines (F.device fs.old.flash.now) fs.old.system.state) }
-    ensures err { IfErr result (Meets (F.device fs.old.flash.now) (F.device fs.new.flash.now)) }
+/// their names. What stands in their trees is counted by one table for all of them, so that each node of a
+/// directory is read once for that.
+pub(crate) fn tell_versions<F: Flash>(
+    alloc: Global,
+    flash: &mut F,
+    system: &mut System,
+) -> Result<Bytes, Fault>
+    requires { IsSystem (F.device flash.old) system.old }
+    ensures pages { (p : ℕ) → (F.device flash.new).pages p ≡ (F.device flash.old).pages p }
+    ensures ok { IfOk result (AreVersionLines (F.device flash.old) system.old.state) }
+    ensures err { IfErr result (Meets (F.device flash.old) (F.device flash.new)) }
 {
-    let kept = kept_trees(alloc, fs)?;
-    let space = kept_space(alloc, fs)?;
-    list_versions(alloc, fs, &kept, &space)
+    let space = kept_space(alloc, flash, system)?;
+    let sizes = kept_sizes(alloc, flash, &mut system.state)?;
+    Ok(list_versions(alloc, &system.state.history, &sizes, &space)?)
 }
 
-/// The lines of what is kept, which keeps so much.
-fn list_versions<F: Flash>(
+/// What the trees that are kept keep of the flash.
+fn kept_space<F: Flash>(
     alloc: Global,
-    fs: &mut Fs<'_, F>,
-    kept: &Log,
+    flash: &mut F,
+    system: &mut System,
+) -> Result<HistorySpace, Fault>
+    requires { IsSystem (F.device flash.old) system.old }
+    ensures system { IsSystem (F.device flash.new) system.new }
+    ensures still { IsStillShown (F.device flash.old) system.old.state (F.device flash.new) system.new.state }
+    ensures space { IfOk result (IsHistorySpace (F.device flash.old) system.old.state) }
+    ensures err { IfErr result (Meets (F.device flash.old) (F.device flash.new)) }
+{
+    system.space_by_version(alloc, flash)
+}
+
+/// How much stands in the trees that are kept: of the versions, the oldest first, and then of the
+/// checkpoints.
+fn kept_sizes<F: Flash>(
+    alloc: Global,
+    flash: &mut F,
+    state: &mut State,
+) -> Result<Vec<TreeSize>, Fault>
+    requires { IsMounted (F.device flash.old) state.old }
+    ensures history { state.new.history ≡ state.old.history }
+    ensures pages { (p : ℕ) → (F.device flash.new).pages p ≡ (F.device flash.old).pages p }
+    ensures sizes { IfOk result (λ sizes. sizes.items ≡ map (λ root. size_of (tree_on (F.device flash.old) root)) (roots_of state.old.history)) }
+    ensures err { IfErr result (Meets (F.device flash.old) (F.device flash.new)) }
+{
+    let roots = list_roots(alloc, &state.history)?;
+    sizes_of_roots_on(alloc, flash, &mut state.storage, &roots)
+}
+
+/// The lines of what a history keeps, whose trees hold so much, and which keeps so much of the flash.
+fn list_versions(
+    alloc: Global,
+    history: &History<u32>,
+    sizes: &[TreeSize],
     space: &HistorySpace,
-) -> Result<Bytes, Fault>
-    requires serials { kept.now.versions ≡ kept_serials (shown fs.old) }
-    requires cursor { kept.now.cursor ≡ (shown fs.old).history.cursor }
-    requires names { kept.now.checkpoints ≡ kept_names (shown fs.old) }
-    ensures same { IsUnchanged fs.old fs.new }
-    ensures ok { IfOk result (λ bytes. bytes ≡ versions_lines (shown fs.old) space.now) }
-    ensures err { IfErr result (Meets (F.device fs.old.flash.now) (F.device fs.new.flash.now)) }
+) -> Result<Bytes, AllocError>
+    requires { length history.now.versions ≤ length sizes.now }
+    ensures { IfOk result (λ bytes. bytes ≡ kept_rows history.now sizes.now space.now) }
 {
     let mut out = Vec::new(alloc);
+    let serials = history.serials(alloc)?;
+    let names = history.checkpoint_names(alloc)?;
+    let cursor = history.cursor();
     let versions = space.versions.as_slice();
-    add_versions(
-        alloc,
-        fs,
-        kept.versions.as_slice(),
-        versions,
-        kept.cursor,
-        &mut out,
-    )?;
+    add_versions(serials.as_slice(), sizes, versions, cursor, &mut out)?;
+    let others = &sizes[history.versions().len()..];
     let checkpoints = space.checkpoints.as_slice();
-    add_checkpoints(
-        alloc,
-        fs,
-        kept.checkpoints.as_slice(),
-        checkpoints,
-        &mut out,
-    )?;
+    add_checkpoints(names.as_slice(), others, checkpoints, &mut out)?;
     Ok(Bytes::from_vec(out))
 }
 
-/// Adds the lines of versions, which keep so much, and of which the one at a place is the present one.
-fn add_versions<F: Flash>(
-    alloc: Global,
-    fs: &mut Fs<'_, F>,
+/// Adds the lines of versions, whose trees hold and which keep so much, and of which the one at a place is
+/// the present one.
+fn add_versions(
     serials: &[u64],
+    sizes: &[TreeSize],
     space: &[VersionSpace],
-    cursor: u64,
+    cursor: usize,
     out: &mut Vec<u8>,
-) -> Result<(), Fault>
-    requires serials { serials.now ≡ kept_serials (shown fs.old) }
-    requires cursor { cursor ≡ (shown fs.old).history.cursor }
-    ensures same { IsUnchanged fs.old fs.new }
-    ensures ok { OnOk result (out.new.items ≡ out.old.items ++ flat_map (version_line (shown fs.old)) (enumerate_from 0 (zip serials.now space.now))) }
-    ensures err { IfErr result (Meets (F.device fs.old.flash.now) (F.device fs.new.flash.now)) }
+) -> Result<(), AllocError>
+    ensures { OnOk result (out.new.items ≡ out.old.items ++ flat_map (row_at cursor) (enumerate_from 0 (zip serials.now (zip sizes.now space.now)))) }
 {
     for (place, serial) in serials.iter().enumerate() {
+        let Some(size) = sizes.get(place) else {
+            return Ok(());
+        };
         let Some(kept) = space.get(place) else {
             return Ok(());
         };
-        add_version(alloc, fs, *serial, *kept, place as u64 == cursor, out)?;
+        add_version(*serial, *size, *kept, place == cursor, out)?;
     }
     Ok(())
 }
 
-/// Adds the line of a version, which keeps so much.
-fn add_version<F: Flash>(
-    alloc: Global,
-    fs: &mut Fs<'_, F>,
+/// Adds the line of a version, whose tree holds and which keeps so much.
+fn add_version(
     serial: u64,
+    size: TreeSize,
     kept: VersionSpace,
     is_present: bool,
     out: &mut Vec<u8>,
-) -> Result<(), Fault>
-    requires { view_refusal (shown fs.old).history (View.Serial serial) ≡ None }
-    ensures same { IsUnchanged fs.old fs.new }
-    ensures ok { OnOk result (out.new.items ≡ out.old.items ++ version_text (shown fs.old) serial kept is_present) }
-    ensures err { IfErr result (Meets (F.device fs.old.flash.now) (F.device fs.new.flash.now)) }
+) -> Result<(), AllocError>
+    ensures { OnOk result (out.new.items ≡ out.old.items ++ version_row serial size kept is_present) }
 {
     out.push(b'@')?;
     print_number(out, serial)?;
-    add_sizes(alloc, fs, &View::Serial(serial), out)?;
+    print_size(out, size)?;
     print_kept(out, kept)?;
     if is_present {
         out.extend_from_slice(b" present")?;
@@ -110,62 +139,40 @@ fn add_version<F: Flash>(
     Ok(())
 }
 
-/// Adds the lines of checkpoints, each of which keeps so many blocks alone.
-fn add_checkpoints<F: Flash>(
-    alloc: Global,
-    fs: &mut Fs<'_, F>,
+/// Adds the lines of checkpoints, whose trees hold so much, and each of which keeps so many blocks alone.
+fn add_checkpoints(
     names: &[CpName],
+    sizes: &[TreeSize],
     space: &[u64],
     out: &mut Vec<u8>,
-) -> Result<(), Fault>
-    requires { names.now ≡ kept_names (shown fs.old) }
-    ensures same { IsUnchanged fs.old fs.new }
-    ensures ok { OnOk result (out.new.items ≡ out.old.items ++ flat_map (checkpoint_line (shown fs.old)) (zip names.now space.now)) }
-    ensures err { IfErr result (Meets (F.device fs.old.flash.now) (F.device fs.new.flash.now)) }
+) -> Result<(), AllocError>
+    ensures { OnOk result (out.new.items ≡ out.old.items ++ flat_map checkpoint_row (zip names.now (zip sizes.now space.now))) }
 {
     for (place, name) in names.iter().enumerate() {
+        let Some(size) = sizes.get(place) else {
+            return Ok(());
+        };
         let Some(alone) = space.get(place) else {
             return Ok(());
         };
-        add_checkpoint(alloc, fs, name, *alone, out)?;
+        add_checkpoint(name, *size, *alone, out)?;
     }
     Ok(())
 }
 
-/// Adds the line of a checkpoint, which keeps so many blocks alone.
-fn add_checkpoint<F: Flash>(
-    alloc: Global,
-    fs: &mut Fs<'_, F>,
+/// Adds the line of a checkpoint, whose tree holds so much, and which keeps so many blocks alone.
+fn add_checkpoint(
     name: &CpName,
+    size: TreeSize,
     alone: u64,
     out: &mut Vec<u8>,
-) -> Result<(), Fault>
-    requires { view_refusal (shown fs.old).history (View.Checkpoint name.now) ≡ None }
-    ensures same { IsUnchanged fs.old fs.new }
-    ensures ok { OnOk result (out.new.items ≡ out.old.items ++ checkpoint_line (shown fs.old) (name.now, alone)) }
-    ensures err { IfErr result (Meets (F.device fs.old.flash.now) (F.device fs.new.flash.now)) }
+) -> Result<(), AllocError>
+    ensures { OnOk result (out.new.items ≡ out.old.items ++ checkpoint_row (name.now, (size, alone))) }
 {
     out.push(b'=')?;
     print_name(out, name.as_bytes())?;
-    add_sizes(alloc, fs, &View::Checkpoint(name.clone()?), out)?;
+    print_size(out, size)?;
     print_alone(out, alone)?;
     out.push(b'\n')?;
-    Ok(())
-}
-
-/// Adds how much stands in the tree of a view.
-fn add_sizes<F: Flash>(
-    alloc: Global,
-    fs: &mut Fs<'_, F>,
-    view: &View,
-    out: &mut Vec<u8>,
-) -> Result<(), Fault>
-    requires { view_refusal (shown fs.old).history view.now ≡ None }
-    ensures same { IsUnchanged fs.old fs.new }
-    ensures ok { OnOk result (out.new.items ≡ out.old.items ++ view_sizes (shown fs.old) view.now) }
-    ensures err { IfErr result (Meets (F.device fs.old.flash.now) (F.device fs.new.flash.now)) }
-{
-    let size = size_of_tree(alloc, fs, view)?;
-    print_size(out, size)?;
     Ok(())
 }

@@ -66,20 +66,28 @@ place_words None view = (codes "/", view)
 place_words (Some word) (Some view) = (word.now, Some view)
 place_words (Some word) None = if is_view_word word.now then (codes "/", Some word) else (word.now, None)
 
--- for a list the path is read first
-abbrev pub list_in : Path → Result View Failure → Result Inquiry Failure
-list_in path (Ok view) = Ok (Inquiry.List view path)
-list_in path (Err failure) = Err failure
+-- the view and the path that they spell: the path is read first
+abbrev pub place_in : Path → Result View Failure → Result (View × Path) Failure
+place_in path (Ok view) = Ok (view, path)
+place_in path (Err failure) = Err failure
 
-abbrev pub list_at : Result Path Failure → Result View Failure → Result Inquiry Failure
-list_at (Ok path) view = list_in path view
-list_at (Err failure) view = Err failure
+abbrev pub place_at : Result Path Failure → Result View Failure → Result (View × Path) Failure
+place_at (Ok path) view = place_in path view
+place_at (Err failure) view = Err failure
 
-abbrev pub list_of_words : List ℕ × Option (Bor (List ℕ)) → Result Inquiry Failure
-list_of_words words = list_at (path_spelled words.0) (view_spelled words.1)
+abbrev pub place_by : List ℕ × Option (Bor (List ℕ)) → Result (View × Path) Failure
+place_by words = place_at (path_spelled words.0) (view_spelled words.1)
+
+abbrev pub place_spelled : Option (Bor (List ℕ)) → Option (Bor (List ℕ)) → Result (View × Path) Failure
+place_spelled path view = place_by (place_words path view)
+
+-- for a list
+abbrev pub list_of : Result (View × Path) Failure → Result Inquiry Failure
+list_of (Ok place) = Ok (Inquiry.List place.0 place.1)
+list_of (Err failure) = Err failure
 
 abbrev pub list_spelled : Option (Bor (List ℕ)) → Option (Bor (List ℕ)) → Result Inquiry Failure
-list_spelled path view = list_of_words (place_words path view)
+list_spelled path view = list_of (place_spelled path view)
 
 -- the history of a path
 abbrev pub path_history_of : Result Path Failure → Result Inquiry Failure

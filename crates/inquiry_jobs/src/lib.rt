@@ -1,5 +1,5 @@
-//! What is told of an image: one of its files, a directory, what stood at a path, its tree, what differs between two of its trees, and what
-//! its versions hold.
+//! What is told of an image: one of its files, a directory, what stood at a path, its tree, what differs
+//! between two of its trees, and what its versions hold.
 #![tactic(auto)]
 
 mod asking;
@@ -14,5 +14,6 @@ pub use asking::{
 };
 pub use last_change::tell_last_change;
 pub use path_word::path_of_word;
+pub use place_words::place_of_words;
 pub use planned::list_as_planned;
 pub use view_word::view_of_word;

@@ -184,3 +184,26 @@ none_gone f roots s block none = record {
   };
   done = λ b has. absurd (in_none b (subst (λ (l : List ℕ). Contains l b) none has));
 }
+
+-- ---- one root after the other
+
+-- how much each block leads to that was read is found
+abbrev pub AreAllFound : NodeSizes → Type 0
+AreAllFound s = (b : ℕ) → Contains s.read.items b → (size : TreeSize) × Has s b size
+
+pub none_found : (s : NodeSizes) → s.read.items ≡ [] → AreAllFound s
+none_found s none b has = absurd (in_none b (subst (λ (l : List ℕ). Contains l b) none has))
+
+pub none_reached : (f : Blocks) (roots : List ℕ) (s : NodeSizes) → s.read.items ≡ [] → AreReached f roots s.read.items
+none_reached f roots s none = (none_gone f roots s 0 none).are
+
+pub found_on : (s t : NodeSizes) → AreAllFound s → StillHas s t → AreDone s t → AreAllFound t
+found_on s t found stays done b has = by (done b has)
+  where
+    by : Contains s.read.items b ⊎ ((size : TreeSize) × Has t b size) → (size : TreeSize) × Has t b size
+    by (inl before) = let (size, is) = found b before in (size, stays b size is)
+    by (inr now) = now
+
+-- so the next root may be gone over
+pub next_gone : (f : Blocks) (roots : List ℕ) (s : NodeSizes) (root : ℕ) → AreReached f roots s.read.items → AreAllFound s → IsGoneTo f roots s root
+next_gone f roots s root are found = record { are = are; done = λ b has. inl (found b has) }

@@ -6,5 +6,5 @@ mod node_sizes;
 mod roots;
 mod tree_size;
 
-pub use roots::size_of_root;
+pub use roots::{size_of_root, sizes_of_roots};
 pub use tree_size::TreeSize;

@@ -1,9 +1,10 @@
-//! How much stands in the tree of a root.
-ghost use Rattle.std.specs.Prelude.{◌≡◌, ℕ, ◌-◌, [], ◌∷◌, IfOk, IfErr};
+//! How much stands in the trees of roots.
+ghost use Rattle.std.specs.Prelude.{◌≡◌, ℕ, ◌-◌, [], ◌∷◌, map, IfOk, IfErr};
 ghost use Rattle.block_trees.specs.Trees.{IsRoot, root_tree};
 ghost use Rattle.node_format.specs.Headers.{body_header};
 ghost use Rattle.nodes.specs.Faults.{IsLookFault};
 ghost use Rattle.nodes.specs.Frames.{OnlyLooks};
+ghost use Rattle.reclaim.specs.Verified.{AreRoots};
 ghost use Rattle.tree_counts.specs.Sizes.{size_of};
 ghost use Rattle.tree_counts.specs.Counted.{ReadsOnce};
 
@@ -32,4 +33,29 @@ pub fn size_of_root<N: Nodes>(alloc: Global, nodes: &mut N, root: u32) -> Result
 {
     let mut sizes = NodeSizes::new(alloc, nodes.block_count())?;
     size_from(alloc, nodes, root, MOST_STEPS, &mut sizes)
+}
+
+/// The same of each of some roots, in order: a directory that several of them reach is read once for all.
+///
+/// [`Fault::ReadFailed`], [`Fault::PowerCut`], [`Fault::NoMemory`].
+pub fn sizes_of_roots<N: Nodes>(
+    alloc: Global,
+    nodes: &mut N,
+    roots: &[u32],
+) -> Result<Vec<TreeSize>, Fault>
+    requires sound { N.is_sound nodes.old }
+    requires trees { AreRoots (N.limit nodes.old) (N.node nodes.old) roots.now }
+    ensures sizes { IfOk result (λ sizes. sizes.items ≡ map (λ root. size_of (root_tree (N.limit nodes.old - body_header) (N.node nodes.old) root)) roots.now) }
+    ensures reads { ReadsOnce (N.node nodes.old) roots.now (N.reads nodes.old) (N.reads nodes.new) }
+    ensures looks { OnlyLooks N.node N.kept N.writes N.follows N.is_sound N.limit N.blocks nodes.old nodes.new }
+    ensures why { IfErr result (λ fault. N.causes nodes.old nodes.new fault) }
+    ensures faults { IfErr result IsLookFault }
+{
+    let mut table = NodeSizes::new(alloc, nodes.block_count())?;
+    let mut sizes = Vec::new(alloc);
+    for root in roots {
+        let size = size_from(alloc, nodes, *root, MOST_STEPS, &mut table)?;
+        sizes.push(size)?;
+    }
+    Ok(sizes)
 }

@@ -1,4 +1,4 @@
-use Rattle.inquiries.proofs.Counted.{Ended, ended}
+use Rattle.inquiries.proofs.Counted.{ended}
 use Rattle.inquiries.proofs.reading.size_of_tree.Goals as goal
 
 pub returns-clause-same : goal.returns-clause-same

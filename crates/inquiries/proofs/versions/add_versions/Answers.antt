@@ -1,37 +1,36 @@
 use Rattle.std.proofs.Common.{◌∙◌, ◌++◌, ℕ, inl, inr, get_or, sym, ap, ap₂}
 use Rattle.std.specs.Prelude.{◌==◌}
-use Rattle.history_machine.specs.Machine.{Machine}
+use Rattle.std.specs.List.{zip}
 use Rattle.system.specs.declared.version_space.VersionSpace.{VersionSpace}
-use Rattle.inquiries.specs.Readings.{shown}
-use Rattle.inquiries.specs.Versions.{version_line, version_text}
-use Rattle.inquiries.proofs.PairLines.{got_none, got_some, place_more, places_all}
-use Rattle.inquiries.proofs.Readings.{unchanged-trans}
-use Rattle.inquiries.proofs.VersionLemmas.{serial_seen}
+use Rattle.tree_counts.specs.declared.tree_size.TreeSize.{TreeSize}
+use Rattle.inquiries.specs.Versions.{row_at, version_row}
+use Rattle.inquiries.proofs.PairLines.{got_none, got_some, place_more, places_all, zip_at, zip_long, zip_short}
 use Rattle.inquiries.proofs.versions.add_versions.Goals as goal
 
-pub add_version-requires : goal.add_version-requires
-add_version-requires g c =
-    serial_seen (shown c.args.fs.now) (shown c.loop-place.fs) c.args.fs.now.mounted.mounted.machine c.loop-place.invariant.0.machine c.args.serials.now c.loop-place.place 0
-    c.requires.serials c.loop-place-test.true
-
 pub loop-place-preserved : goal.loop-place-preserved
-loop-place-preserved g c =
-    let serial : ℕ = get_or c.args.serials.now c.loop-place.place 0 in
+loop-place-preserved c =
     let place : ℕ = c.loop-place.place in
-    let kept : VersionSpace = c.in-Some.kept.now in
-    let got = got_some c.args.space.now place c.get.result c.in-Some.kept c.get.ensures.lookup c.in-Some.is in
-    let grown =
-    c.in_ok-add_version.ensures.ok ∙ ap₂ (λ (m : Machine) (cursor : ℕ). c.loop-place.out.items ++ version_text m serial kept (place == cursor)) c.loop-place.invariant.0.machine c.requires.cursor
-    ∙ ap (λ (k : VersionSpace). c.loop-place.out.items ++ version_line (shown c.args.fs.now) (place, (serial, k))) (sym got.1) in (
-      unchanged-trans c.args.fs.now c.loop-place.fs c.add_version.new.fs c.loop-place.invariant.0 c.add_version.ensures.same,
-      place_more c.args.serials.now c.args.space.now c.args.out.now.items (version_line (shown c.args.fs.now)) place 0 kept c.loop-place.out.items c.add_version.new.out.items c.loop-place-test.true got.0 c.loop-place.invariant.1 grown,
-    )
+    let serial : ℕ = get_or c.args.serials.now place 0 in
+    let size : TreeSize = c.in-Some.size.now in
+    let kept : VersionSpace = c.in-Some-get.kept.now in
+    let sized = got_some c.args.sizes.now place c.get.result c.in-Some.size c.get.ensures.lookup c.in-Some.is in
+    let got = got_some c.args.space.now place c.get-in-loop-place.result c.in-Some-get.kept c.get-in-loop-place.ensures.lookup c.in-Some-get.is in
+    place_more c.args.serials.now (zip c.args.sizes.now c.args.space.now) c.args.out.now.items (row_at c.args.cursor) place 0 (size, kept) c.loop-place.out.items c.add_version.new.out.items
+    c.loop-place-test.true (zip_long c.args.sizes.now c.args.space.now place sized.0 got.0) c.loop-place.invariant
+    (c.in_ok-add_version.ensures
+    ∙ ap₂ (λ (s : TreeSize) (k : VersionSpace). c.loop-place.out.items ++ version_row serial s k (place == c.args.cursor)) (sym sized.1) (sym got.1)
+    ∙ ap (λ (pair : TreeSize × VersionSpace). c.loop-place.out.items ++ row_at c.args.cursor (place, (serial, pair))) (sym (zip_at c.args.sizes.now c.args.space.now place size kept sized.0 got.0)))
 
-pub returns-in_default-clause-ok : goal.returns-in_default-clause-ok
-returns-in_default-clause-ok g c =
-    places_all c.args.serials.now c.args.space.now c.args.out.now.items (version_line (shown c.args.fs.now)) c.loop-place.place c.loop-place.out.items
-    (inr (got_none c.args.space.now c.loop-place.place c.get.result c.get.ensures.lookup c.in_default.is)) c.loop-place.invariant.1
+pub returns-in_default : goal.returns-in_default
+returns-in_default c =
+    places_all c.args.serials.now (zip c.args.sizes.now c.args.space.now) c.args.out.now.items (row_at c.args.cursor) c.loop-place.place c.loop-place.out.items
+    (inr (zip_short c.args.sizes.now c.args.space.now c.loop-place.place (inl (got_none c.args.sizes.now c.loop-place.place c.get.result c.get.ensures.lookup c.in_default.is)))) c.loop-place.invariant
 
-pub returns-clause-ok : goal.returns-clause-ok
-returns-clause-ok g c =
-    places_all c.args.serials.now c.args.space.now c.args.out.now.items (version_line (shown c.args.fs.now)) c.loop-place.place c.loop-place.out.items (inl c.loop-place-test.false) c.loop-place.invariant.1
+pub returns-in_default-get : goal.returns-in_default-get
+returns-in_default-get c =
+    places_all c.args.serials.now (zip c.args.sizes.now c.args.space.now) c.args.out.now.items (row_at c.args.cursor) c.loop-place.place c.loop-place.out.items
+    (inr (zip_short c.args.sizes.now c.args.space.now c.loop-place.place (inr (got_none c.args.space.now c.loop-place.place c.get-in-loop-place.result c.get-in-loop-place.ensures.lookup c.in_default-get.is)))) c.loop-place.invariant
+
+pub returns : goal.returns
+returns c =
+    places_all c.args.serials.now (zip c.args.sizes.now c.args.space.now) c.args.out.now.items (row_at c.args.cursor) c.loop-place.place c.loop-place.out.items (inl c.loop-place-test.false) c.loop-place.invariant

@@ -95,7 +95,7 @@ copies_not first was end left second other system why same mounted reads cause =
     by (Uncopied.Unready fault) not cause = not
     by (Uncopied.Unmounted fault) not cause = absurd cause
 
-only : (history h : Past Tree) → Contains (history ∷ []) h → h ≡ history
+pub only : (history h : Past Tree) → Contains (history ∷ []) h → h ≡ history
 only history h (zero, within, is) = sym is
 only history h (suc k, within, is) = absurd (omega arith)
 

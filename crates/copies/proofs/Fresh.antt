@@ -1,6 +1,7 @@
 -- A file system that holds an empty tree alone.
 use Rattle.std.proofs.Common.{◌≡◌, ◌∙◌, ℕ, ◌+◌, ◌≤◌, Bool, Option, Some, None, List, [], ◌∷◌, length, refl, sym, ap, subst, arith}
 use Rattle.std.specs.Prelude.{Contains, sum_by, if◌then◌else◌}
+use Rattle.std.specs.List.{flat_map}
 use Rattle.std.specs.Option.{option_map}
 use Rattle.std.specs.FinMap.{get}
 use Rattle.fs_types.specs.Names.{Name}
@@ -13,6 +14,8 @@ use Rattle.history_machine.specs.Machine.{Machine, IsMachine, mounted}
 use Rattle.tree_counts.specs.Sizes.{sum_below}
 use Rattle.history_copies.proofs.Built.{build_law}
 use Rattle.inquiries.specs.Folders.{IsSmall}
+use Rattle.inquiries.specs.Items.{item_at, items_below}
+use Rattle.inquiries.specs.PathBytes.{item_bytes}
 use Rattle.copies.specs.Calls.{IsReady}
 use Rattle.copies.specs.Copied.{Holds}
 
@@ -30,10 +33,15 @@ no_sum : (of : Option Entry → ℕ) → sum_below of bare 16 [] ≡ 0
 unfolding sum_below
 no_sum of = ap (λ (es : List (Name × Bool)). sum_by (λ (entry : Name × Bool). of (get bare (entry.0 ∷ [])) + (if entry.1 then sum_below of bare 15 (entry.0 ∷ []) else 0)) es) no_names
 
+no_items : items_below bare 16 [] ≡ []
+unfolding items_below
+no_items = ap (λ (es : List (Name × Bool)). flat_map (λ (entry : Name × Bool). item_at bare (entry.0 ∷ []) ∷ (if entry.1 then items_below bare 15 (entry.0 ∷ []) else [])) es) no_names
+
 small_bare : IsSmall bare
 small_bare = record {
   entries = let none = no_sum (λ entry. 1) in omega (arith, none);
   bytes = let none = no_sum (λ entry. length (bytes_of entry)) in omega (arith, none);
+  paths = let none = ap (sum_by item_bytes) no_items in omega (arith, none);
 }
 
 pub fresh_ready : (m : Machine) (limit : ℕ) → m ≡ mounted (fresh limit bare) → IsReady m

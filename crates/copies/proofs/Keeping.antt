@@ -136,7 +136,7 @@ checkpoint_next limit trees from was names i name h is same are within at holds 
 
 -- ---- the end
 
-got_serial : (vs : List (Version Tree)) (k : ℕ) (d : Version Tree) → k < length vs → slice_get (map (λ v. v.serial) vs) k ≡ Some (get_or vs k d).serial
+pub got_serial : (vs : List (Version Tree)) (k : ℕ) (d : Version Tree) → k < length vs → slice_get (map (λ v. v.serial) vs) k ≡ Some (get_or vs k d).serial
 got_serial [] k d within = absurd (omega arith)
 got_serial (v ∷ vs) zero d within = refl
 got_serial (v ∷ vs) (suc k) d within = got_serial vs k d (omega arith)

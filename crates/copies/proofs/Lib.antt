@@ -1,8 +1,12 @@
 pub mod Brought
 pub mod Causing
 pub mod Doing
+pub mod Finding
 pub mod Fresh
 pub mod Keeping
+pub mod Pairing
 pub mod Removing
+pub mod Renaming
 pub mod Sharing
 pub mod Stopping
+pub mod Extending

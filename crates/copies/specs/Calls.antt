@@ -53,6 +53,15 @@ pub record IsRefused (m : Machine) (calls : List Call) (left : Device) (fault : 
 abbrev pub Stops : Machine → List Call → Device → Fault → Type 0
 Stops m calls left fault = (fault ≡ Fault.NoMemory) ⊎ IsRefused m calls left fault
 
+-- on some flash a call was refused
+pub record WasRefused (call : Call) : Type 0 where
+  pub device : Device
+  pub left : Device
+  pub system : System
+  pub later : System
+  pub fault : Fault
+  pub step : SystemStep device system call (Err fault) left later
+
 -- a call of a copy that makes no version of changes: it tells the history, keeps a tree or forgets one, moves, or syncs
 abbrev pub IsMove : Call → Type 0
 IsMove Call.Log = Unit {0}

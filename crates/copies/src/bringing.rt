@@ -1,26 +1,24 @@
 //! A version that is made of a tree of another file system.
-ghost use Rattle.std.specs.Prelude.{◌≡◌, ◌≢◌, None, OnOk, IfOk, IfSome, IfErr, [], ◌∷◌};
+ghost use Rattle.std.specs.Prelude.{◌≡◌, ◌≢◌, None, OnOk, IfErr, [], ◌∷◌};
 ghost use Rattle.fs_types.specs.declared.fault.Fault.{Fault};
 ghost use Rattle.fs_types.specs.Names.{Path};
 ghost use Rattle.fs_types.specs.declared.call.Call.{Call};
 ghost use Rattle.history_machine.specs.History.{changed, view_refusal};
-ghost use Rattle.history_machine.specs.Machine.{mounted, view_tree, working_tree};
+ghost use Rattle.history_machine.specs.Machine.{mounted, view_tree};
 ghost use Rattle.inquiries.specs.Readings.{shown, IsUnchanged};
 ghost use Rattle.history_copies.specs.Laws.{bringing, changes_or};
-ghost use Rattle.tree_updates.specs.Updates.{edit_changes};
-ghost use Rattle.updates.specs.Asked.{AreSmall, Untold};
 ghost use Rattle.undofs.specs.Systems.{flash_name};
-ghost use Rattle.copies.specs.Calls.{Does, HasTreeOf, IsReady, IsReadyAfter, Stops};
+ghost use Rattle.copies.specs.Calls.{Does, IsReady, IsReadyAfter, Stops};
 ghost use Rattle.copies.specs.Causes.{NotCopied};
 
+use crate::moving::bring_next;
 use crate::uncopied::{Uncopied, of_untold};
 use flash_model::Flash;
 use fs_types::{Call, Fault, MAX_ENTRIES, Path, View};
-use inquiries::TellFault;
 use script::print_number;
 use std::alloc::Global;
 use undofs::Fs;
-use updates::{Manner, list_changes, list_changes_between};
+use updates::{Manner, list_changes};
 
 /// Makes a version of the tree of a view of one file system in another one, in which no change group and no
 /// file is open, and syncs it. Where that one has the tree of a version, only what differs from it is looked at.
@@ -39,7 +37,28 @@ pub(crate) fn bring<F: Flash, G: Flash>(
     ensures same_flash { flash_name to.new ≡ flash_name to.old }
     ensures err { IfErr result (NotCopied (shown from.old) (F.device from.old.flash.now) (F.device from.new.flash.now) (G.device to.new.flash.now)) }
 {
-    let changes = match list_next(alloc, from, last, view, to) {
+    match last {
+        Some(serial) => bring_next(alloc, from, &View::Serial(serial), view, to),
+        None => bring_first(alloc, from, view, to),
+    }
+}
+
+/// The same, whatever tree the other one has: path by path.
+fn bring_first<F: Flash, G: Flash>(
+    alloc: Global,
+    from: &mut Fs<'_, F>,
+    view: &View,
+    to: &mut Fs<'_, G>,
+) -> Result<(), Uncopied>
+    requires view { view_refusal (shown from.old).history view.now ≡ None }
+    requires ready { IsReady (shown to.old) }
+    ensures same { IsUnchanged from.old from.new }
+    ensures ok { OnOk result (shown to.new ≡ mounted (changed (shown to.old).history (view_tree (shown from.old) view.now))) }
+    ensures ready { OnOk result (IsReady (shown to.new)) }
+    ensures same_flash { flash_name to.new ≡ flash_name to.old }
+    ensures err { IfErr result (NotCopied (shown from.old) (F.device from.old.flash.now) (F.device from.new.flash.now) (G.device to.new.flash.now)) }
+{
+    let changes = match list_changes(alloc, to, from, view, Manner::Edited) {
         Ok(changes) => changes,
         Err(fault) => return Err(of_untold(fault)),
     };
@@ -49,39 +68,13 @@ pub(crate) fn bring<F: Flash, G: Flash>(
     }
 }
 
-/// The changes that bring the present tree of the second file system to that of a view of the first: where it
-/// has the tree of a version, by what differs from that.
-fn list_next<F: Flash, G: Flash>(
-    alloc: Global,
-    from: &mut Fs<'_, F>,
-    last: Option<u64>,
-    view: &View,
-    to: &mut Fs<'_, G>,
-) -> Result<Vec<Call>, TellFault>
-    requires view { view_refusal (shown from.old).history view.now ≡ None }
-    requires last { IfSome last (HasTreeOf (shown from.old) (shown to.old)) }
-    ensures from { IsUnchanged from.old from.new }
-    ensures to { IsUnchanged to.old to.new }
-    ensures small { OnOk result (AreSmall (working_tree (shown to.old)) (view_tree (shown from.old) view.now)) }
-    ensures ok { IfOk result (λ calls. calls.items ≡ edit_changes (working_tree (shown to.old)) (view_tree (shown from.old) view.now)) }
-    ensures err { IfErr result (Untold (working_tree (shown to.old)) (view_tree (shown from.old) view.now) to.old from.old to.new from.new) }
-{
-    match last {
-        Some(serial) => list_changes_between(
-            alloc,
-            to,
-            from,
-            &View::Serial(serial),
-            view,
-            Manner::Edited,
-        ),
-        None => list_changes(alloc, to, from, view, Manner::Edited),
-    }
-}
-
 /// Carries out changes in one change group, and syncs the version that they make: one of the same tree, where
 /// there are none.
-fn make_version<G: Flash>(alloc: Global, to: &mut Fs<'_, G>, changes: &[Call]) -> Result<(), Fault>
+pub(crate) fn make_version<G: Flash>(
+    alloc: Global,
+    to: &mut Fs<'_, G>,
+    changes: &[Call],
+) -> Result<(), Fault>
     ensures ok { OnOk result ((path : Path) × Does (shown to.old) (bringing changes.now path) (shown to.new)) }
     ensures same_flash { flash_name to.new ≡ flash_name to.old }
     ensures err { IfErr result (λ fault. (path : Path) × Stops (shown to.old) (bringing changes.now path) (G.device to.new.flash.now) fault) }
@@ -93,7 +86,7 @@ fn make_version<G: Flash>(alloc: Global, to: &mut Fs<'_, G>, changes: &[Call]) -
 }
 
 /// Carries out changes; where there are none, makes a directory and removes it.
-fn carry_out_or_touch<G: Flash>(
+pub(crate) fn carry_out_or_touch<G: Flash>(
     alloc: Global,
     to: &mut Fs<'_, G>,
     changes: &[Call],
@@ -109,7 +102,11 @@ fn carry_out_or_touch<G: Flash>(
 }
 
 /// Carries out calls, one after the other.
-fn carry_out<G: Flash>(alloc: Global, to: &mut Fs<'_, G>, calls: &[Call]) -> Result<(), Fault>
+pub(crate) fn carry_out<G: Flash>(
+    alloc: Global,
+    to: &mut Fs<'_, G>,
+    calls: &[Call],
+) -> Result<(), Fault>
     ensures ok { OnOk result (Does (shown to.old) calls.now (shown to.new)) }
     ensures same_flash { flash_name to.new ≡ flash_name to.old }
     ensures err { IfErr result (Stops (shown to.old) calls.now (G.device to.new.flash.now)) }

@@ -36,7 +36,11 @@ pub(crate) fn end_copy<G: Flash>(
 }
 
 /// Goes to the version whose serial stands at a place.
-fn go_to_place<G: Flash>(to: &mut Fs<'_, G>, serials: &[u64], place: usize) -> Result<(), Fault>
+pub(crate) fn go_to_place<G: Flash>(
+    to: &mut Fs<'_, G>,
+    serials: &[u64],
+    place: usize,
+) -> Result<(), Fault>
     ensures ok { OnOk result ((serial : ℕ) → slice_get serials.now place ≡ Some serial → Does (shown to.old) (Call.Goto serial ∷ []) (shown to.new)) }
     ensures rests { shown to.old ≡ mounted (shown to.old).history → OnOk result (shown to.new ≡ mounted (shown to.new).history) }
     ensures same_flash { flash_name to.new ≡ flash_name to.old }

@@ -7,19 +7,19 @@ use Rattle.fs_types.specs.Names.{Path, same_path}
 use Rattle.fs_types.specs.declared.call.Call.{Call}
 use Rattle.fs_types.proofs.Orders.{same_name-own, same_path-is}
 use Rattle.plain_trees.specs.Contents.{Entry, Contents, same_bytes}
-use Rattle.plain_trees.specs.Trees.{Tree, IsFileTree}
+use Rattle.plain_trees.specs.Trees.{Tree}
 use Rattle.plain_trees.proofs.Edits.{same_tree}
 use Rattle.history_machine.specs.Descriptors.{none_open}
 use Rattle.history_machine.specs.History.{Past, IsLawful}
 use Rattle.history_machine.specs.Machine.{Machine, after}
-use Rattle.tree_updates.specs.Laws.{Brings, EachAccepted, EditLaw, due_after, grouped}
-use Rattle.tree_updates.specs.Updates.{adapting, adapting_at, editing, edit_changes, paths_of}
+use Rattle.tree_updates.specs.Laws.{Brings, CoverLaw, Covers, EachAccepted, EditLaw, due_after, grouped}
+use Rattle.tree_updates.specs.Updates.{adapting, adapting_at, editing, edit_paths, paths_of}
 use Rattle.tree_updates.proofs.Assigned.{assigned, set_at}
 use Rattle.tree_updates.proofs.Leading.{within, Leads, leads-refl, mkdir_leads}
 use Rattle.tree_updates.proofs.Listed.{listed}
 use Rattle.tree_updates.proofs.Editing.{editing_leads}
 use Rattle.tree_updates.proofs.Pieces.{writing_leads}
-use Rattle.tree_updates.proofs.Updated.{at_differing, at_other, changes_lead, come, come_at, gone, gone_at, left, no_changes, same_or_other}
+use Rattle.tree_updates.proofs.Updated.{all_covered, at_differing, at_other, changes_lead, come, come_at, gone, gone_at, left, no_changes, same_or_other}
 
 module _ (old new : Tree) where
   -- where both trees have a file, and the two differ, the one's bytes stand there, or the other's
@@ -83,46 +83,51 @@ module _ (old new : Tree) where
       go None (Some Entry.Dir) either each = mkdir_leads h t due p each.0
       go None (Some (Entry.File others)) either each = writing_leads h t due p others lawful each
 
-  edits_none : old ≡ new → edit_changes old new ≡ []
-  edits_none = no_changes old new adapting idle
-    where
-      idle : (p : Path) (o : Option Entry) → adapting p o o ≡ []
-      idle p None = refl
-      idle p (Some Entry.Dir) = refl
-      idle p (Some (Entry.File bytes)) = ap (λ (b : Bool). if b then [] else editing p bytes bytes) (same_name-own bytes)
-
-  module _ (lawful : IsFileTree old) (lawful' : IsFileTree new) where
-    leads : (h : Past Tree) (due : Bool) → IsLawful h → EachAccepted (grouped h old due) (edit_changes old new)
-        → Leads h old due none_open (after (grouped h old due) (edit_changes old new)) (left old new (paths_of old) (paths_of new) (get old))
-    leads h due is each = changes_lead old new Kept (adapting_at old new) (keeps (gone_at old new) gone_kept) (keeps (come_at old new) come_kept) h (adapts h is) old due (λ q bytes others was now differ. inl was) each
-
-    there : (t : Tree) → get t ≡ left old new (paths_of old) (paths_of new) (get old) → t ≡ new
-    there t at = same_tree t new (λ q. ap (λ (c : Contents). c q) at ∙ go q (same_or_other (get old q) (get new q)))
+  -- the changes at lists of paths
+  module _ (olds news : List Path) where
+    edits_none : old ≡ new → edit_paths old new olds news ≡ []
+    edits_none = no_changes old new adapting olds news idle
       where
-        go : (q : Path) → (get old q ≡ get new q) ⊎ (get old q ≢ get new q) → left old new (paths_of old) (paths_of new) (get old) q ≡ get new q
-        go q (inl same) = at_other old new (paths_of old) (paths_of new) lawful lawful' (listed old lawful) (listed new lawful') (get old) q same ∙ same
-        go q (inr other) = at_differing old new (paths_of old) (paths_of new) lawful lawful' (listed old lawful) (listed new lawful') (get old) q other
+        idle : (p : Path) (o : Option Entry) → adapting p o o ≡ []
+        idle p None = refl
+        idle p (Some Entry.Dir) = refl
+        idle p (Some (Entry.File bytes)) = ap (λ (b : Bool). if b then [] else editing p bytes bytes) (same_name-own bytes)
 
-    abbrev due_of : Machine → Bool
-    due_of m = option_map_or (λ g. g.is_due) m.group false
+    module _ (covers : Covers old new olds news) where
+      leads : (h : Past Tree) (due : Bool) → IsLawful h → EachAccepted (grouped h old due) (edit_paths old new olds news)
+          → Leads h old due none_open (after (grouped h old due) (edit_paths old new olds news)) (left old new olds news (get old))
+      leads h due is each = changes_lead old new Kept (adapting_at old new) olds news (keeps (gone_at old new) gone_kept) (keeps (come_at old new) come_kept) h (adapts h is) old due (λ q bytes others was now differ. inl was) each
 
-    is_due : (h : Past Tree) (due : Bool) (calls : List Call) (l : Leads h old due none_open (after (grouped h old due) calls) (left old new (paths_of old) (paths_of new) (get old)))
-        → (old ≡ new → calls ≡ []) → l.is_due ≡ due_after calls due
-    is_due h due [] l idle = sym (ap due_of l.is)
-    is_due h due (call ∷ calls) l idle = go l.is_due refl
-      where
-        go : (b : Bool) → l.is_due ≡ b → l.is_due ≡ true
-        go true e = e
-        go false e =
-            let same : old ≡ new = sym (l.undue e).1 ∙ there l.tree l.at in
-            absurd (let wrong = idle same in cc)
+      there : (t : Tree) → get t ≡ left old new olds news (get old) → t ≡ new
+      there t at = same_tree t new (λ q. ap (λ (c : Contents). c q) at ∙ go q (same_or_other (get old q) (get new q)))
+        where
+          go : (q : Path) → (get old q ≡ get new q) ⊎ (get old q ≢ get new q) → left old new olds news (get old) q ≡ get new q
+          go q (inl same) = at_other old new olds news covers (get old) q same ∙ same
+          go q (inr other) = at_differing old new olds news covers (get old) q other
 
-    brings : Brings old new (edit_changes old new)
-    brings = record {
-      leads = λ h due is each.
-          let l = leads h due is each in
-          l.is ∙ ap (λ (t : Tree). grouped h t l.is_due) (there l.tree l.at) ∙ ap (grouped h new) (is_due h due (edit_changes old new) l edits_none);
-    }
+      abbrev due_of : Machine → Bool
+      due_of m = option_map_or (λ g. g.is_due) m.group false
+
+      is_due : (h : Past Tree) (due : Bool) (calls : List Call) (l : Leads h old due none_open (after (grouped h old due) calls) (left old new olds news (get old)))
+          → (old ≡ new → calls ≡ []) → l.is_due ≡ due_after calls due
+      is_due h due [] l idle = sym (ap due_of l.is)
+      is_due h due (call ∷ calls) l idle = go l.is_due refl
+        where
+          go : (b : Bool) → l.is_due ≡ b → l.is_due ≡ true
+          go true e = e
+          go false e =
+              let same : old ≡ new = sym (l.undue e).1 ∙ there l.tree l.at in
+              absurd (let wrong = idle same in cc)
+
+      pub brings : Brings old new (edit_paths old new olds news)
+      brings = record {
+        leads = λ h due is each.
+            let l = leads h due is each in
+            l.is ∙ ap (λ (t : Tree). grouped h t l.is_due) (there l.tree l.at) ∙ ap (grouped h new) (is_due h due (edit_paths old new olds news) l edits_none);
+      }
+
+pub cover_law : CoverLaw
+cover_law old new olds news covers = brings old new olds news covers
 
 pub edit_law : EditLaw
-edit_law old new lawful lawful' = brings old new lawful lawful'
+edit_law old new lawful lawful' = brings old new (paths_of old) (paths_of new) (all_covered old new (paths_of old) (paths_of new) lawful lawful' (listed old lawful) (listed new lawful'))

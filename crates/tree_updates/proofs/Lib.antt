@@ -1,8 +1,10 @@
 pub mod Assigned
 pub mod Edited
 pub mod Editing
+pub mod Joined
 pub mod Leading
 pub mod Listed
+pub mod Moved
 pub mod Patched
 pub mod Patching
 pub mod Pieces

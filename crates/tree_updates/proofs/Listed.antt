@@ -18,10 +18,10 @@ use Rattle.tree_updates.specs.Updates.{paths_below, paths_of}
 abbrev pub IsListing : Tree → List Path → Type 0
 IsListing t paths = (path : Path) → path ≢ [] → IsSome (get t path) → Contains paths path
 
-contains_first : {X : Type 0} (x : X) (xs : List X) → Contains (x ∷ xs) x
+pub contains_first : {X : Type 0} (x : X) (xs : List X) → Contains (x ∷ xs) x
 contains_first x xs = (0, omega arith, refl)
 
-contains_later : {X : Type 0} (x y : X) (xs : List X) → Contains xs x → Contains (y ∷ xs) x
+pub contains_later : {X : Type 0} (x y : X) (xs : List X) → Contains xs x → Contains (y ∷ xs) x
 contains_later x y xs (k, below, at) = (suc k, omega arith, at)
 
 contains_joined : {X A : Type 0} (f : X → List A) (xs : List X) (x : X) (a : A) → Contains xs x → Contains (f x) a → Contains (flat_map f xs) a
@@ -37,7 +37,7 @@ module _ (t : Tree) (lawful : IsFileTree t) where
   child_listed : (directory : Path) (n : Name) (x : Entry) → get t (directory ++ n ∷ []) ≡ Some x → Contains (children t directory) (n, is_dir x)
   child_listed directory n x there = (listing_law.exact t directory n (is_dir x)).1 (ap (option_map is_dir) there)
 
-  below_listed : (levels : ℕ) (directory : Path) (n : Name) (rest : Path) → length (n ∷ rest) ≤ levels → IsSome (get t (directory ++ n ∷ rest)) → Contains (paths_below t levels directory) (directory ++ n ∷ rest)
+  pub below_listed : (levels : ℕ) (directory : Path) (n : Name) (rest : Path) → length (n ∷ rest) ≤ levels → IsSome (get t (directory ++ n ∷ rest)) → Contains (paths_below t levels directory) (directory ++ n ∷ rest)
   unfolding paths_below row
   below_listed zero directory n rest short there = absurd (omega arith)
   below_listed (suc levels) directory n [] short there = go (get t (directory ++ n ∷ [])) refl there

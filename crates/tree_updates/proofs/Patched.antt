@@ -11,7 +11,7 @@ use Rattle.history_machine.specs.Descriptors.{none_open}
 use Rattle.history_machine.specs.History.{Past, IsLawful}
 use Rattle.history_machine.specs.Machine.{Machine, after, present_tree}
 use Rattle.tree_updates.specs.Laws.{EachAccepted, HasOld, PatchLaw}
-use Rattle.tree_updates.specs.Updates.{amending, amending_at, patch_changes, patching}
+use Rattle.tree_updates.specs.Updates.{amending, amending_at, patch_changes, patching, paths_of}
 use Rattle.tree_updates.proofs.Assigned.{assigned, set_at}
 use Rattle.tree_updates.proofs.Edited.{Kept, keeps, gone_kept, come_kept}
 use Rattle.tree_updates.proofs.Leading.{within, Leads, leads-refl, mkdir_leads}
@@ -49,7 +49,7 @@ module _ (old new : Tree) where
       go None (Some (Entry.File others)) either each = writing_leads h t due p others lawful each
 
   patches_none : old ≡ new → patch_changes old new ≡ []
-  patches_none = no_changes old new amending idle
+  patches_none = no_changes old new amending (paths_of old) (paths_of new) idle
     where
       idle : (p : Path) (o : Option Entry) → amending p o o ≡ []
       idle p None = refl
@@ -63,6 +63,6 @@ module _ (old new : Tree) where
 pub patch_law : PatchLaw
 patch_law old new m lawful lawful' is has =
     group_updates old new m lawful lawful' is (patch_changes old new)
-    (changes_lead old new (Kept old new) (amending_at old new) (keeps old new (gone_at old new) (gone_kept old new)) (keeps old new (come_at old new) (come_kept old new)) m.history (amends old new m.history is.lawful) (present_tree m) false
+    (changes_lead old new (Kept old new) (amending_at old new) (paths_of old) (paths_of new) (keeps old new (gone_at old new) (gone_kept old new)) (keeps old new (come_at old new) (come_kept old new)) m.history (amends old new m.history is.lawful) (present_tree m) false
     (kept_by old new (present_tree m) has))
     (patches_none old new)

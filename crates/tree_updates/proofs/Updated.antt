@@ -17,7 +17,7 @@ use Rattle.history_machine.specs.History.{Past, IsLawful, changed, present_root}
 use Rattle.history_machine.specs.Machine.{Machine, IsMachine, machine_with, machine_of, mounted, present_tree, next, after}
 use Rattle.history_machine.proofs.Groups.{same-free}
 use Rattle.history_machine.proofs.Steps.{passes, outside, tree-changed}
-use Rattle.tree_updates.specs.Laws.{EachAccepted, UpdateLaw, Updates}
+use Rattle.tree_updates.specs.Laws.{Covers, EachAccepted, UpdateLaw, Updates}
 use Rattle.tree_updates.specs.Updates.{goes, removal, removal_at, making, making_at, writing, paths_of, update_changes}
 use Rattle.tree_updates.proofs.Listed.{IsListing, listed}
 use Rattle.tree_updates.proofs.Assigned.{assigned, all_assigned, all_miss, all_have, contains_reversed}
@@ -124,22 +124,20 @@ module _ (old new : Tree) where
   abbrev pub left : List Path → List Path → Contents → Contents
   left olds news c = all_assigned come_at news (all_assigned gone_at (reverse olds) c)
 
-  pub changes_lead : (P : Contents → Type 0) (make : Path → List Call) → ((p : Path) (c : Contents) → P c → P (assigned (gone_at p) p c)) → ((p : Path) (c : Contents) → P c → P (assigned (come_at p) p c))
+  pub changes_lead : (P : Contents → Type 0) (make : Path → List Call) (olds news : List Path) → ((p : Path) (c : Contents) → P c → P (assigned (gone_at p) p c)) → ((p : Path) (c : Contents) → P c → P (assigned (come_at p) p c))
       → (h : Past Tree)
       → ((p : Path) (t : Tree) (due : Bool) → P (get t) → EachAccepted (within h t due none_open) (make p) → Leads h t due none_open (after (within h t due none_open) (make p)) (assigned (come_at p) p (get t)))
-      → (t : Tree) (due : Bool) → P (get t) → EachAccepted (within h t due none_open) (flat_map (removal_at old new) (reverse (paths_of old)) ++ flat_map make (paths_of new))
-      → Leads h t due none_open (after (within h t due none_open) (flat_map (removal_at old new) (reverse (paths_of old)) ++ flat_map make (paths_of new))) (left (paths_of old) (paths_of new) (get t))
-  changes_lead P make keeps_gone keeps_come h makes t due holds each =
+      → (t : Tree) (due : Bool) → P (get t) → EachAccepted (within h t due none_open) (flat_map (removal_at old new) (reverse olds) ++ flat_map make news)
+      → Leads h t due none_open (after (within h t due none_open) (flat_map (removal_at old new) (reverse olds) ++ flat_map make news)) (left olds news (get t))
+  changes_lead P make olds news keeps_gone keeps_come h makes t due holds each =
       let n = within h t due none_open in
-      let olds = paths_of old in
-      let news = paths_of new in
       let removals = flat_map (removal_at old new) (reverse olds) in
       let makings = flat_map make news in
       let parts = accepted-parts n removals makings each in
       let first = many_lead P (removal_at old new) gone_at h keeps_gone (λ p u d still. removal_leads h p u d) (reverse olds) t due holds parts.0 in
       let still : P (get first.tree) = subst P (sym first.at) (many_keep P gone_at keeps_gone (reverse olds) (get t) holds) in
       let rest = many_lead P make come_at h keeps_come makes news first.tree first.is_due still (subst (λ k. EachAccepted k makings) first.is parts.1) in
-      subst (λ k. Leads h t due none_open k (left (paths_of old) (paths_of new) (get t))) (sym (after-append n removals makings))
+      subst (λ k. Leads h t due none_open k (left olds news (get t))) (sym (after-append n removals makings))
       (leads-trans h t due none_open none_open (after n removals) makings (all_assigned gone_at (reverse olds) (get t)) (all_assigned come_at news) first rest)
 
   -- ---- at each path
@@ -169,10 +167,14 @@ module _ (old new : Tree) where
       go true same = absurd (differs (ap (λ (xs : List ℕ). Some (Entry.File xs)) (same_name-is bytes others same)))
       go false other = refl
 
-  module _ (olds news : List Path) (lawful : IsFileTree old) (lawful' : IsFileTree new) (all : IsListing old olds) (all' : IsListing new news) (c : Contents) where
-    not_root : (q : Path) → get old q ≢ get new q → q ≢ []
-    not_root q differs root = differs (ap (get old) root ∙ lawful.shape.root ∙ sym lawful'.shape.root ∙ ap (get new) (sym root))
+  -- lists of all paths of the two trees have each path at which they differ
+  pub all_covered : (olds news : List Path) → IsFileTree old → IsFileTree new → IsListing old olds → IsListing new news → Covers old new olds news
+  all_covered olds news lawful lawful' all all' = record { from_old = λ q differs there. all q (not_root q differs) there; from_new = λ q differs there. all' q (not_root q differs) there }
+    where
+      not_root : (q : Path) → get old q ≢ get new q → q ≢ []
+      not_root q differs root = differs (ap (get old) root ∙ lawful.shape.root ∙ sym lawful'.shape.root ∙ ap (get new) (sym root))
 
+  module _ (olds news : List Path) (covers : Covers old new olds news) (c : Contents) where
     pub at_other : (q : Path) → get old q ≡ get new q → left olds news c q ≡ c q
     at_other q same =
         let none = stays_none q same in
@@ -191,21 +193,21 @@ module _ (old new : Tree) where
             let leaves : gone_at q ≡ Some None = ap (gone (get old q)) is ∙ goes_none (get old q) there in
             let none : come_at q ≡ None = ap (come (get old q)) is ∙ nothing (get old q) in
             all_miss come_at q news (all_assigned gone_at (reverse olds) c) none
-            ∙ all_have gone_at q (reverse olds) c None leaves (contains_reversed olds q (all q (not_root q differs) (some_listed q old (get old q) refl there))) ∙ sym is
+            ∙ all_have gone_at q (reverse olds) c None leaves (contains_reversed olds q (covers.from_old q differs (some_listed q old (get old q) refl there))) ∙ sym is
           where
             nothing : (o : Option Entry) → come o None ≡ None
             nothing None = refl
             nothing (Some entry) = refl
         go (Some entry) is =
             let put : come_at q ≡ Some (Some entry) = ap (come (get old q)) is ∙ comes (get old q) entry (λ same. differs (same ∙ sym is)) in
-            all_have come_at q news (all_assigned gone_at (reverse olds) c) (Some entry) put (all' q (not_root q differs) (some-is (get new q) entry is)) ∙ sym is
+            all_have come_at q news (all_assigned gone_at (reverse olds) c) (Some entry) put (covers.from_new q differs (some-is (get new q) entry is)) ∙ sym is
 
   -- ---- where the two are one
 
-  pub no_changes : (make : Path → Option Entry → Option Entry → List Call) → ((p : Path) (o : Option Entry) → make p o o ≡ []) → old ≡ new
-      → flat_map (removal_at old new) (reverse (paths_of old)) ++ flat_map (λ p. make p (get old p) (get new p)) (paths_of new) ≡ []
-  no_changes make idle same =
-      ap₂ (λ (xs ys : List Call). xs ++ ys) (none (removal_at old new) (reverse (paths_of old)) (λ p. no_removal p)) (none (λ p. make p (get old p) (get new p)) (paths_of new) (λ p. no_making p))
+  pub no_changes : (make : Path → Option Entry → Option Entry → List Call) (olds news : List Path) → ((p : Path) (o : Option Entry) → make p o o ≡ []) → old ≡ new
+      → flat_map (removal_at old new) (reverse olds) ++ flat_map (λ p. make p (get old p) (get new p)) news ≡ []
+  no_changes make olds news idle same =
+      ap₂ (λ (xs ys : List Call). xs ++ ys) (none (removal_at old new) (reverse olds) (λ p. no_removal p)) (none (λ p. make p (get old p) (get new p)) news (λ p. no_making p))
     where
       none : (f : Path → List Call) (ps : List Path) → ((p : Path) → f p ≡ []) → flat_map f ps ≡ []
       none f [] each = refl
@@ -223,7 +225,7 @@ module _ (old new : Tree) where
       no_making p = subst (λ (u : Tree). make p (get old p) (get u p) ≡ []) same (idle p (get old p))
 
   pub same_changes : old ≡ new → update_changes old new ≡ []
-  same_changes = no_changes making no_making
+  same_changes = no_changes making (paths_of old) (paths_of new) no_making
     where
       no_making : (p : Path) (o : Option Entry) → making p o o ≡ []
       no_making p None = refl
@@ -257,6 +259,9 @@ module _ (old new : Tree) (m : Machine) (lawful : IsFileTree old) (lawful' : IsF
   abbrev news : List Path
   news = paths_of new
 
+  covers : Covers old new (paths_of old) (paths_of new)
+  covers = all_covered old new (paths_of old) (paths_of new) lawful lawful' (listed old lawful) (listed new lawful')
+
   abbrev n : Machine
   n = within m.history was false none_open
 
@@ -266,8 +271,8 @@ module _ (old new : Tree) (m : Machine) (lawful : IsFileTree old) (lawful' : IsF
   pub group_updates : EachAccepted m group_calls → Updates old new m (after m group_calls)
   group_updates each = record {
     tree = record {
-      differing = λ q differs. ap (λ (c : Contents). c q) (ap get now ∙ l.at) ∙ at_differing old new olds news lawful lawful' (listed old lawful) (listed new lawful') (get was) q differs;
-      others = λ q same. ap (λ (c : Contents). c q) (ap get now ∙ l.at) ∙ at_other old new olds news lawful lawful' (listed old lawful) (listed new lawful') (get was) q same;
+      differing = λ q differs. ap (λ (c : Contents). c q) (ap get now ∙ l.at) ∙ at_differing old new olds news covers (get was) q differs;
+      others = λ q same. ap (λ (c : Contents). c q) (ap get now ∙ l.at) ∙ at_other old new olds news covers (get was) q same;
     };
     version = subst (λ (h : Past Tree). (h ≡ m.history) ⊎ ((u : Tree) × (h ≡ changed m.history u))) (sym (ap (λ (k : Machine). k.history) end)) (one_version m.history l.tree l.is_due);
     none = λ same. ap (λ (k : Machine). k.history) end ∙ ap (λ (b : Bool). cond b (changed m.history l.tree) m.history) (quiet same);
@@ -302,5 +307,5 @@ module _ (old new : Tree) (m : Machine) (lawful : IsFileTree old) (lawful' : IsF
 pub update_law : UpdateLaw
 update_law old new m lawful lawful' is =
     group_updates old new m lawful lawful' is (update_changes old new)
-    (changes_lead old new (λ c. Unit {0}) (making_at old new) (λ p c still. tt) (λ p c still. tt) m.history (λ p t due still. making_leads old new m.history is.lawful p t due) (present_tree m) false tt)
+    (changes_lead old new (λ c. Unit {0}) (making_at old new) (paths_of old) (paths_of new) (λ p c still. tt) (λ p c still. tt) m.history (λ p t due still. making_leads old new m.history is.lawful p t due) (present_tree m) false tt)
     (same_changes old new)

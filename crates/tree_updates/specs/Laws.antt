@@ -1,14 +1,14 @@
 -- The law of updates.
-use Rattle.std.specs.Prelude.{◌≡◌, ◌≢◌, ◌⊎◌, ℕ, Bool, true, Some, None, List, [], ◌∷◌}
+use Rattle.std.specs.Prelude.{◌≡◌, ◌≢◌, ◌⊎◌, ℕ, Bool, true, Some, None, IsSome, List, [], ◌∷◌, ◌++◌, All, Contains, map}
 use Rattle.std.specs.FinMap.{get}
 use Rattle.fs_types.specs.Names.{Path}
 use Rattle.fs_types.specs.declared.call.Call.{Call}
-use Rattle.plain_trees.specs.Contents.{Entry}
-use Rattle.plain_trees.specs.Trees.{Tree, IsFileTree}
+use Rattle.plain_trees.specs.Contents.{Entry, begins}
+use Rattle.plain_trees.specs.Trees.{Tree, IsFileTree, move}
 use Rattle.history_machine.specs.Descriptors.{none_open}
 use Rattle.history_machine.specs.History.{Past, IsLawful, changed}
 use Rattle.history_machine.specs.Machine.{Machine, IsMachine, machine_with, mounted, present_tree, refusal, next, after}
-use Rattle.tree_updates.specs.Updates.{edit_changes, patch_calls, update_calls}
+use Rattle.tree_updates.specs.Updates.{edit_changes, edit_paths, goes, patch_calls, update_calls}
 
 -- each call is accepted, one after the other
 abbrev pub EachAccepted : Machine → List Call → Type 0
@@ -58,3 +58,46 @@ pub record Brings (old new : Tree) (calls : List Call) : Type 0 where
 -- the changes that keep of each file what they can bring the one tree to the other
 abbrev pub EditLaw : Type 0
 EditLaw = (old new : Tree) → IsFileTree old → IsFileTree new → Brings old new (edit_changes old new)
+
+-- lists of paths have each path at which two trees differ: the one where the old tree has something there, the other where the new one has
+pub record Covers (old new : Tree) (olds news : List Path) : Type 0 where
+  pub from_old : (path : Path) → get old path ≢ get new path → IsSome (get old path) → Contains olds path
+  pub from_new : (path : Path) → get old path ≢ get new path → IsSome (get new path) → Contains news path
+
+-- so do those at some paths, where these have each at which the two differ
+abbrev pub CoverLaw : Type 0
+CoverLaw = (old new : Tree) (olds news : List Path) → Covers old new olds news → Brings old new (edit_paths old new olds news)
+
+-- calls one after the other bring a tree to the last one, and none leave it
+pub record JoinLaw : Type 0 where
+  pub none : (t : Tree) → Brings t t []
+  pub both : (old between new : Tree) (first second : List Call) → Brings old between first → Brings between new second → Brings old new (first ++ second)
+
+-- a rename moves what stands at one path to another one
+abbrev pub OneRenameLaw : Type 0
+OneRenameLaw = (t : Tree) (old new : Path) → old ≢ new → Brings t (move t old new) (Call.Rename old new ∷ [])
+
+-- what stands at the first path of each pair is moved to the second one, in order
+abbrev pub moved_by : Tree → List (Path × Path) → Tree
+moved_by t [] = t
+moved_by t (one ∷ moves) = moved_by (move t one.0 one.1) moves
+
+-- the calls that do it
+abbrev pub renames : List (Path × Path) → List Call
+renames moves = map (λ one. Call.Rename one.0 one.1) moves
+
+-- what stands at a path moves to another one: at the first nothing of its kind is left, and at the second nothing of its kind stood
+pub record IsMoved (old new : Tree) (from to : Path) : Type 0 where
+  pub apart : from ≢ to
+  pub gone : goes (get old from) (get new from) ≡ true
+  pub come : goes (get new to) (get old to) ≡ true
+
+-- of what stands somewhere after moves a list has each path of another list, and all that moved
+pub record StillCovers (now : Tree) (moves : List (Path × Path)) (olds rest : List Path) : Type 0 where
+  pub others : (path : Path) → Contains olds path → IsSome (get now path) → Contains rest path
+  pub moved : (one : Path × Path) (path : Path) → Contains moves one → begins one.1 path ≡ true → IsSome (get now path) → Contains rest path
+
+-- renames, and then the changes at paths that cover what differs still, bring a tree to the other one
+abbrev pub RenamesLaw : Type 0
+RenamesLaw = (old new : Tree) (moves : List (Path × Path)) (olds news rest : List Path) → IsFileTree old → IsFileTree new → Covers old new olds news
+    → All (λ one. IsMoved old new one.0 one.1) moves → StillCovers (moved_by old moves) moves olds rest → Brings old new (renames moves ++ edit_paths (moved_by old moves) new rest news)

@@ -125,9 +125,13 @@ paths_of t = paths_below t MAX_NAMES []
 abbrev pub update_changes : Tree → Tree → List Call
 update_changes old new = flat_map (removal_at old new) (reverse (paths_of old)) ++ flat_map (making_at old new) (paths_of new)
 
--- the same, where each file of both trees keeps what it can
+-- the changes at some paths of the two trees, where each file of both keeps what it can
+abbrev pub edit_paths : Tree → Tree → List Path → List Path → List Call
+edit_paths old new olds news = flat_map (removal_at old new) (reverse olds) ++ flat_map (adapting_at old new) news
+
+-- those at all paths
 abbrev pub edit_changes : Tree → Tree → List Call
-edit_changes old new = flat_map (removal_at old new) (reverse (paths_of old)) ++ flat_map (adapting_at old new) (paths_of new)
+edit_changes old new = edit_paths old new (paths_of old) (paths_of new)
 
 -- the same, where of each file of both trees only what differs is written
 abbrev pub patch_changes : Tree → Tree → List Call

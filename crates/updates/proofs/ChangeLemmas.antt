@@ -1,10 +1,9 @@
 -- What stands at a path of two trees, and the calls of an update for it.
-use Rattle.std.proofs.Common.{◌≡◌, ◌∙◌, ◌⊎◌, inl, inr, ◌+◌, ◌<◌, ℕ, zero, suc, take, get_or, Bool, true, false, cond, Option, Some, None, IsSome, List, [], ◌∷◌, ◌++◌, length, map, append-nil, refl, sym, ap, ap₂, subst}
+use Rattle.std.proofs.Common.{◌≡◌, ◌∙◌, ◌⊎◌, inl, inr, ◌+◌, ◌<◌, ℕ, zero, suc, take, get_or, Bool, true, false, Option, Some, None, IsSome, List, [], ◌∷◌, ◌++◌, length, map, refl, sym, ap, ap₂, subst}
 use Rattle.std.proofs.lemmas.Bool.{true≢false}
 use Rattle.std.proofs.lemmas.List.{take_more, flat_map_more, map-append, reverse-append}
-use Rattle.std.proofs.lemmas.List.Elements.{All-nil, All-cons, All-head, All-tail, All-append, filter-append}
-use Rattle.std.specs.Cmp.Lexicographic.{bytes_decides}
-use Rattle.std.specs.Prelude.{All, filter, reverse, if◌then◌else◌}
+use Rattle.std.proofs.lemmas.List.Elements.{All-nil, All-cons, All-head, All-tail, All-append}
+use Rattle.std.specs.Prelude.{All, reverse, if◌then◌else◌}
 use Rattle.std.specs.List.{flat_map}
 use Rattle.std.specs.Option.{option_map}
 use Rattle.std.specs.FinMap.{get}
@@ -17,13 +16,11 @@ use Rattle.plain_trees.specs.Trees.{Tree, bytes_of, bytes_of_file, children}
 use Rattle.history_machine.specs.Machine.{stat_of}
 use Rattle.inquiries.specs.Counterparts.{counterpart_of, stat_there}
 use Rattle.inquiries.specs.Items.{IsItemOf, item_at, items_below, items_of}
-use Rattle.inquiries.specs.Pruned.{IsPruned}
 use Rattle.inquiries.specs.declared.counterpart.Counterpart.{Counterpart}
 use Rattle.inquiries.specs.declared.items.Item.{Item}
 use Rattle.inquiries.proofs.DifferenceLemmas.{items_there}
-use Rattle.inquiries.proofs.PrunedLemmas.{pruned_there}
-use Rattle.tree_updates.specs.Updates.{editing, patching, goes, removal, removal_at, making, paths_below, paths_of, writing}
-use Rattle.updates.specs.Changes.{changed_file, changes_by, made_by, making_of, removal_of}
+use Rattle.tree_updates.specs.Updates.{adapting_at, edit_paths, goes, removal, removal_at, making, paths_below, paths_of}
+use Rattle.updates.specs.Changes.{changed_file, changes_by, made_by, making_of, paths_in, removal_of}
 use Rattle.updates.specs.Lines.{PathsLaw}
 use Rattle.updates.specs.declared.manner.Manner.{Manner}
 
@@ -86,18 +83,22 @@ module _ (t u : Tree) (item : Item) (is : IsItemOf t item) (place : Counterpart)
   other_stays (Some (Entry.File bytes)) (Some Entry.Dir) some (inr file) = absurd cc
   other_stays (Some (Entry.File bytes)) (Some (Entry.File others)) some other = refl
 
-  pub removal_missing : place ≡ Counterpart.Missing → removal_of t u item ≡ removal item.path (get t item.path)
-  removal_missing missing =
-      ap (λ (b : Bool). if b then removal item.path (get t item.path) else []) (missing_goes (get t item.path) (get u item.path) is.there (sym at_place ∙ missing))
+  pub missing_gone : place ≡ Counterpart.Missing → goes (get t item.path) (get u item.path) ≡ true
+  missing_gone missing = missing_goes (get t item.path) (get u item.path) is.there (sym at_place ∙ missing)
 
-  pub removal_other : (place ≡ Counterpart.Directory) ⊎ (place ≡ Counterpart.File) → removal_of t u item ≡ []
-  removal_other other =
-      ap (λ (b : Bool). if b then removal item.path (get t item.path) else []) (other_stays (get t item.path) (get u item.path) is.there (at other))
+  pub other_left : (place ≡ Counterpart.Directory) ⊎ (place ≡ Counterpart.File) → goes (get t item.path) (get u item.path) ≡ false
+  other_left other = other_stays (get t item.path) (get u item.path) is.there (at other)
     where
       at : (place ≡ Counterpart.Directory) ⊎ (place ≡ Counterpart.File)
           → (place_of t u item.path (get t item.path) (get u item.path) ≡ Counterpart.Directory) ⊎ (place_of t u item.path (get t item.path) (get u item.path) ≡ Counterpart.File)
       at (inl dir) = inl (sym at_place ∙ dir)
       at (inr file) = inr (sym at_place ∙ file)
+
+  pub removal_missing : place ≡ Counterpart.Missing → removal_of t u item ≡ removal item.path (get t item.path)
+  removal_missing missing = ap (λ (b : Bool). if b then removal item.path (get t item.path) else []) (missing_gone missing)
+
+  pub removal_other : (place ≡ Counterpart.Directory) ⊎ (place ≡ Counterpart.File) → removal_of t u item ≡ []
+  removal_other other = ap (λ (b : Bool). if b then removal item.path (get t item.path) else []) (other_left other)
 
   -- ---- what stands in the new tree, by the old one
 
@@ -228,65 +229,15 @@ all_changes manner old new olds news first second third is is' none gone made =
     in_all Manner.Edited = refl
     in_all Manner.Patched = refl
 
--- ---- the same of what differs alone
+-- what is told of a tree, the last first
+pub reversed_there : (t : Tree) (kept items : List Item) → All (IsItemOf t) kept → items ≡ reverse kept → All (IsItemOf t) items
+reversed_there t kept items all turned = subst (All (IsItemOf t)) (sym turned) (All-reverse (IsItemOf t) kept all)
 
--- what makes no call may be left out
-skipped : (f : Item → List Call) (keeps : Item → Bool) (items : List Item) → ((item : Item) → keeps item ≡ false → f item ≡ []) → flat_map f (filter keeps items) ≡ flat_map f items
-skipped f keeps [] none = refl
-skipped f keeps (x ∷ items) none = by (keeps x) refl (skipped f keeps items none)
-  where
-    by : (b : Bool) → keeps x ≡ b → flat_map f (filter keeps items) ≡ flat_map f items → flat_map f (cond b (x ∷ filter keeps items) (filter keeps items)) ≡ f x ++ flat_map f items
-    by true is rest = ap (λ (l : List Call). f x ++ l) rest
-    by false is rest = rest ∙ ap (λ (l : List Call). l ++ flat_map f items) (sym (none x is))
-
-reverse_filter : (keeps : Item → Bool) (items : List Item) → reverse (filter keeps items) ≡ filter keeps (reverse items)
-reverse_filter keeps [] = refl
-reverse_filter keeps (x ∷ items) =
-    by (keeps x) refl ∙ ap (λ (l : List Item). l ++ filter keeps (x ∷ [])) (reverse_filter keeps items) ∙ sym (filter-append keeps (reverse items) (x ∷ []))
-    ∙ ap (filter keeps) (sym (reverse-append (x ∷ []) items))
-  where
-    by : (b : Bool) → keeps x ≡ b → reverse (cond (keeps x) (x ∷ filter keeps items) (filter keeps items)) ≡ reverse (filter keeps items) ++ cond (keeps x) (x ∷ []) []
-    by true is =
-        ap (λ (c : Bool). reverse (cond c (x ∷ filter keeps items) (filter keeps items))) is ∙ reverse-append (x ∷ []) (filter keeps items) ∙ sym (ap (λ (c : Bool). reverse (filter keeps items) ++ cond c (x ∷ []) []) is)
-    by false is =
-        ap (λ (c : Bool). reverse (cond c (x ∷ filter keeps items) (filter keeps items))) is ∙ sym (append-nil (reverse (filter keeps items))) ∙ sym (ap (λ (c : Bool). reverse (filter keeps items) ++ cond c (x ∷ []) []) is)
-
--- where both trees have the same, nothing goes, and nothing is made
-none_goes : (path : Path) (o : Option Entry) → (if goes o o then removal path o else []) ≡ []
-none_goes path None = refl
-none_goes path (Some Entry.Dir) = refl
-none_goes path (Some (Entry.File bytes)) = refl
-
-same_stays : (old new : Tree) (item : Item) → get old item.path ≡ get new item.path → removal_of old new item ≡ []
-same_stays old new item same = ap (λ (o : Option Entry). if goes (get old item.path) o then removal item.path (get old item.path) else []) (sym same) ∙ none_goes item.path (get old item.path)
-
-none_made : (manner : Manner) (path : Path) (o : Option Entry) → made_by manner path o o ≡ []
-none_made Manner.Whole path None = refl
-none_made Manner.Whole path (Some Entry.Dir) = refl
-none_made Manner.Whole path (Some (Entry.File bytes)) = ap (λ (b : Bool). if b then [] else writing path bytes) ((bytes_decides bytes bytes).1 refl)
-none_made Manner.Edited path None = refl
-none_made Manner.Edited path (Some Entry.Dir) = refl
-none_made Manner.Edited path (Some (Entry.File bytes)) = ap (λ (b : Bool). if b then [] else editing path bytes bytes) ((bytes_decides bytes bytes).1 refl)
-none_made Manner.Patched path None = refl
-none_made Manner.Patched path (Some Entry.Dir) = refl
-none_made Manner.Patched path (Some (Entry.File bytes)) = ap (λ (b : Bool). if b then [] else patching path bytes bytes) ((bytes_decides bytes bytes).1 refl)
-
-same_kept : (manner : Manner) (old new : Tree) (item : Item) → get new item.path ≡ get old item.path → making_of manner old new item ≡ []
-same_kept manner old new item same = ap (made_by manner item.path (get old item.path)) same ∙ none_made manner item.path (get old item.path)
-
--- the changes, by what differs
-pub pruned_changes : (manner : Manner) (old new : Tree) (kept olds news : List Item) (first second third : List Call) → IsPruned old new kept → olds ≡ reverse kept → IsPruned new old news
-    → first ≡ [] → second ≡ first ++ flat_map (removal_of old new) olds → third ≡ second ++ flat_map (making_of manner old new) news → third ≡ changes_by manner old new
-pruned_changes manner old new kept olds news first second third went turned came none gone made =
-    let goes_by : Item → Bool = λ item. went.keeps item.path in
-    let comes_by : Item → Bool = λ item. came.keeps item.path in
-    let removals : flat_map (removal_of old new) olds ≡ flat_map (removal_of old new) (reverse (items_of old)) =
-    ap (flat_map (removal_of old new)) (turned ∙ ap reverse went.are ∙ reverse_filter goes_by (items_of old))
-    ∙ skipped (removal_of old new) goes_by (reverse (items_of old)) (λ item left. same_stays old new item (went.alike item.path left)) in
-    let makings : flat_map (making_of manner old new) news ≡ flat_map (making_of manner old new) (items_of new) =
-    ap (flat_map (making_of manner old new)) came.are ∙ skipped (making_of manner old new) comes_by (items_of new) (λ item left. same_kept manner old new item (came.alike item.path left)) in
-    all_changes manner old new (reverse (items_of old)) (items_of new) first second third refl refl none (gone ∙ ap (λ (l : List Call). first ++ l) removals) (made ∙ ap (λ (l : List Call). second ++ l) makings)
-
--- what differs stands there, the last first too
-pub pruned_reversed : (t other : Tree) (kept items : List Item) → IsPruned t other kept → items ≡ reverse kept → All (IsItemOf t) items
-pruned_reversed t other kept items is turned = subst (All (IsItemOf t)) (sym turned) (All-reverse (IsItemOf t) kept (pruned_there t other kept is))
+-- the changes at the paths of some items
+pub listed_changes : (old new : Tree) (kept olds news : List Item) (first second third : List Call) → olds ≡ reverse kept → first ≡ [] → second ≡ first ++ flat_map (removal_of old new) olds
+    → third ≡ second ++ flat_map (making_of Manner.Edited old new) news → third ≡ edit_paths old new (paths_in kept) (paths_in news)
+listed_changes old new kept olds news first second third turned none gone made =
+    let removals : flat_map (removal_of old new) olds ≡ flat_map (removal_at old new) (reverse (paths_in kept)) =
+    ap (flat_map (removal_of old new)) turned ∙ by_paths (removal_at old new) (reverse kept) ∙ ap (flat_map (removal_at old new)) (map_reversed kept) in
+    let makings : flat_map (making_of Manner.Edited old new) news ≡ flat_map (adapting_at old new) (paths_in news) = by_paths (adapting_at old new) news in
+    made ∙ ap₂ (λ (a b : List Call). a ++ b) (gone ∙ ap₂ (λ (a b : List Call). a ++ b) none removals) makings

@@ -1,5 +1,5 @@
 -- The calls of an update for what stands in two trees.
-use Rattle.std.specs.Prelude.{ℕ, Option, List, Some, [], ◌∷◌, ◌++◌}
+use Rattle.std.specs.Prelude.{ℕ, Option, List, Some, [], ◌∷◌, ◌++◌, map}
 use Rattle.std.specs.FinMap.{get}
 use Rattle.fs_types.specs.Names.{Path}
 use Rattle.fs_types.specs.declared.call.Call.{Call}
@@ -19,6 +19,10 @@ abbrev pub made_by : Manner → Path → Option Entry → Option Entry → List 
 made_by Manner.Whole path there entry = making path there entry
 made_by Manner.Edited path there entry = adapting path there entry
 made_by Manner.Patched path there entry = amending path there entry
+
+-- the paths of items
+abbrev pub paths_in : List Item → List Path
+paths_in items = map (λ item. item.path) items
 
 -- those for what is new or changed
 abbrev pub making_of : Manner → Tree → Tree → Item → List Call

@@ -19,9 +19,7 @@ use crate::patches::add_patching;
 use crate::pieces::add_writing;
 use flash_model::Flash;
 use fs_types::{Bytes, Call, Fault, Path, Stat, View};
-use inquiries::{
-    Counterpart, Item, TellFault, find_counterpart, list_differing, list_folder, read_file,
-};
+use inquiries::{Counterpart, Item, TellFault, find_counterpart, list_folder, read_file};
 use std::alloc::{AllocError, Global};
 use undofs::Fs;
 
@@ -55,39 +53,8 @@ pub fn list_changes<F: Flash, G: Flash>(
     Ok(calls)
 }
 
-/// The same, where another view of the second file system shows the tree that the first one has: only what
-/// differs between the two views is looked at.
-pub fn list_changes_between<F: Flash, G: Flash>(
-    alloc: Global,
-    first: &mut Fs<'_, F>,
-    second: &mut Fs<'_, G>,
-    previous: &View,
-    view: &View,
-    manner: Manner,
-) -> Result<Vec<Call>, TellFault>
-    // What there is.
-    requires previous { view_refusal (shown second.old).history previous.now ≡ None }
-    requires view { view_refusal (shown second.old).history view.now ≡ None }
-    requires there { view_tree (shown second.old) previous.now ≡ working_tree (shown first.old) }
-
-    // The changes.
-    ensures first { IsUnchanged first.old first.new }
-    ensures second { IsUnchanged second.old second.new }
-    ensures small { OnOk result (AreSmall (working_tree (shown first.old)) (view_tree (shown second.old) view.now)) }
-    ensures ok { IfOk result (λ calls. calls.items ≡ changes_by manner (working_tree (shown first.old)) (view_tree (shown second.old) view.now)) }
-    ensures err { IfErr result (Untold (working_tree (shown first.old)) (view_tree (shown second.old) view.now) first.old second.old first.new second.new) }
-{
-    let mut olds = list_differing(alloc, second, previous, view)?;
-    let news = list_differing(alloc, second, view, previous)?;
-    olds.reverse();
-    let mut calls = Vec::new(alloc);
-    add_removals(second, view, &olds, &mut calls)?;
-    add_makings(alloc, first, second, view, manner, &news, &mut calls)?;
-    Ok(calls)
-}
-
 /// Adds the calls that remove what goes of these, by what stands in the new tree.
-fn add_removals<G: Flash>(
+pub(crate) fn add_removals<G: Flash>(
     second: &mut Fs<'_, G>,
     view: &View,
     olds: &[Item],
@@ -135,7 +102,7 @@ fn push_removal(calls: &mut Vec<Call>, item: &Item) -> Result<(), AllocError>
 }
 
 /// Adds the calls that make what is new or changed of these.
-fn add_makings<F: Flash, G: Flash>(
+pub(crate) fn add_makings<F: Flash, G: Flash>(
     alloc: Global,
     first: &mut Fs<'_, F>,
     second: &mut Fs<'_, G>,

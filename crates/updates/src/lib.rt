@@ -6,13 +6,15 @@ mod changes;
 mod edits;
 mod laws;
 mod lines;
+mod listed;
 mod manner;
 mod patches;
 mod pieces;
 mod telling;
 
 pub use asking::ask_update;
-pub use changes::{list_changes, list_changes_between};
+pub use changes::list_changes;
 pub use laws::paths_law;
+pub use listed::list_changes_at;
 pub use manner::Manner;
 pub use telling::tell_update;

@@ -1,4 +1,6 @@
-use Rattle.tree_updates.proofs.Edited.{edit_law}
+use Rattle.tree_updates.proofs.Edited.{cover_law, edit_law}
+use Rattle.tree_updates.proofs.Joined.{join_law, one_rename_law}
+use Rattle.tree_updates.proofs.Moved.{renames_law}
 use Rattle.tree_updates.proofs.Patched.{patch_law}
 use Rattle.tree_updates.proofs.Updated.{update_law}
 use Rattle.tree_updates.proofs.laws.update_laws.Goals as goal
@@ -11,3 +13,15 @@ returns-clause-patches c = patch_law
 
 pub returns-clause-edits : goal.returns-clause-edits
 returns-clause-edits c = edit_law
+
+pub returns-clause-covers : goal.returns-clause-covers
+returns-clause-covers c = cover_law
+
+pub returns-clause-joins : goal.returns-clause-joins
+returns-clause-joins c = join_law
+
+pub returns-clause-moves : goal.returns-clause-moves
+returns-clause-moves c = one_rename_law
+
+pub returns-clause-renames : goal.returns-clause-renames
+returns-clause-renames c = renames_law

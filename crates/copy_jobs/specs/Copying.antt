@@ -14,22 +14,16 @@ use Rattle.copies.specs.declared.uncopied.Uncopied.{Uncopied}
 use Rattle.host_files.specs.Files.{Held, takes_away}
 use Rattle.script_runs.specs.Flashes.{IsMade}
 use Rattle.script_runs.specs.Scripts.{IsUnmounted}
-use Rattle.script_runs.specs.declared.scripts.Refusal.{Refusal}
-use Rattle.image_jobs.specs.Failures.{of_refusal, of_system}
+use Rattle.image_jobs.specs.Failures.{of_system}
 use Rattle.image_jobs.specs.Images.{FormatFailure, IsImageFile, IsSpelledFlash, IsUnclaimed, LoadCause, Unsaved}
 use Rattle.image_jobs.specs.declared.failure.Failure.{Failure}
+use Rattle.copy_jobs.specs.Adding.{HasRestAfter, StopsAdding}
 use Rattle.copy_jobs.specs.Copied.{limit_of, sizes_of}
+use Rattle.copy_jobs.specs.Failures.{of_uncopied}
 use Rattle.copy_jobs.specs.Sources.{IsSourceOf, UnsalvagedCause}
 use Rattle.copy_jobs.specs.declared.asked_sizes.AskedSizes.{AskedSizes}
+use Rattle.copy_jobs.specs.declared.copying.MadeCopy.{MadeCopy}
 use Rattle.copy_jobs.specs.declared.source.Source.{Source}
-
--- by why a flash is not copied
-abbrev pub of_uncopied : Uncopied → Failure
-of_uncopied (Uncopied.Unmounted fault) = of_system fault
-of_uncopied (Uncopied.Unready fault) = of_system fault
-of_uncopied (Uncopied.Unread fault) = of_refusal (Refusal.Fault fault)
-of_uncopied Uncopied.TooManyLines = Failure.TooManyLines
-of_uncopied (Uncopied.Refused fault) = of_refusal (Refusal.Fault fault)
 
 -- a flash of the sizes that are asked for holds a copy of what is on another one, of which the newest record is this one
 pub record IsCopyOf (asked : AskedSizes) (newest : Record) (first second : SimFlash) : Type 0 where
@@ -68,17 +62,31 @@ UncopiedCause asked first failure = ((left : SimFlash) × (fault : Fault) × IsU
     ⊎ ((newest : Record) × (saved_on (device_of first) ≡ Some newest)
     × (FormatFailure (sizes_of asked (device_of first).geometry) (limit_of asked newest.limit) failure ⊎ IsStopped asked newest first failure))
 
--- a flash is a copy of what is copied of another one; it is whole where that is
-abbrev pub IsMadeOf : AskedSizes → Bool → SimFlash → Source → Type 0
-IsMadeOf asked salvages first copy = (source : Source) × IsSourceOf salvages first source × IsAskedCopy asked source.flash copy.flash × (copy.is_whole ≡ source.is_whole)
+-- a flash is a copy of what is copied of another one, with what comes after it; it is whole where that is
+pub record IsMadeOf (asked : AskedSizes) (salvages : Bool) (first : SimFlash) (made : MadeCopy) : Type 0 where
+  pub source : Source
+  pub is_source : IsSourceOf asked salvages first source
+  pub copy : SimFlash
+  pub is_copy : IsAskedCopy asked source.flash copy
+  pub after : HasRestAfter copy source.rest made.flash
+  pub whole : made.is_whole ≡ source.is_whole
 
--- why there is none: nothing is saved of the other one, or what is copied of it has no copy
+-- what is copied has a copy, and what comes after it is not added
+pub record IsUnadded (asked : AskedSizes) (source : Source) (failure : Failure) : Type 0 where
+  pub copy : SimFlash
+  pub is_copy : IsAskedCopy asked source.flash copy
+  pub one : SimFlash
+  pub is_one : source.rest ≡ Some one
+  pub stops : StopsAdding copy one failure
+
+-- why there is none: nothing is saved of the other one, or what is copied of it has no copy, or that gets no version more
 abbrev pub UnmadeCause : AskedSizes → Bool → SimFlash → Failure → Type 0
-UnmadeCause asked salvages first failure = UnsalvagedCause salvages first failure ⊎ ((source : Source) × IsSourceOf salvages first source × UncopiedCause asked source.flash failure)
+UnmadeCause asked salvages first failure =
+    UnsalvagedCause asked salvages first failure ⊎ ((source : Source) × IsSourceOf asked salvages first source × (UncopiedCause asked source.flash failure ⊎ IsUnadded asked source failure))
 
 -- a file becomes the image of a copy, and where something is lost the job ends with what tells so; or that is not written, or not
 -- for good
-abbrev pub SavesCopy : Source → Option (List ℕ) → Option (List ℕ) → Result (Unit {0}) Failure → Type 0
+abbrev pub SavesCopy : MadeCopy → Option (List ℕ) → Option (List ℕ) → Result (Unit {0}) Failure → Type 0
 SavesCopy copy held left (Ok done) = (copy.is_whole ≡ true) × IsImageFile left copy.flash
 SavesCopy copy held left (Err Failure.Differs) = (copy.is_whole ≡ false) × IsImageFile left copy.flash
 SavesCopy copy held left (Err failure) = Unsaved held left (image_of (device_of copy.flash)) failure
@@ -90,4 +98,4 @@ CopyEnds asked salvages image name held saved result =
     ((failure : Failure) × (result ≡ Err failure) × (IsUnclaimed failure ⊎ LoadCause (held image) failure) × (saved ≡ held))
     ⊎ ((first : SimFlash) × (takes_away name image ≡ false) × IsSpelledFlash (held image) first
     × (((failure : Failure) × (result ≡ Err failure) × UnmadeCause asked salvages first failure × (saved ≡ held))
-    ⊎ ((copy : Source) × IsMadeOf asked salvages first copy × SavesCopy copy (held name) (saved name) result)))
+    ⊎ ((copy : MadeCopy) × IsMadeOf asked salvages first copy × SavesCopy copy (held name) (saved name) result)))

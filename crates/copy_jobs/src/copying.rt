@@ -1,34 +1,43 @@
 //! The history of an image is copied to a new one.
-ghost use Rattle.std.specs.Prelude.{◌≡◌, ◌≢◌, IfOk, OnOk, IfErr};
-ghost use Rattle.fs_types.specs.declared.fault.Fault.{Fault};
+ghost use Rattle.std.specs.Prelude.{◌≡◌, IfOk, OnOk, IfErr};
 ghost use Rattle.flash_simulation.specs.Simulation.{device_of};
 ghost use Rattle.mounting.specs.Formats.{IsFormatted};
 ghost use Rattle.copies.specs.Copied.{IsCopied};
 ghost use Rattle.host_files.specs.Files.{KeepsOthers};
 ghost use Rattle.script_runs.specs.Flashes.{IsMade};
 ghost use Rattle.image_jobs.specs.Images.{FormatFailure};
-ghost use Rattle.copy_jobs.specs.Copying.{CopyEnds, IsAskedCopy, IsMadeOf, SavesCopy, StopsCopy, UncopiedCause, UnmadeCause, of_uncopied};
+ghost use Rattle.copy_jobs.specs.Copying.{CopyEnds, IsAskedCopy, IsMadeOf, SavesCopy, StopsCopy, UncopiedCause, UnmadeCause};
 
-use crate::asked_sizes::{AskedSizes, limit_of, sizes_of};
+use crate::adding::with_rest;
+use crate::asked_sizes::{AskedSizes, limit_of, of_sizes, sizes_of};
+use crate::failures::of_uncopied;
 use crate::source::{Source, source_of};
 use crate::telling::{tell_dropped, tell_uncopied, tell_unformatted, tell_unmounted};
-use copies::{Uncopied, copy_history};
+use copies::copy_history;
 use flash_model::{Flash, Geometry};
 use flash_simulation::SimFlash;
-use fs_types::Fault;
 use host_files::ImageFiles;
 use image_jobs::{Failure, claim, formatted_flash, load, save_image, spare};
-use script_runs::{Refusal, mount_as_planned};
+use script_runs::mount_as_planned;
 use std::alloc::Global;
 use std::io::Write;
+
+/// A copy on a flash, and whether all is on it that the image holds.
+#[derive(Drop)]
+pub(crate) struct MadeCopy {
+    pub(crate) flash: SimFlash,
+    pub(crate) is_whole: bool,
+}
 
 /// Makes an image that holds a copy of what an image holds, in the place of what has a name, which is
 /// claimed then: each kept version for which there is room, each checkpoint, and the place of the present
 /// version. Refused at once where that takes the image away.
 ///
-/// Where it is to be salvaged a damaged image is copied as far as it is whole: then [`Failure::Differs`]
-/// where something is lost, and the copy is made. The versions and checkpoints that are lost are told, the
-/// versions for which there is no room, and what is refused.
+/// Where it is to be salvaged a damaged image is copied as far as it is whole: its whole versions and
+/// checkpoints, and where the present version is not whole what is left of it, as one more version, which is
+/// the present one. Then [`Failure::Differs`] where something is lost, and the copy is made. The versions,
+/// checkpoints and paths that are lost are told, the versions for which there is no room, and what is
+/// refused.
 pub fn copy_image<F: ImageFiles, E: Write>(
     files: &mut F,
     alloc: Global,
@@ -60,25 +69,33 @@ pub fn copy_image<F: ImageFiles, E: Write>(
     }
 }
 
-/// A copy of what is copied of a flash.
+/// A copy of what is copied of a flash, and what is left of its present version after it.
 fn make_copy<E: Write>(
     alloc: Global,
     flash: SimFlash,
     asked: AskedSizes,
     salvages: bool,
     err: &mut E,
-) -> Result<Source, Failure>
+) -> Result<MadeCopy, Failure>
     ensures ok { IfOk result (IsMadeOf asked salvages flash) }
     ensures err { IfErr result (UnmadeCause asked salvages flash) }
 {
-    let source = match source_of(alloc, flash, salvages, err) {
+    let source = match source_of(alloc, flash, asked, salvages, err) {
         Ok(source) => source,
         Err(failure) => return Err(failure),
     };
-    let is_whole = source.is_whole;
-    let mut first = source.flash;
-    match copy_of(alloc, &mut first, asked, err) {
-        Ok(flash) => Ok(Source { flash, is_whole }),
+    let Source {
+        flash,
+        rest,
+        is_whole,
+    } = source;
+    let mut first = flash;
+    let copy = match copy_of(alloc, &mut first, asked, rest.is_some(), err) {
+        Ok(copy) => copy,
+        Err(failure) => return Err(failure),
+    };
+    match with_rest(alloc, copy, rest, err) {
+        Ok(flash) => Ok(MadeCopy { flash, is_whole }),
         Err(failure) => Err(failure),
     }
 }
@@ -88,7 +105,7 @@ fn save_copy<F: ImageFiles>(
     files: &mut F,
     alloc: Global,
     name: &str,
-    copy: &Source,
+    copy: &MadeCopy,
 ) -> Result<(), Failure>
     requires { F.claims files.old name.now }
     ensures ends { SavesCopy copy.now (F.held files.old name.now) (F.held files.new name.now) result }
@@ -106,11 +123,13 @@ fn save_copy<F: ImageFiles>(
     }
 }
 
-/// A new flash with a copy of what a flash holds.
+/// A new flash with a copy of what a flash holds. It is told which versions are dropped, with the one for which
+/// one more makes no room, where one is to come.
 fn copy_of<E: Write>(
     alloc: Global,
     first: &mut SimFlash,
     asked: AskedSizes,
+    adds: bool,
     err: &mut E,
 ) -> Result<SimFlash, Failure>
     ensures ok { IfOk result (IsAskedCopy asked first.old) }
@@ -133,7 +152,7 @@ fn copy_of<E: Write>(
     };
     match copy_to(alloc, first, second, limit, err) {
         Ok(copy) => {
-            tell_dropped(versions, history.cursor(), limit as usize, err);
+            tell_dropped(versions, history.cursor(), limit as usize, adds, err);
             Ok(copy)
         }
         Err(failure) => Err(failure),
@@ -200,32 +219,5 @@ fn copied(
     match copy_history(alloc, first, &mut copy, history as usize) {
         Ok(()) => of_sizes(copy, sizes),
         Err(why) => Err(of_uncopied(why)),
-    }
-}
-
-/// A flash, where it has these sizes.
-fn of_sizes(flash: SimFlash, sizes: Geometry) -> Result<SimFlash, Failure>
-    ensures ok { IfOk result (λ same. same ≡ flash) }
-    ensures sizes { OnOk result ((device_of flash).geometry ≡ sizes) }
-    ensures err { IfErr result (λ failure. ((device_of flash).geometry ≢ sizes) × (failure ≡ Failure.System Fault.BadGeometry)) }
-{
-    let is_same = flash.geometry() == sizes;
-    if is_same {
-        Ok(flash)
-    } else {
-        Err(Failure::System(Fault::BadGeometry))
-    }
-}
-
-/// By why a flash is not copied.
-fn of_uncopied(why: Uncopied) -> Failure
-    ensures { result ≡ of_uncopied why }
-{
-    match why {
-        Uncopied::Unmounted(fault) | Uncopied::Unready(fault) => Failure::of_system(fault),
-        Uncopied::Unread(fault) | Uncopied::Refused(fault) => {
-            Failure::of_refusal(Refusal::Fault(fault))
-        }
-        Uncopied::TooManyLines => Failure::TooManyLines,
     }
 }

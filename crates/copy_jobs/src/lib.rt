@@ -1,8 +1,11 @@
 //! The history of an image, copied to a new image of other sizes.
 #![tactic(auto)]
 
+mod adding;
 mod asked_sizes;
 mod copying;
+mod failures;
+mod rests;
 mod source;
 mod telling;
 

@@ -4,7 +4,7 @@ use flash_model::Geometry;
 use fs_types::{CpName, Fault, Version};
 use image_jobs::Failure;
 use job_messages::{tell_refusal, tell_refused_format};
-use salvages::{Loss, LossKind, Salvaged};
+use salvages::{Loss, LossKind, Rest, Salvaged};
 use script::print_name;
 use script_runs::Refusal;
 use std::alloc::{AllocError, Global};
@@ -64,28 +64,63 @@ pub(crate) fn tell_dropped<E: Write>(
     versions: &[Version<u32>],
     cursor: usize,
     limit: usize,
+    adds: bool,
     err: &mut E,
 ) {
-    if versions.len() <= limit {
+    let count = versions.len();
+    let room = if adds { limit.saturating_sub(1) } else { limit };
+    if count <= room {
         return;
     }
     let _ = write!(err, "uffs: dropped versions");
     for (place, version) in versions.iter().enumerate() {
-        if !is_kept(place, cursor, versions.len(), limit) {
+        if !stays(place, cursor, count, limit, adds) {
             let _ = write!(err, " {}", version.serial);
         }
     }
     let _ = writeln!(err);
 }
 
-/// Tells which versions and checkpoints are lost, and then what of the present version is, each on a line.
-pub(crate) fn tell_lost<E: Write>(alloc: Global, found: &Salvaged, losses: &[Loss], err: &mut E) {
+/// Whether the version at a place is copied. Where one more comes after them, which is the present one, the
+/// newest are for which there is room beside it.
+fn stays(place: usize, cursor: usize, count: usize, limit: usize, adds: bool) -> bool {
+    if adds {
+        place >= count.saturating_sub(limit.saturating_sub(1))
+    } else {
+        is_kept(place, cursor, count, limit)
+    }
+}
+
+/// Tells that each version is lost, since none is whole, and that no checkpoint is copied, each on a line.
+pub(crate) fn tell_all_lost<E: Write>(alloc: Global, rest: &Rest, err: &mut E) {
+    for serial in &rest.serials {
+        let _ = writeln!(err, "uffs: lost version {serial}");
+    }
+    for name in &rest.names {
+        tell_dropped_checkpoint(alloc, name, err);
+    }
+}
+
+/// Tells that a checkpoint is not copied.
+fn tell_dropped_checkpoint<E: Write>(alloc: Global, name: &CpName, err: &mut E) {
+    let _ = match name_text(alloc, name.as_bytes()) {
+        Ok(text) => writeln!(err, "uffs: dropped checkpoint {text}"),
+        Err(_) => writeln!(err, "uffs: dropped checkpoint"),
+    };
+}
+
+/// Tells which versions and checkpoints are lost, each on a line.
+pub(crate) fn tell_lost<E: Write>(alloc: Global, found: &Salvaged, err: &mut E) {
     for serial in &found.lost_versions {
         let _ = writeln!(err, "uffs: lost version {serial}");
     }
     for name in &found.lost_checkpoints {
         tell_lost_checkpoint(alloc, name, err);
     }
+}
+
+/// Tells what of a version is lost, each on a line.
+pub(crate) fn tell_losses<E: Write>(alloc: Global, losses: &[Loss], err: &mut E) {
     for loss in losses {
         tell_loss(alloc, loss, err);
     }

@@ -11,3 +11,8 @@ pub mod TableLaws
 pub mod Levels
 pub mod LossLaws
 pub mod Telling
+pub mod LeftLaws
+pub mod RestMaking
+pub mod FileBytes
+pub mod RestRoots
+pub mod Listing

@@ -89,48 +89,48 @@ ascend_from (suc n) f node link is = on (link_after f link) refl (λ node next. 
 
 -- ---- elements of lists
 
-in_none : {X : Type 0} (x : X) → Contains [] x → ⊥
+pub in_none : {X : Type 0} (x : X) → Contains [] x → ⊥
 in_none x (k, lt, is) = omega arith
 
-head_in : {X : Type 0} (x : X) (xs : List X) → Contains (x ∷ xs) x
+pub head_in : {X : Type 0} (x : X) (xs : List X) → Contains (x ∷ xs) x
 head_in x xs = (0, omega arith, refl)
 
-later_in : {X : Type 0} (x y : X) (xs : List X) → Contains xs y → Contains (x ∷ xs) y
+pub later_in : {X : Type 0} (x y : X) (xs : List X) → Contains xs y → Contains (x ∷ xs) y
 later_in x y xs (k, lt, is) = (suc k, omega arith, is)
 
-one_is : {X : Type 0} (x y : X) → Contains (x ∷ []) y → y ≡ x
+pub one_is : {X : Type 0} (x y : X) → Contains (x ∷ []) y → y ≡ x
 one_is x y (zero, lt, is) = sym is
 one_is x y (suc k, lt, is) = absurd (omega arith)
 
-first_or : {X : Type 0} (x y : X) (xs : List X) → Contains (x ∷ xs) y → (x ≡ y) ⊎ Contains xs y
+pub first_or : {X : Type 0} (x y : X) (xs : List X) → Contains (x ∷ xs) y → (x ≡ y) ⊎ Contains xs y
 first_or x y xs (zero, lt, is) = inl is
 first_or x y xs (suc k, lt, is) = inr (k, omega arith, is)
 
-in_left : {X : Type 0} (x : X) (xs ys : List X) → Contains xs x → Contains (xs ++ ys) x
+pub in_left : {X : Type 0} (x : X) (xs ys : List X) → Contains xs x → Contains (xs ++ ys) x
 in_left x [] ys h = absurd (in_none x h)
 in_left x (y ∷ xs) ys h = elim (first_or y x xs h) [
   | inl is ↦ (0, omega arith, is)
   | inr more ↦ later_in y x (xs ++ ys) (in_left x xs ys more)
 ]
 
-in_right : {X : Type 0} (x : X) (xs ys : List X) → Contains ys x → Contains (xs ++ ys) x
+pub in_right : {X : Type 0} (x : X) (xs ys : List X) → Contains ys x → Contains (xs ++ ys) x
 in_right x [] ys h = h
 in_right x (y ∷ xs) ys h = later_in y x (xs ++ ys) (in_right x xs ys h)
 
 -- an element of a `flat_map` is one of what an element brings
-record IsBrought {X Y : Type 0} (g : X → List Y) (xs : List X) (y : Y) : Type 0 where
-  by : X
-  within : Contains xs by
-  brings : Contains (g by) y
+pub record IsBrought {X Y : Type 0} (g : X → List Y) (xs : List X) (y : Y) : Type 0 where
+  pub by : X
+  pub within : Contains xs by
+  pub brings : Contains (g by) y
 
-brought : {X Y : Type 0} (g : X → List Y) (xs : List X) (y : Y) → Contains (flat_map g xs) y → IsBrought g xs y
+pub brought : {X Y : Type 0} (g : X → List Y) (xs : List X) (y : Y) → Contains (flat_map g xs) y → IsBrought g xs y
 brought g [] y h = absurd (in_none y h)
 brought g (x ∷ xs) y h = elim (Contains-append_cases (g x) (flat_map g xs) y h) [
   | inl own ↦ record { by = x; within = head_in x xs; brings = own }
   | inr more ↦ let rest = brought g xs y more in record { by = rest.by; within = later_in x rest.by xs rest.within; brings = rest.brings }
 ]
 
-brings_in : {X Y : Type 0} (g : X → List Y) (xs : List X) (x : X) (y : Y) → Contains xs x → Contains (g x) y → Contains (flat_map g xs) y
+pub brings_in : {X Y : Type 0} (g : X → List Y) (xs : List X) (x : X) (y : Y) → Contains xs x → Contains (g x) y → Contains (flat_map g xs) y
 brings_in g [] x y within own = absurd (in_none x within)
 brings_in {X} {Y} g (z ∷ xs) x y within own = elim (first_or z x xs within) [
   | inl is ↦ in_left y (g z) (flat_map g xs) (subst (λ (w : X). Contains (g w) y) (sym is) own)
@@ -143,7 +143,7 @@ same_option : (o : Option Place) → option_and_then (λ next. Some next) o ≡ 
 same_option None = refl
 same_option (Some next) = refl
 
-leads_more : (f : Blocks) (p : Path) (n : Name) (at : Place) → leads_left f at (p ++ n ∷ []) ≡ option_and_then (λ next. child_left f next n) (leads_left f at p)
+pub leads_more : (f : Blocks) (p : Path) (n : Name) (at : Place) → leads_left f at (p ++ n ∷ []) ≡ option_and_then (λ next. child_left f next n) (leads_left f at p)
 leads_more f [] n at = same_option (child_left f at n)
 leads_more f (m ∷ p) n at =
     elim (child_left f at m) as (λ o. option_and_then (λ next. leads_left f next (p ++ n ∷ [])) o ≡ option_and_then (λ next. child_left f next n) (option_and_then (λ next. leads_left f next p) o))
@@ -152,23 +152,23 @@ leads_more f (m ∷ p) n at =
 path_more : (p : Path) (n : Name) → path_bytes (p ++ n ∷ []) ≡ path_bytes p ++ 47 ∷ n
 path_more p n = flat_map-append (λ (name : Name). 47 ∷ name) p (n ∷ []) ∙ ap (λ (xs : List ℕ). path_bytes p ++ xs) (append-nil (47 ∷ n))
 
-length_more : (p : Path) (n : Name) → length (p ++ n ∷ []) ≡ suc (length p)
+pub length_more : (p : Path) (n : Name) → length (p ++ n ∷ []) ≡ suc (length p)
 length_more p n = length-append p (n ∷ []) ∙ omega arith
 
 -- a path with names has a last one
-record IsLonger (p : Path) : Type 0 where
-  front : Path
-  last : Name
-  is : p ≡ front ++ last ∷ []
+pub record IsLonger (p : Path) : Type 0 where
+  pub front : Path
+  pub last : Name
+  pub is : p ≡ front ++ last ∷ []
 
-longer : (n : Name) (p : Path) → IsLonger (n ∷ p)
+pub longer : (n : Name) (p : Path) → IsLonger (n ∷ p)
 longer n [] = record { front = []; last = n; is = refl }
 longer n (m ∷ p) = let rest = longer m p in record { front = n ∷ rest.front; last = rest.last; is = ap (λ (q : Path). n ∷ q) rest.is }
 
 -- ---- what a directory has, and what is in it
 
 module _ (f : Blocks) (block : ℕ) (link : Link) (is : link_of (f block) ≡ Some link) where
-  items_are : items_left f block ≡ items_from most_after f link
+  pub items_are : items_left f block ≡ items_from most_after f link
   items_are = ap (λ (o : Option Link). option_map_or (items_from most_after f) o []) is
 
   item_named : (item : Item) → Contains (items_from most_after f link) item → child_left f (Dir block) item.name ≡ Some item.place
@@ -222,7 +222,7 @@ ways_begin f root = record {
     all (n ∷ p) block long e = absurd (omega (arith, long))
 
 -- what an entry of a directory leads to
-item_leads : (f : Blocks) (root : ℕ) (p : Path) (block : ℕ) (link : Link) (item : Item) → leads_left f (Dir root) p ≡ Some (Dir block) → link_of (f block) ≡ Some link → Contains (items_from most_after f link) item
+pub item_leads : (f : Blocks) (root : ℕ) (p : Path) (block : ℕ) (link : Link) (item : Item) → leads_left f (Dir root) p ≡ Some (Dir block) → link_of (f block) ≡ Some link → Contains (items_from most_after f link) item
     → leads_left f (Dir root) (p ++ item.name ∷ []) ≡ Some item.place
 item_leads f root p block link item leads is within =
     leads_more f p item.name (Dir root) ∙ ap (λ (o : Option Place). option_and_then (λ next. child_left f next item.name) o) leads ∙ item_named f block link is item within
@@ -251,17 +251,17 @@ way_under f root k w v own within = on (link_of (f w.block)) refl within
         at link by.by by.by.place is by.within refl by.brings
 
 -- a path of one name more goes over an entry of a directory
-record IsOver (f : Blocks) (root : ℕ) (front : Path) (n : Name) (place : Place) : Type 0 where
-  block : ℕ
-  leads : leads_left f (Dir root) front ≡ Some (Dir block)
-  link : Link
-  is : link_of (f block) ≡ Some link
-  item : Item
-  within : Contains (items_from most_after f link) item
-  named : item.name ≡ n
-  placed : item.place ≡ place
+pub record IsOver (f : Blocks) (root : ℕ) (front : Path) (n : Name) (place : Place) : Type 0 where
+  pub block : ℕ
+  pub leads : leads_left f (Dir root) front ≡ Some (Dir block)
+  pub link : Link
+  pub is : link_of (f block) ≡ Some link
+  pub item : Item
+  pub within : Contains (items_from most_after f link) item
+  pub named : item.name ≡ n
+  pub placed : item.place ≡ place
 
-goes_over : (f : Blocks) (root : ℕ) (front : Path) (n : Name) (place : Place) → leads_left f (Dir root) (front ++ n ∷ []) ≡ Some place → IsOver f root front n place
+pub goes_over : (f : Blocks) (root : ℕ) (front : Path) (n : Name) (place : Place) → leads_left f (Dir root) (front ++ n ∷ []) ≡ Some place → IsOver f root front n place
 goes_over f root front n place e = on (leads_left f (Dir root) front) refl (sym (leads_more f front n (Dir root)) ∙ e)
   where
     at : (block : ℕ) → leads_left f (Dir root) front ≡ Some (Dir block) → (o : Option Link) → link_of (f block) ≡ o → named_place (option_map_or (items_from most_after f) o []) n ≡ Some place → IsOver f root front n place

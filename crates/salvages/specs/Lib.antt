@@ -12,3 +12,7 @@ pub mod Rests
 pub mod Losses
 pub mod Told
 pub mod LossLaws
+pub mod Lefts
+pub mod FileBytes
+pub mod Overfull
+pub mod Remade

@@ -101,6 +101,27 @@ pub(crate) fn list_lost_names(
     Ok(names)
 }
 
+/// The serials of the versions.
+pub(crate) fn list_serials(alloc: Global, versions: &[Version<u32>]) -> Result<Vec<u64>, AllocError>
+    ensures { IfOk result (λ serials. serials.items ≡ map (λ version. version.serial) versions.now) }
+{
+    versions.iter().map(|version| version.serial).collect(alloc)
+}
+
+/// The names of the checkpoints.
+pub(crate) fn list_names(
+    alloc: Global,
+    checkpoints: &[Checkpoint],
+) -> Result<Vec<CpName>, AllocError>
+    ensures { IfOk result (λ names. names.items ≡ map (λ checkpoint. checkpoint.name) checkpoints.now) }
+{
+    let mut names = Vec::new(alloc);
+    for checkpoint in checkpoints {
+        names.push(checkpoint.name.clone()?)?;
+    }
+    Ok(names)
+}
+
 /// Where the cursor goes, which is at one of the versions.
 fn keep_cursor(versions: &[Version<u32>], lost: &[u32], cursor: usize) -> usize
     requires { cursor < length versions.now }

@@ -1,14 +1,17 @@
 //! What is known of the nodes of a flash.
 ghost use Rattle.std.specs.Prelude.{◌≡◌, ℕ, ◌<◌, ◌≤◌, [], Some, None, slice_get, IfOk};
 ghost use Rattle.std.specs.Option.{option_map};
+ghost use Rattle.block_trees.specs.Bodies as bodies;
 ghost use Rattle.block_trees.specs.Chains.{link_of};
 ghost use Rattle.reclaim.specs.Looks as looks;
 ghost use Rattle.salvages.specs.Rests as rests;
 ghost use Rattle.salvages.specs.Tables.{blocks_in};
 ghost use Rattle.salvages.specs.WholeFiles as spec;
 
+use crate::bodies::read_body;
 use crate::node_table::NodeTable;
 use crate::whole_files::{BlockMarks, is_file, mark_linked, mark_steps};
+use fs_types::Bytes;
 use node_format::{Entries, EntryList};
 use std::alloc::{AllocError, Global};
 use std::marker::Model;
@@ -78,6 +81,13 @@ impl KnownNodes {
         ensures { result ≡ spec.is_file self.now.capacity (blocks_in self.now.nodes) head length }
     {
         is_file(&self.table, &self.linked, self.capacity, head, length)
+    }
+
+    /// The bytes of the file of a head and a length.
+    pub(crate) fn body(&self, alloc: Global, head: u32, length: u32) -> Result<Bytes, AllocError>
+        ensures { IfOk result (λ bytes. bytes ≡ bodies.body self.now.capacity (blocks_in self.now.nodes) head length) }
+    {
+        read_body(alloc, &self.table, self.capacity, head, length)
     }
 }
 

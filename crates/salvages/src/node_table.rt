@@ -107,6 +107,16 @@ impl NodeTable {
         }
     }
 
+    /// The bytes of a file that the node in a block has.
+    pub(crate) fn data_at(&self, block: u32) -> &[u8]
+        ensures { result.now ≡ data_of (blocks_in self.now block) }
+    {
+        match self.bytes_at(block) {
+            Some(bytes) => data_in(bytes),
+            None => &[],
+        }
+    }
+
     /// How many bytes of a file the node in a block has.
     pub(crate) fn data_length_at(&self, block: u32) -> usize
         ensures { result ≡ length (data_of (blocks_in self.now block)) }
@@ -126,5 +136,17 @@ fn index_in(bytes: &[u8]) -> Option<u32>
         Some(u32_at(bytes, 4))
     } else {
         None
+    }
+}
+
+/// The bytes of a file in a node.
+fn data_in(bytes: &[u8]) -> &[u8]
+    ensures { result.now ≡ data_of (Some bytes.now) }
+{
+    let header = BODY_HEADER as usize;
+    if bytes.len() > header {
+        &bytes[header..]
+    } else {
+        &[]
     }
 }

@@ -61,7 +61,7 @@ fn known_on<F: Flash>(
 }
 
 /// What is known of all nodes of a flash. Each is read once.
-fn know_nodes<F: Flash>(alloc: Global, flash: &mut F) -> Result<KnownNodes, Fault>
+pub(crate) fn know_nodes<F: Flash>(alloc: Global, flash: &mut F) -> Result<KnownNodes, Fault>
     requires { IsGeometry (F.device flash.old).geometry }
     ensures nodes { IfOk result (λ known. blocks_in known.nodes ≡ node_of (F.device flash.old)) }
     ensures capacity { IfOk result (λ known. known.capacity ≡ capacity_of (F.device flash.old)) }
@@ -81,7 +81,7 @@ fn begins(known: &KnownNodes, block: u32) -> bool
 }
 
 /// The present version of a record.
-fn present_of(newest: &Record) -> Version<u32>
+pub(crate) fn present_of(newest: &Record) -> Version<u32>
     requires { is_record newest.now ≡ true }
     ensures { slice_get newest.now.versions newest.now.cursor ≡ Some result }
 {
@@ -89,7 +89,7 @@ fn present_of(newest: &Record) -> Version<u32>
 }
 
 /// The root whose tree's rest is told.
-fn rest_root(known: &KnownNodes, newest: &Record) -> Option<u32>
+pub(crate) fn rest_root(known: &KnownNodes, newest: &Record) -> Option<u32>
     requires { is_record newest.now ≡ true }
     ensures { result ≡ spec.rest_root (blocks_in known.now.nodes) newest.now }
 {
@@ -114,7 +114,7 @@ fn newest_begun<'a>(known: &KnownNodes, versions: &'a [Version<u32>]) -> Option<
 }
 
 /// What is lost of what is left of the newest record's versions.
-fn find_rest<F: Flash>(
+fn find_lost_of<F: Flash>(
     alloc: Global,
     flash: &mut F,
     newest: &Record,
@@ -151,5 +151,5 @@ pub fn find_losses<F: Flash>(alloc: Global, flash: &mut F) -> Result<Vec<Loss>, 
     if whole {
         return Ok(Vec::new(alloc));
     }
-    find_rest(alloc, flash, &newest)
+    find_lost_of(alloc, flash, &newest)
 }

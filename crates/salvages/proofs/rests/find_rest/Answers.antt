@@ -1,0 +1,57 @@
+use Rattle.std.proofs.Common.{refl, sym, ◌∙◌}
+use Rattle.std.proofs.lemmas.Bool.{true≢false}
+use Rattle.std.proofs.lemmas.Result.{IfOk-weaker, IfErr-weaker}
+use Rattle.flash_model.specs.Reading.{OnlyReads_on}
+use Rattle.commit_pair.proofs.Committed.{committed_stays}
+use Rattle.mounting.specs.Records.{knows_plain_only}
+use Rattle.salvages.proofs.LostRoots.{whole_back, whole_on}
+use Rattle.salvages.proofs.Telling.{rest_stays, unmade_back}
+use Rattle.salvages.proofs.rests.find_rest.Goals as goal
+
+pub returns-then-whole-clause-rest : goal.returns-then-whole-clause-rest
+returns-then-whole-clause-rest g c =
+    let d = g.F.Flash.device c.args.flash.now in
+    let first = g.F.Flash.device c.read_newest.new.flash in
+    let r = c.in_ok-newest.newest in
+    let root = c.present_of-present.result.root in
+    let whole = whole_back (knows_plain_only r) d first root c.in_ok-newest.ensures.lawful c.read_newest.ensures.only_reads (c.in_ok-whole.ensures.whole.0 c.if-whole.true) in
+    record {
+      newest = r;
+      holds = c.in_ok-newest.ensures.holds;
+      present = c.present_of-present.result;
+      is_present = c.present_of-present.ensures;
+      whole = λ _. refl;
+      broken = λ none. absurd (none whole);
+    }
+
+pub rest_on-requires-clause-holds : goal.rest_on-requires-clause-holds
+rest_on-requires-clause-holds g c =
+    let d = g.F.Flash.device c.args.flash.now in
+    let first = g.F.Flash.device c.read_newest.new.flash in
+    committed_stays d (g.F.Flash.device c.is_whole.new.flash) (OnlyReads_on d first (g.F.Flash.device c.is_whole.new.flash) c.read_newest.ensures.only_reads c.is_whole.ensures.only_reads) ∙ c.in_ok-newest.ensures.holds
+
+pub returns-clause-rest : goal.returns-clause-rest
+returns-clause-rest g c =
+    let d = g.F.Flash.device c.args.flash.now in
+    let first = g.F.Flash.device c.read_newest.new.flash in
+    let mid = g.F.Flash.device c.is_whole.new.flash in
+    let r = c.in_ok-newest.newest in
+    let root = c.present_of-present.result.root in
+    let lawful = c.in_ok-newest.ensures.lawful in
+    let reads = OnlyReads_on d first mid c.read_newest.ensures.only_reads c.is_whole.ensures.only_reads in
+    IfOk-weaker c.rest_on.result _ _ (λ found is. record {
+      newest = r;
+      holds = c.in_ok-newest.ensures.holds;
+      present = c.present_of-present.result;
+      is_present = c.present_of-present.ensures;
+      whole = λ whole. absurd (true≢false (sym (c.in_ok-whole.ensures.whole.1 (whole_on (knows_plain_only r) d first root lawful c.read_newest.ensures.only_reads whole)) ∙ c.if-whole.false));
+      broken = λ _. rest_stays d mid lawful reads found r is;
+    }) c.rest_on.ensures.rest
+
+pub returns-clause-why : goal.returns-clause-why
+returns-clause-why g c =
+    let d = g.F.Flash.device c.args.flash.now in
+    let first = g.F.Flash.device c.read_newest.new.flash in
+    let mid = g.F.Flash.device c.is_whole.new.flash in
+    let reads = OnlyReads_on d first mid c.read_newest.ensures.only_reads c.is_whole.ensures.only_reads in
+    IfErr-weaker c.rest_on.result _ _ (λ why cause. unmade_back d mid c.in_ok-newest.ensures.lawful reads (g.F.Flash.device c.rest_on.new.flash) why cause) c.rest_on.ensures.why

@@ -1,12 +1,14 @@
 #!/usr/bin/env python3
-"""Kills the built program at random moments in each word that writes a file, and looks at what is left.
+"""Kills the built program at random moments in each word that writes a file, and in some that only read one, and
+looks at what is left.
 
   tools/check_kills.py PROGRAM [TIMES]
 
 PROGRAM is crates/uffs/out/uffs, as `rt run` builds it there. Each word is killed TIMES times, 200 if it is left out,
 each time at a moment between its start and a little past its end. Afterwards the file that it writes has to be the
 one from before or the one that a run to the end writes, byte for byte, and the next run of the word has to end as
-ever. Each word is a line `ok` or `WRONG` with how often the file was which; the status is the number of wrong ones.
+ever. A word that only reads leaves its file as it was. Each word is a line `ok` or `WRONG` with how often the file
+was which; the status is the number of wrong ones.
 All files stand in a new folder that is removed again.
 """
 import io
@@ -116,6 +118,16 @@ def words_of(folder):
     ]
 
 
+def reading_words_of(folder):
+    """Words that only read a file, in the same way."""
+    image = os.path.join(folder, "image")
+    return [
+        ("ls", ["ls", image, "/old/d1"], b"", image),
+        ("history", ["history", image, "/old/d1"], b"", image),
+        ("du", ["du", image, "/old"], b"", image),
+    ]
+
+
 def begin(program, folder):
     """Makes what the words begin with: an image of a folder, an older part and older bytes for a chip, and files to be
     replaced."""
@@ -180,7 +192,7 @@ def main():
     try:
         begin(program, folder)
         kept = keep(folder)
-        for case in words_of(folder):
+        for case in words_of(folder) + reading_words_of(folder):
             try:
                 found = kill_word(program, folder, kept, case, times)
                 print(f"ok {case[0]}: {found['as before']} as before, {found['as after']} as after", flush=True)

@@ -25,6 +25,7 @@ NOT_REACHED = {
     "uffs: unmounted": "a word mounts before it asks",
     "uffs: line {line}: unmounted": "the restart that was refused before is told",
     "uffs: lost checkpoint": "want of memory for the name",
+    "uffs: dropped checkpoint": "want of memory for the name",
     "uffs: lost path": "want of memory for the path",
     "it cannot be read": "a look at the name tells more",
     "out of memory": "told as ENOMEM 25",

@@ -213,7 +213,7 @@ def output_fails(program, folder):
     """Where the output fails that is told, by each word that prints."""
     begin(program, folder)
     image = os.path.join(folder, "image")
-    for words in (["tar", image], ["tree", image], ["get", image, "/x/y", "-"], ["diff", image, "@1"], ["map", image], ["log", image], ["run", image]):
+    for words in (["tar", image], ["tree", image], ["get", image, "/x/y", "-"], ["diff", image, "@1"], ["map", image], ["log", image], ["du", image], ["run", image]):
         done = watched(program, words, "write ] 1 1 EIO", b"ls /\n")
         want(done.told(), (1, b"", b"uffs: output\n"), words[0])
 
@@ -225,7 +225,7 @@ def reading_writes_nothing(program, folder):
     words = [["get", image, "/x/y", "-"], ["put", image, os.path.join(folder, "source"), "/old"], ["to-part", image, os.path.join(folder, "p")]]
     for word in ([it, image] for it in ("check", "log", "df", "tree", "tar", "versions", "map")):
         words.append(word)
-    for word in [*words[3:], words[0], ["cat", image, "/x/y"], ["diff", image, "@1"], ["update", image, image]]:
+    for word in [*words[3:], words[0], ["cat", image, "/x/y"], ["diff", image, "@1"], ["update", image, image], ["ls", image, "/x"], ["history", image, "/x/y"], ["du", image, "/x"]]:
         calls = run(program, word).calls
         holds(any(call.name == "open" and call.path == image for call in calls), f"{word[0]}: it does not open the image")
         for call in calls:

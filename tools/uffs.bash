@@ -1,7 +1,7 @@
 # What bash completes after `uffs`. Written by tools/write_manual.py from the texts of the help.
 _uffs() {
     local word="${COMP_WORDS[COMP_CWORD]}"
-    local words="cat check checkpoint copy create df diff explain forget format from-part from-raw get goto help history log ls map memory put raw redo rmcheckpoint rollback run serve tar to-part tree trim undo untar update version versions"
+    local words="cat check checkpoint copy create df diff du explain forget format from-part from-raw get goto help history log ls map memory put raw redo rmcheckpoint rollback run serve tar to-part tree trim undo untar update version versions"
     if [ "$COMP_CWORD" -eq 1 ]; then
         COMPREPLY=($(compgen -W "$words --help --version" -- "$word"))
         return

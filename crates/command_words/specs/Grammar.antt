@@ -80,6 +80,9 @@ tree_app = with_rule (image_app (codes "tree")) (optional_rule (codes "VIEW"))
 abbrev pub ls_app : App
 ls_app = with_rule (with_rule (image_app (codes "ls")) (optional_rule (codes "PATH"))) (optional_rule (codes "VIEW"))
 
+abbrev pub du_app : App
+du_app = with_rule (with_rule (image_app (codes "du")) (optional_rule (codes "PATH"))) (optional_rule (codes "VIEW"))
+
 abbrev pub history_app : App
 history_app = with_rule (image_app (codes "history")) (word_rule (codes "PATH"))
 
@@ -176,8 +179,8 @@ with_history_apps app = with_subcommand (with_subcommand (with_checkpoint_apps (
 
 -- a program with the subcommands more that read what stands in an image
 abbrev pub with_reading_apps : App → App
-with_reading_apps app = with_subcommand (with_subcommand (with_subcommand (with_subcommand (with_subcommand (with_subcommand app
-    get_app.top) cat_app.top) tree_app.top) ls_app.top) history_app.top) diff_app.top
+with_reading_apps app = with_subcommand (with_subcommand (with_subcommand (with_subcommand (with_subcommand (with_subcommand (with_subcommand app
+    get_app.top) cat_app.top) tree_app.top) ls_app.top) du_app.top) history_app.top) diff_app.top
 
 -- a program with the subcommands more that tell of an image as a whole
 abbrev pub with_image_apps : App → App

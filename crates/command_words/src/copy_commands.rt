@@ -10,9 +10,10 @@ versions; where the present one is older than these it is kept, and one fewer of
 told on standard error. Serials ascend as in OLD, and are others. NEW is written whole
 or not at all: as NEW.new, which is renamed. An image that is there is replaced. Nothing is printed, and
 nothing is written to OLD. With --salvage OLD may be DAMAGED: the versions and checkpoints whose trees
-are whole are copied, and each lost one is told on standard error. Where the present version is lost it
-is the newest whole one before it, else the oldest after it, and each file and each directory that it has
-lost is told, and each directory of which it has lost entries whose names nobody knows.
+are whole are copied, and each lost one is told on standard error. Where the present version is lost what
+is left of its tree is one version more, the last and the present one. Each file and each directory that it
+has lost is told, and each directory of which it has lost entries whose names nobody knows. Where no version
+is whole it is the only one, and each checkpoint is told, which is not copied.
 
 Status: 0 it is written; 1 OLD cannot be read, NEW cannot be written, or memory; 2 the words; 3 OLD
 holds no image, its mount was refused, or the sizes or H are, with their refusal; 4 it is too much for

@@ -19,7 +19,7 @@ use crate::image_commands::{
 use crate::part_commands::{FROM_PART_COMMAND, TO_PART_COMMAND};
 use crate::raw_commands::{FROM_RAW_COMMAND, RAW_COMMAND};
 use crate::reading_commands::{
-    CAT_COMMAND, DIFF_COMMAND, GET_COMMAND, HISTORY_COMMAND, LS_COMMAND, TREE_COMMAND,
+    CAT_COMMAND, DIFF_COMMAND, DU_COMMAND, GET_COMMAND, HISTORY_COMMAND, LS_COMMAND, TREE_COMMAND,
 };
 use crate::subcommand::{Subcommand, with_subcommands};
 use crate::update_commands::UPDATE_COMMAND;
@@ -58,11 +58,12 @@ static HISTORY_COMMANDS: [Subcommand; 8] = [
 ];
 
 /// The subcommands that read what stands in an image, or tell of it as a whole.
-static READING_COMMANDS: [Subcommand; 11] = [
+static READING_COMMANDS: [Subcommand; 12] = [
     GET_COMMAND,
     CAT_COMMAND,
     TREE_COMMAND,
     LS_COMMAND,
+    DU_COMMAND,
     HISTORY_COMMAND,
     DIFF_COMMAND,
     VERSIONS_COMMAND,

@@ -103,6 +103,34 @@ pub(crate) const LS_COMMAND: Subcommand = Subcommand {
     ],
 };
 
+const DU_HELP: &str =
+    "Prints a line for each entry of the directory at PATH, or for the file there: how many blocks it reaches,
+each counted once, how many of these are not bad and are reached by no version and no checkpoint but the
+one of VIEW, and its path. The entry with most blocks comes first, and those with as many are in byte order
+of their names. The last line has both numbers of all together, each block counted once and those of the
+directory itself too, and total. Without PATH it is the root. PATH begins with a slash, and VIEW with @ or =,
+so either may stand alone; they are as of get. Nothing is written to IMAGE.
+
+Status: 0 it is printed; 1 IMAGE cannot be read, the output failed, or memory; 2 the words; 3 IMAGE
+holds no image, or its mount was refused; 4 it was refused, told as uffs: ENOENT 1.
+
+Example: uffs du disk.image /site
+         uffs du disk.image @5";
+
+pub(crate) const DU_COMMAND: Subcommand = Subcommand {
+    name: "du",
+    about: "Prints how many blocks what stands in a directory takes",
+    help: DU_HELP,
+    arguments: &[
+        IMAGE_WORD,
+        Argument::OptionalWord {
+            name: PATH,
+            help: "The path of the directory or the file in the image",
+        },
+        VIEW_WORD,
+    ],
+};
+
 const HISTORY_HELP: &str =
     "Prints what stands at PATH in the first kept version, in each in which something else stands there than
 in the version before, and in each checkpoint: the serial, with * before the present version, or = and the

@@ -39,6 +39,7 @@ abbrev pub reading_task_named : Text → Option Task
 reading_task_named name = if bytes_eq name (codes "cat") then Some Task.Cat
     else if bytes_eq name (codes "tree") then Some Task.Tree
     else if bytes_eq name (codes "ls") then Some Task.List
+    else if bytes_eq name (codes "du") then Some Task.Usage
     else if bytes_eq name (codes "history") then Some Task.PathHistory
     else if bytes_eq name (codes "diff") then Some Task.Diff
     else if bytes_eq name (codes "versions") then Some Task.Versions

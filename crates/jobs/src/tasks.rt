@@ -42,6 +42,8 @@ pub enum Task {
     Tree,
     /// The entries of a directory of an image are told, or a file.
     List,
+    /// How many blocks the entries of a directory of an image take is told, or a file.
+    Usage,
     /// What stood at a path of an image in its versions and checkpoints is told.
     PathHistory,
     /// What differs between two trees of an image is told.

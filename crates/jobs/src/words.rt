@@ -267,6 +267,7 @@ fn reading_task_named(name: &str) -> Option<Task>
         "cat" => Some(Task::Cat),
         "tree" => Some(Task::Tree),
         "ls" => Some(Task::List),
+        "du" => Some(Task::Usage),
         "history" => Some(Task::PathHistory),
         "diff" => Some(Task::Diff),
         "versions" => Some(Task::Versions),

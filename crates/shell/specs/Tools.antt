@@ -13,7 +13,7 @@ use Rattle.jobs.specs.declared.tasks.Job.{Job}
 use Rattle.jobs.specs.declared.tasks.Task.{Task}
 use Rattle.inquiries.specs.declared.inquiry.Inquiry.{Inquiry}
 use Rattle.shell.specs.Explained.{ExplainEnds, HelpEnds, PrintEnds, version_line}
-use Rattle.inquiry_jobs.specs.Asking.{file_spelled, tree_spelled, list_spelled, path_history_spelled, differences_spelled}
+use Rattle.inquiry_jobs.specs.Asking.{file_spelled, tree_spelled, list_spelled, place_spelled, path_history_spelled, differences_spelled}
 use Rattle.flash_image.specs.Images.{image_of, IsFresh}
 use Rattle.flash_model.specs.Device.{Device}
 use Rattle.image_jobs.specs.Failures.{of_image, of_script, job_status, status_of}
@@ -28,6 +28,7 @@ use Rattle.host_files.specs.Streams.{Written}
 use Rattle.history_jobs.specs.Histories.{HistoryEnds, RunsUnprinted, history_spelled, trim_script}
 use Rattle.history_jobs.specs.Replies.{RepliesEnd}
 use Rattle.map_jobs.specs.Mapping.{MapEnds, MapPageEnds}
+use Rattle.usage_jobs.specs.Usages.{UsageEnds}
 use Rattle.part_jobs.specs.Making.{FormatPartEnds, ToPartEnds, FromPartEnds}
 use Rattle.part_jobs.specs.Serving.{ServePartEnds, of_session}
 use Rattle.raw_jobs.specs.Making.{RawEnds, FromRawEnds}
@@ -212,6 +213,7 @@ EndsOn job name known before result after = elim (job.command) as (λ task. Type
   | Task.Cat ↦ TellEnds (file_spelled (word_given job.path) job.view) (before.files name) result before.out after.out × OnlyPrints before after
   | Task.Tree ↦ TellEnds (tree_spelled job.view) (before.files name) result before.out after.out × OnlyPrints before after
   | Task.List ↦ TellEnds (list_spelled job.path job.view) (before.files name) result before.out after.out × OnlyPrints before after
+  | Task.Usage ↦ UsageEnds (place_spelled job.path job.view) (before.files name) result before.out after.out × OnlyPrints before after
   | Task.PathHistory ↦ TellEnds (path_history_spelled (word_given job.path)) (before.files name) result before.out after.out × OnlyPrints before after
   | Task.Diff ↦ DiffEnds job.exit_code (differences_spelled job.view job.other) (before.files name) result before.out after.out × OnlyPrints before after
   | Task.LastChange ↦ LastChangeEnds job.exit_code (before.files name) result before.out after.out × OnlyPrints before after

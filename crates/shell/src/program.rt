@@ -35,6 +35,7 @@ use script_runs::run_in_memory;
 use std::alloc::Global;
 use std::io::{Read, Write};
 use update_jobs::tell_update;
+use usage_jobs::tell_usages;
 
 /// Carries out the words that follow the program's name, and answers the status.
 ///
@@ -172,6 +173,7 @@ fn do_task<F: Folders + Sources + Channels + Parts, R: Read, W: Write, E: Write>
         Task::Cat => tell_file(files, alloc, name, word_given(job.path), job.view, out),
         Task::Tree => tell_tree(files, alloc, name, job.view, out),
         Task::List => tell_list(files, alloc, name, job.path, job.view, out),
+        Task::Usage => tell_usages(files, alloc, name, job.path, job.view, out),
         Task::PathHistory => tell_path_history(files, alloc, name, word_given(job.path), out),
         Task::Diff => {
             let exit_code = job.exit_code;

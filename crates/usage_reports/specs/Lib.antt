@@ -1,0 +1,2 @@
+pub mod OtherRoots
+pub mod Reports

@@ -1,5 +1,6 @@
 pub mod BatchLemmas
 pub mod FlashLemmas
+pub mod GivesLemmas
 pub mod GroupLemmas
 pub mod InputLemmas
 pub mod MirrorLemmas

@@ -1,6 +1,6 @@
 -- Events of a put, one after the other, and what comes of them.
-use Rattle.std.proofs.Common.{◌≡◌, ◌<◌, ◌+◌, ◌≤◌, ℕ, List, [], ◌∷◌, ◌++◌, take, drop, map, length, get_or, Option, Some, None, Result, Ok, Err, Bool, true, false, if◌then◌else◌, IfSome, IfOk, IfErr, OnOk, ◌⊎◌, inl, inr, refl, sym, ap, ◌∙◌, subst, append_assoc, append-nil, take_all, take-append-drop}
-use Rattle.std.specs.List.{flat_map, Contains}
+use Rattle.std.proofs.Common.{◌≡◌, ◌<◌, ◌+◌, ◌≤◌, ℕ, List, [], ◌∷◌, ◌++◌, take, drop, map, length, get_or, Option, Some, None, Result, Ok, Err, Bool, true, false, IfSome, IfErr, OnOk, ◌⊎◌, inl, inr, refl, sym, ap, ◌∙◌, subst, append_assoc, take_all, take-append-drop}
+use Rattle.std.specs.List.{Contains}
 use Rattle.std.proofs.lemmas.List.{take_more, map_more, map-append}
 use Rattle.std.proofs.lemmas.List.Elements.{All-push, Contains-push, Contains-append_left}
 use Rattle.history_machine.specs.History.{Past}
@@ -18,11 +18,10 @@ use Rattle.system.specs.declared.systems.System.{System}
 use Rattle.undofs.specs.Runs.{World, Happens, Run}
 use Rattle.undofs.specs.Sessions.{Stands, world}
 use Rattle.undofs.proofs.SessionSteps.{mount_begins, serve_law}
-use Rattle.image_jobs.specs.Failures.{of_refusal}
 use Rattle.host_files.specs.Files.{Held, Readings, readings_of, AreBytesRead, takes_away}
-use Rattle.put_jobs.specs.Puts.{group_start, lot_events, put_events, group_events, group_end, mark_all, clean_all, Trims, is_due, stop_of, GoOn, StopLast, IsThingBy, IsThing, AreThings, Carries, StopsWithin, StopsAtEnd, IsUnput, PutsBy, PutCause, FoundCause, GatherCause}
+use Rattle.put_jobs.specs.Puts.{group_start, group_end, mark_all, clean_all, Trims, is_due, stop_of, GoOn, StopLast, IsThingBy, IsThing, Carries, StopsWithin, StopsAtEnd, IsUnput, PutsBy, PutCause, FoundCause, GatherCause}
 use Rattle.inquiry_jobs.specs.PathWords.{SpellingCause, path_spelled}
-use Rattle.put_jobs.specs.Served.{Place, place, Turns, ServesAll, Halts, ServesPut, PutsReady, PutsNext, PutsEach, PutsGroup, ClosesGroup, IsTrimmed, IsTrimmedWhere, EndsGroup, PutsAll}
+use Rattle.put_jobs.specs.Served.{Place, place, Turns, ServesAll, Halts, ServesPut, ClosesGroup, IsTrimmedWhere, EndsGroup}
 use Rattle.host_files.specs.Sources.{Found, source_found}
 use Rattle.put_jobs.specs.Places.{put_place, way_fault, kind_fault, either_fault, source_fault, Unplaced, AreOthers}
 use Rattle.script_runs.specs.Flashes.{IsDecoded}
@@ -31,15 +30,11 @@ use Rattle.put_removals.specs.declared.kept.Kept.{Kept}
 use Rattle.put_jobs.specs.Mirrors.{AreRemoved, UnlistedBy, PutsOver, OverCause}
 use Rattle.put_jobs.specs.Putting.{SourcesEnd}
 use Rattle.image_jobs.specs.declared.failure.Failure.{Failure}
-use Rattle.put_jobs.specs.declared.put.Mounted.{Mounted}
+use Rattle.put_jobs.specs.declared.putting.Put.{Put}
 use Rattle.script_runs.specs.declared.scripts.Refusal.{Refusal}
 use Rattle.host_files.specs.declared.source.Source.{Source}
 use Rattle.host_files.specs.declared.source.SourceKind.{SourceKind}
-use Rattle.put_lots.specs.Lots.{taken_in, listed}
-use Rattle.put_lots.specs.Things.{thing_events}
-use Rattle.put_lots.specs.declared.lots.Taken.{Taken}
 use Rattle.put_lots.specs.declared.thing.Thing.{Thing}
-use Rattle.put_lots.proofs.Cuts.{IsCut, cut_none, cut_next, cut_events, events_more, events_until}
 use Rattle.image_jobs.proofs.ImageLemmas.{loaded_front, cause_front, cause_unread}
 use Rattle.put_jobs.proofs.FlashLemmas.{puts_as, cause_as, puts_given, cause_given}
 
@@ -85,20 +80,6 @@ asks_halted events i event p q r answer refusal below is passes turns stops =
 
 -- ---- sources
 
-things_more : (readings : Readings) (base : Path) (all : List Found) (things : List Thing) (found : Found) (thing : Thing)
-    → AreThings readings base all things → IsThing readings base found thing → AreThings readings base (all ++ found ∷ []) (things ++ thing ∷ [])
-things_more readings base [] [] found thing h is = (is, tt)
-things_more readings base [] (other ∷ things) found thing h is = absurd h
-things_more readings base (other ∷ all) [] found thing h is = absurd h
-things_more readings base (one ∷ all) (other ∷ things) found thing h is = (h.0, things_more readings base all things found thing h.1 is)
-
--- so many sources were taken in so far: some are put, and the last of them may wait
-abbrev pub HasTaken : Readings → Path → List Found → Option Thing → Place → Place → Type 0
-HasTaken readings base all last p q = (things : List Thing) × (done : List Thing) × AreThings readings base all things × IsCut things done last × ServesAll p (flat_map thing_events done) q
-
-pub none_taken : (readings : Readings) (base : Path) (p : Place) → HasTaken readings base [] None p p
-none_taken readings base p = ([], [], tt, cut_none, refl)
-
 found_more : (sources : List Source) (i : ℕ) (source : Source) → i < length sources → source ≡ get_or sources i source
     → map source_found (take (i + 1) sources) ≡ map source_found (take i sources) ++ source_found source ∷ []
 found_more sources i source below is = map_more source_found sources i source below ∙ ap (λ (x : Source). map source_found (take i sources) ++ source_found x ∷ []) (sym is)
@@ -116,61 +97,6 @@ among sources i source below is =
     subst (λ (x : List Found). Contains x (source_found source)) (sym (parted sources i source below is))
     (Contains-append_left (first ++ source_found source ∷ []) (map source_found (drop (i + 1) sources)) (source_found source) (Contains-push first (source_found source)))
 
-pub puts_next : (readings : Readings) (base : Path) (sources : List Source) (i : ℕ) (source : Source) (last : Option Thing) (next : Thing) (p q r : Place) → i < length sources → source ≡ get_or sources i source
-    → HasTaken readings base (map source_found (take i sources)) last p q → PutsNext readings base (source_found source) last q (Ok next) r → HasTaken readings base (map source_found (take (i + 1) sources)) (Some next) p r
-puts_next readings base sources i source last next p q r below is (things, done, are, cut, passes) (thing, one, waits, more) =
-    let ready : List Thing = listed (taken_in last thing).ready in
-    let all : ServesAll p (flat_map thing_events done ++ flat_map thing_events ready) r = passes_more p q r (flat_map thing_events done) (flat_map thing_events ready) passes more in
-    subst (λ (x : List Found). HasTaken readings base x (Some next) p r) (sym (found_more sources i source below is)) (
-      things ++ thing ∷ [],
-      done ++ ready,
-      things_more readings base (map source_found (take i sources)) things (source_found source) thing are one,
-      subst (λ (x : Thing). IsCut (things ++ thing ∷ []) (done ++ ready) (Some x)) (sym waits) (cut_next things done last thing cut),
-      subst (λ (x : List Event). ServesAll p x r) (sym (events_more done ready)) all,
-    )
-
-pub puts_broken : (readings : Readings) (base : Path) (sources : List Source) (i : ℕ) (source : Source) (last : Option Thing) (p q r : Place) (failure : Failure) → i < length sources → source ≡ get_or sources i source
-    → HasTaken readings base (map source_found (take i sources)) last p q → PutsNext readings base (source_found source) last q (Err failure) r → PutsEach readings base (map source_found sources) p (Err failure) r
-puts_broken readings base sources i source last p q r failure below is h (inl unput) = inr (inl (source_found source, among sources i source below is, unput))
-puts_broken readings base sources i source last p q r failure below is (things, done, are, cut, passes) (inr (thing, one, (made, rest, refusal, at, begins, halts, why))) =
-    let earlier : List Event = flat_map thing_events done in
-    inr (inr (
-      map source_found (take i sources) ++ source_found source ∷ [],
-      map source_found (drop (i + 1) sources),
-      things ++ thing ∷ [],
-      parted sources i source below is,
-      things_more readings base (map source_found (take i sources)) things (source_found source) thing are one,
-      (earlier ++ made, rest ++ thing_events (taken_in last thing).last, refusal, at, events_until things done last thing made rest cut begins, halts_more p q at earlier made refusal passes halts, why),
-    ))
-
--- all were taken in, and what waits is put, or not
-all_taken : (readings : Readings) (base : Path) (all : List Found) (last : Option Thing) (p q r : Place) (result : Result (Unit {0}) Failure) → HasTaken readings base all last p q → PutsReady last q result r → PutsEach readings base all p result r
-all_taken readings base all last p q r (Ok done) (things, put, are, cut, passes) more =
-    (things, are, subst (λ (x : List Event). ServesAll p x r) (sym (cut_events things put last cut)) (passes_more p q r (flat_map thing_events put) (flat_map thing_events (listed last)) passes more))
-all_taken readings base all last p q r (Err failure) h (inl memory) = inl memory
-all_taken readings base all last p q r (Err failure) (things, put, are, cut, passes) (inr (made, rest, refusal, at, begins, halts, why)) =
-    let earlier : List Event = flat_map thing_events put in
-    inr (inr (
-      all,
-      [],
-      things,
-      sym (append-nil all),
-      are,
-      (
-        earlier ++ made,
-        rest,
-        refusal,
-        at,
-        cut_events things put last cut ∙ ap (λ (x : List Event). earlier ++ x) begins ∙ sym (append_assoc earlier made rest),
-        halts_more p q at earlier made refusal passes halts,
-        why,
-      ),
-    ))
-
-pub puts_all : (readings : Readings) (base : Path) (sources : List Source) (i : ℕ) (last : Option Thing) (p q r : Place) (result : Result (Unit {0}) Failure) → length sources ≤ i
-    → HasTaken readings base (map source_found (take i sources)) last p q → PutsReady last q result r → PutsEach readings base (map source_found sources) p result r
-puts_all readings base sources i last p q r result over h ready = subst (λ (x : List Source). PutsEach readings base (map source_found x) p result r) (take_all i sources over) (all_taken readings base (map source_found (take i sources)) last p q r result h ready)
-
 -- ---- the change group
 
 -- it begins, and events are served in it
@@ -182,22 +108,6 @@ served_in p mid q events (Err refusal) begun (made, rest, is, halts) =
 -- it does not
 pub served_without : (p q : Place) (events : List Event) (refusal : Refusal) → ServesPut p group_start (Err refusal) q → ServesPut p (group_start ++ events) (Err refusal) q
 served_without p q events refusal (made, rest, is, halts) = (made, rest ++ events, ap (λ (x : List Event). x ++ events) is ∙ append_assoc made rest events, halts)
-
--- it does not begin, or what is removed first is refused
-pub unbegun : (removed : List Event) (readings : Readings) (base : Path) (all : List Found) (p q : Place) (refusal : Refusal) (failure : Failure) → ServesPut p (group_start ++ removed) (Err refusal) q
-    → failure ≡ of_refusal refusal → PutsGroup removed readings base all p (Err failure) q
-unbegun removed readings base all p q refusal failure (made, rest, begins, halts) why =
-    inr (inr ([], all, [], refl, tt, (made, rest, refusal, q, ap (λ (x : List Event). group_start ++ x) (append-nil removed) ∙ begins, halts, why)))
-
--- it begins, and sources are put in it
-pub grouped : (removed : List Event) (readings : Readings) (base : Path) (all : List Found) (p q r : Place) (result : Result (Unit {0}) Failure) → ServesAll p (group_start ++ removed) q
-    → PutsEach readings base all q result r → PutsGroup removed readings base all p result r
-grouped removed readings base all p q r (Ok done) begun (things, are, passes) = (things, are, passes_more p q r (group_start ++ removed) (lot_events things) begun passes)
-grouped removed readings base all p q r (Err failure) begun (inl memory) = inl memory
-grouped removed readings base all p q r (Err failure) begun (inr (inl cause)) = inr (inl cause)
-grouped removed readings base all p q r (Err failure) begun (inr (inr (first, later, things, parts, are, (made, rest, refusal, at, begins, halts, why)))) =
-    let is : group_events removed things ≡ ((group_start ++ removed) ++ made) ++ rest = ap (λ (x : List Event). (group_start ++ removed) ++ x) begins ∙ sym (append_assoc (group_start ++ removed) made rest) in
-    inr (inr (first, later, things, parts, are, ((group_start ++ removed) ++ made, rest, refusal, at, is, halts_more p q at (group_start ++ removed) made refusal begun halts, why)))
 
 -- it is ended, and then a trim follows, or nothing
 pub ended_trimmed : (p closed q : Place) (due : Bool) → due ≡ is_due p.system → ClosesGroup p (Ok tt) closed → IsTrimmedWhere due closed q → EndsGroup p (Ok tt) q
@@ -241,7 +151,7 @@ stop_last (e ∷ []) (a ∷ []) event answer refusal h is = (h.0, is)
 stop_last (e ∷ []) (a ∷ other ∷ answers) event answer refusal h is = absurd h.1
 stop_last (e ∷ next ∷ events) (a ∷ answers) event answer refusal h is = (h.0, stop_last (next ∷ events) answers event answer refusal h.1 is)
 
-pub put_session : (start mid : SimFlash) (m : System) (inside : Place) (end : Mounted) (events : List Event) → OnlyReads (device_of start) (device_of mid) → IsMountOf (device_of start) (device_of mid) m
+pub put_session : (start mid : SimFlash) (m : System) (inside : Place) (end : Put) (events : List Event) → OnlyReads (device_of start) (device_of mid) → IsMountOf (device_of start) (device_of mid) m
     → IsSystem (device_of mid) m → ServesAll (record { device = device_of mid; system = Some m }) (group_start ++ events) inside → EndsGroup inside (Ok tt) (place end) → Carries start events end.flash
 put_session start mid m inside end events reads begins system passes (closed, ended, trimmed) =
     let first = mount_begins (device_of start) (device_of mid) m reads begins system in
@@ -319,56 +229,6 @@ pub unput_unplaced : (held : Held) (base : Path) (found : Found) (failure : Fail
 unput_unplaced held base found Failure.Memory h = tt
 unput_unplaced held base found (Failure.Source fault) h = inl h
 unput_unplaced held base found failure h = absurd h
-
--- what is ready is put, or an answer ends it
-pub ready_put : (thing : Thing) (events lent : List Event) (p q : Place) → lent ≡ events → events ≡ thing_events thing → ServesPut p lent (Ok tt) q → PutsReady (Some thing) p (Ok tt) q
-ready_put thing events lent p q same are h = subst (λ (x : List Event). ServesAll p x q) (same ∙ are ∙ sym (append-nil (thing_events thing))) h
-
-pub ready_stopped : (thing : Thing) (events lent : List Event) (p q r : Place) (refusal : Refusal) (failure : Failure) → lent ≡ events → events ≡ thing_events thing → ServesPut p lent (Err refusal) q
-    → failure ≡ of_refusal refusal → PutsReady (Some thing) p (Err failure) r
-ready_stopped thing events lent p q r refusal failure same are (made, rest, begins, halts) why =
-    inr (made, rest, refusal, q, append-nil (thing_events thing) ∙ sym (same ∙ are) ∙ begins, halts, why)
-
--- and with it the source that was taken in
-pub next_put : (readings : Readings) (base : Path) (found : Found) (last : Option Thing) (thing next : Thing) (ready : Option Thing) (p q : Place) → IsThing readings base found thing → record { ready = ready; last = next } ≡ taken_in last thing
-    → PutsReady ready p (Ok tt) q → PutsNext readings base found last p (Ok next) q
-next_put readings base found last thing next ready p q is taken h =
-    (thing, is, ap (λ (x : Taken). x.last) taken, subst (λ (x : Taken). ServesAll p (flat_map thing_events (listed x.ready)) q) taken h)
-
-pub next_stopped : (readings : Readings) (base : Path) (found : Found) (last : Option Thing) (thing next : Thing) (ready : Option Thing) (p q : Place) (failure : Failure) → IsThing readings base found thing
-    → record { ready = ready; last = next } ≡ taken_in last thing → PutsReady ready p (Err failure) q → PutsNext readings base found last p (Err failure) q
-next_stopped readings base found last thing next ready p q failure is taken (inl memory) = inl (subst (IsUnput readings.held base found) (sym memory) tt)
-next_stopped readings base found last thing next ready p q failure is taken (inr (made, rest, refusal, at, begins, halts, why)) =
-    inr (thing, is, (made, rest, refusal, at, subst (λ (x : Taken). flat_map thing_events (listed x.ready) ≡ made ++ rest) taken begins, halts, why))
-
--- ---- on what is mounted
-
-pub all_put : (IsThere : SimFlash → Type 0) (removed : List Event) (readings : Readings) (base : Path) (all : List Found) (start mid : SimFlash) (m : System) (end : Mounted) → IsThere start
-    → OnlyReads (device_of start) (device_of mid) → IsMountOf (device_of start) (device_of mid) m → IsSystem (device_of mid) m
-    → PutsAll removed readings base all (record { device = device_of mid; system = Some m }) (Ok tt) (place end) → PutsBy IsThere removed readings base all start end.flash
-all_put IsThere removed readings base all start mid m end there reads begins system (inside, (things, are, passes), ended) =
-    (things, there, are, put_session start mid m inside end (put_events removed things) reads begins system passes ended)
-
-pub not_put : (IsThere : SimFlash → Type 0) (Cause : Failure → Type 0) (removed : List Event) (readings : Readings) (base : Path) (all : List Found) (start mid : SimFlash) (m : System) (q : Place) (failure : Failure) → IsThere start
-    → OnlyReads (device_of start) (device_of mid) → IsMountOf (device_of start) (device_of mid) m → IsSystem (device_of mid) m
-    → PutsAll removed readings base all (record { device = device_of mid; system = Some m }) (Err failure) q → PutCause IsThere Cause removed readings base all failure
-not_put IsThere Cause removed readings base all start mid m q failure there reads begins system (inl (inl memory)) = inr (inl memory)
-not_put IsThere Cause removed readings base all start mid m q failure there reads begins system (inl (inr (inl cause))) = inr (inr (inl cause))
-not_put IsThere Cause removed readings base all start mid m q failure there reads begins system (inl (inr (inr (first, later, things, parts, are, (made, rest, refusal, at, is, halts, why))))) =
-    inr (inr (inr (inr (start, first, later, things, refusal, there, parts, are, inl (stopped_session start mid m at (put_events removed things) made rest refusal reads begins system is halts), why))))
-not_put IsThere Cause removed readings base all start mid m q failure there reads begins system (inr (inside, refusal, (things, are, passes), ended, why)) =
-    inr (inr (inr (inr (start, all, [], things, refusal, there, sym (append-nil all), are, inr (unended_session start mid m inside q (put_events removed things) refusal reads begins system passes ended), why))))
-
--- what is removed first is known
-pub over_done : (IsThere : SimFlash → Type 0) (readings : Readings) (base : Path) (kept : Option (List Kept)) (all : List Found) (removed lent : List Event) (result : Result SimFlash Failure) → lent ≡ removed
-    → AreRemoved IsThere base kept removed → IfOk result (λ end. (start : SimFlash) × PutsBy IsThere lent readings base all start end) → IfOk result (λ end. (start : SimFlash) × PutsOver IsThere readings base kept all start end)
-over_done IsThere readings base kept all removed lent (Ok end) same are (start, puts) = (start, (lent, subst (AreRemoved IsThere base kept) (sym same) are, puts))
-over_done IsThere readings base kept all removed lent (Err failure) same are puts = tt
-
-pub over_undone : (IsThere : SimFlash → Type 0) (Cause : Failure → Type 0) (readings : Readings) (base : Path) (kept : Option (List Kept)) (all : List Found) (removed lent : List Event) (result : Result SimFlash Failure) → lent ≡ removed
-    → AreRemoved IsThere base kept removed → IfErr result (PutCause IsThere Cause lent readings base all) → IfErr result (OverCause IsThere Cause readings base kept all)
-over_undone IsThere Cause readings base kept all removed lent (Ok end) same are cause = tt
-over_undone IsThere Cause readings base kept all removed lent (Err failure) same are cause = inr (lent, subst (AreRemoved IsThere base kept) (sym same) are, cause)
 
 -- ---- the image
 

@@ -1,5 +1,5 @@
 -- Events that are carried out in one change group, on the flash of an image.
-use Rattle.std.specs.Prelude.{◌≡◌, ◌⊎◌, ℕ, Result, Ok, Err, List, ◌++◌}
+use Rattle.std.specs.Prelude.{◌≡◌, ◌⊎◌, ℕ, Result, Ok, Err, List}
 use Rattle.fs_types.specs.declared.event.Event.{Event}
 use Rattle.flash_simulation.specs.Simulation.{device_of}
 use Rattle.flash_simulation.specs.declared.sim_flash.SimFlash.{SimFlash}
@@ -9,14 +9,7 @@ use Rattle.image_jobs.specs.Images.{IsSpelledFlash, IsUnclaimed, LoadCause, Save
 use Rattle.image_jobs.specs.declared.failure.Failure.{Failure}
 use Rattle.host_files.specs.Files.{Held}
 use Rattle.script_runs.specs.declared.scripts.Refusal.{Refusal}
-use Rattle.put_jobs.specs.Puts.{group_start, Carries, Breaks, UnmountedBy}
-use Rattle.put_jobs.specs.Served.{Place, Halts, ServesAll, EndsGroup, HaltsAmong}
-
--- how events in one change group are served, which is ended: none ends the put; or it does not begin, or one of them does, or the end
-abbrev pub CarriesGroup : Place → List Event → Result (Unit {0}) Refusal → Place → Type 0
-CarriesGroup p events (Ok done) q = (inside : Place) × ServesAll p (group_start ++ events) inside × EndsGroup inside (Ok tt) q
-CarriesGroup p events (Err refusal) q = ((made : List Event) × (rest : List Event) × (group_start ++ events ≡ made ++ rest) × Halts p made refusal q)
-    ⊎ ((inside : Place) × ServesAll p (group_start ++ events) inside × EndsGroup inside (Err refusal) q)
+use Rattle.put_jobs.specs.Puts.{Carries, Breaks, UnmountedBy}
 
 -- events are carried out, on a flash that is found so, which gives the flash as it is left
 abbrev pub WritesBy : (SimFlash → Type 0) → List Event → SimFlash → SimFlash → Type 0
@@ -35,13 +28,3 @@ EventsEnd name IsClaimed events held saved (Ok done) = (start : SimFlash) × (en
 EventsEnd name IsClaimed events held saved (Err failure) = ((IsUnclaimed failure ⊎ WriteCause (IsSpelledFlash (held name)) (LoadCause (held name)) events failure) × (saved ≡ held))
     ⊎ ((start : SimFlash) × (end : SimFlash) × IsClaimed (image_of (device_of start)) × WritesBy (IsSpelledFlash (held name)) events start end
     × ChangeUnsaved name held saved (image_of (device_of start)) (image_of (device_of end)) failure)
-
--- how events are served: none ends the put; or one of them does, or memory was wanted
-abbrev pub PutsLots : List Event → Place → Result (Unit {0}) Failure → Place → Type 0
-PutsLots events p (Ok done) q = ServesAll p events q
-PutsLots events p (Err failure) q = (failure ≡ Failure.Memory) ⊎ HaltsAmong p events failure
-
--- how they are in one change group, which is ended
-abbrev pub PutsLotGroup : List Event → Place → Result (Unit {0}) Failure → Place → Type 0
-PutsLotGroup events p (Ok done) q = CarriesGroup p events (Ok tt) q
-PutsLotGroup events p (Err failure) q = (failure ≡ Failure.Memory) ⊎ ((refusal : Refusal) × (at : Place) × CarriesGroup p events (Err refusal) at × (failure ≡ of_refusal refusal))

@@ -1,5 +1,5 @@
 -- The input, and what is done where it is put into an image as a file.
-use Rattle.std.specs.Prelude.{◌≡◌, ◌⊎◌, ◌≤◌, ◌<◌, ℕ, Option, Result, Ok, Err, List, [], ◌∷◌, ◌++◌, length}
+use Rattle.std.specs.Prelude.{◌≡◌, ◌⊎◌, ◌≤◌, ◌<◌, ℕ, Option, Some, None, Result, Ok, Err, List, [], ◌∷◌, ◌++◌, length}
 use Rattle.std.specs.Io.KnownBytes.{Consumes, IsAtEnd}
 use Rattle.fs_types.specs.Names.{Path}
 use Rattle.fs_types.specs.declared.call.Call.{Call}
@@ -29,6 +29,11 @@ IsUnreadInput most before after _ = ⊥
 -- the event that writes a file
 abbrev pub written : Path → List ℕ → List Event
 written path bytes = Event.Call (Call.WriteFile path bytes) ∷ []
+
+-- the event that is left to write it, until it was given
+abbrev pub writes_left : Path → Option (List ℕ) → List Event
+writes_left path None = []
+writes_left path (Some bytes) = written path bytes
 
 -- nothing is put: the word spells no path, and nothing is read; or it does, and the input is not had whole
 abbrev pub InputCause : List ℕ → Option (List ℕ) → Option (List ℕ) → Failure → Type 0

@@ -1,4 +1,5 @@
 pub mod Batches
+pub mod Gives
 pub mod Groups
 pub mod Inputs
 pub mod Mirrors

@@ -42,9 +42,6 @@ lot_events things = flat_map thing_events (lots_of things)
 abbrev pub put_events : List Event → List Thing → List Event
 put_events removed things = removed ++ lot_events things
 
-abbrev pub group_events : List Event → List Thing → List Event
-group_events removed things = group_start ++ put_events removed things
-
 -- whether a version is due in the group that is open, if one is
 abbrev pub is_due : Option System → Bool
 is_due system = is_some (option_and_then (λ s. due_root s.state.group) system)

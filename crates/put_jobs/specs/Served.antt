@@ -1,7 +1,5 @@
 -- Events of a put that are served one after the other, and how they end.
-use Rattle.std.specs.Prelude.{◌≡◌, ◌⊎◌, ℕ, Bool, true, false, Option, Some, None, Result, Ok, Err, List, [], ◌∷◌, ◌++◌}
-use Rattle.std.specs.List.{flat_map}
-use Rattle.fs_types.specs.Names.{Path}
+use Rattle.std.specs.Prelude.{◌≡◌, ℕ, Bool, true, false, Option, Some, None, Result, Ok, Err, List, [], ◌∷◌, ◌++◌}
 use Rattle.fs_types.specs.declared.call.Call.{Call}
 use Rattle.fs_types.specs.declared.call.Reply.{Reply}
 use Rattle.fs_types.specs.declared.event.Answer.{Answer}
@@ -11,23 +9,18 @@ use Rattle.flash_simulation.specs.Simulation.{device_of}
 use Rattle.system.specs.declared.systems.System.{System}
 use Rattle.undofs.specs.Sessions.{Serves}
 use Rattle.image_jobs.specs.Failures.{of_refusal}
-use Rattle.host_files.specs.Files.{Readings}
-use Rattle.put_jobs.specs.Puts.{stop_of, lot_events, group_events, group_end, mark_all, clean_all, is_due, IsThing, AreThings, IsUnput, SourceCause}
-use Rattle.host_files.specs.Sources.{Found}
+use Rattle.put_jobs.specs.Puts.{stop_of, group_end, mark_all, clean_all, is_due}
 use Rattle.image_jobs.specs.declared.failure.Failure.{Failure}
-use Rattle.put_jobs.specs.declared.put.Mounted.{Mounted}
+use Rattle.put_jobs.specs.declared.putting.Put.{Put}
 use Rattle.script_runs.specs.declared.scripts.Refusal.{Refusal}
-use Rattle.put_lots.specs.Lots.{taken_in, listed}
-use Rattle.put_lots.specs.Things.{thing_events}
-use Rattle.put_lots.specs.declared.thing.Thing.{Thing}
 
 -- a flash, and the system on it, where one is mounted
 pub record Place : Type 0 where
   pub device : Device
   pub system : Option System
 
-abbrev pub place : Mounted → Place
-place m = record { device = device_of m.flash; system = m.system }
+abbrev pub place : Put → Place
+place put = record { device = device_of put.flash; system = put.system }
 
 -- an event is served, and so answered
 abbrev pub Turns : Place → Event → Answer → Place → Type 0
@@ -59,30 +52,10 @@ abbrev pub HaltsAmong : Place → List Event → Failure → Type 0
 HaltsAmong p events failure = (made : List Event) × (rest : List Event) × (refusal : Refusal) × (at : Place)
     × (events ≡ made ++ rest) × Halts p made refusal at × (failure ≡ of_refusal refusal)
 
--- how what is ready is put
-abbrev pub PutsReady : Option Thing → Place → Result (Unit {0}) Failure → Place → Type 0
-PutsReady ready p (Ok done) q = ServesAll p (flat_map thing_events (listed ready)) q
-PutsReady ready p (Err failure) q = (failure ≡ Failure.Memory) ⊎ HaltsAmong p (flat_map thing_events (listed ready)) failure
-
--- how a source is taken in after what waits: what is ready then is put
-abbrev pub PutsNext : Readings → Path → Found → Option Thing → Place → Result Thing Failure → Place → Type 0
-PutsNext readings base found last p (Ok next) q = (thing : Thing) × IsThing readings base found thing × (next ≡ (taken_in last thing).last)
-    × ServesAll p (flat_map thing_events (listed (taken_in last thing).ready)) q
-PutsNext readings base found last p (Err failure) q = IsUnput readings.held base found failure
-    ⊎ ((thing : Thing) × IsThing readings base found thing × HaltsAmong p (flat_map thing_events (listed (taken_in last thing).ready)) failure)
-
--- how sources are put, where these are the events of their things
-abbrev pub PutsThrough : (List Thing → List Event) → Readings → Path → List Found → Place → Result (Unit {0}) Failure → Place → Type 0
-PutsThrough events readings base all p (Ok done) q = (things : List Thing) × AreThings readings base all things × ServesAll p (events things) q
-PutsThrough events readings base all p (Err failure) q = (failure ≡ Failure.Memory) ⊎ (SourceCause readings.held base all failure
-    ⊎ ((first : List Found) × (later : List Found) × (things : List Thing) × (all ≡ first ++ later) × AreThings readings base first things × HaltsAmong p (events things) failure))
-
--- how all sources are put, and how they are in a change group that begins with what is removed first
-abbrev pub PutsEach : Readings → Path → List Found → Place → Result (Unit {0}) Failure → Place → Type 0
-PutsEach = PutsThrough lot_events
-
-abbrev pub PutsGroup : List Event → Readings → Path → List Found → Place → Result (Unit {0}) Failure → Place → Type 0
-PutsGroup removed = PutsThrough (group_events removed)
+-- how events are served that put a thing: none ends the put, or the answer to one of them does
+abbrev pub Asks : List Event → Place → Result (Unit {0}) Failure → Place → Type 0
+Asks events p (Ok done) q = ServesAll p events q
+Asks events p (Err failure) q = HaltsAmong p events failure
 
 -- the group that is open is ended, and synced where a version is due in it
 abbrev pub ClosesGroup : Place → Result (Unit {0}) Refusal → Place → Type 0
@@ -105,12 +78,6 @@ IsTrimmedWhere false p q = q ≡ p
 abbrev pub EndsGroup : Place → Result (Unit {0}) Refusal → Place → Type 0
 EndsGroup p (Ok done) q = (closed : Place) × ClosesGroup p (Ok tt) closed × IsTrimmedWhere (is_due p.system) closed q
 EndsGroup p (Err refusal) q = ClosesGroup p (Err refusal) q
-
--- how all sources are put in one change group, which is ended
-abbrev pub PutsAll : List Event → Readings → Path → List Found → Place → Result (Unit {0}) Failure → Place → Type 0
-PutsAll removed readings base all p (Ok done) q = (inside : Place) × PutsGroup removed readings base all p (Ok tt) inside × EndsGroup inside (Ok tt) q
-PutsAll removed readings base all p (Err failure) q = PutsGroup removed readings base all p (Err failure) q
-    ⊎ ((inside : Place) × (refusal : Refusal) × PutsGroup removed readings base all p (Ok tt) inside × EndsGroup inside (Err refusal) q × (failure ≡ of_refusal refusal))
 
 -- so many blocks are free as `df` tells once the change group that is open is given up, if one is
 abbrev pub FreesTold : Place → Place → ℕ → Type 0

@@ -2,14 +2,18 @@
 #![tactic(auto)]
 
 mod batch;
+mod change_group;
 mod input;
 mod mirror;
 mod place;
 mod put;
 mod put_of_input;
 mod put_of_lots;
+mod putting;
 mod refused;
+mod source_things;
 mod thing;
+mod things;
 mod trim;
 
 pub use batch::{Batch, wants_folder};

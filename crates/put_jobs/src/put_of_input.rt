@@ -1,26 +1,22 @@
 //! The input is put into an image, as a file.
-ghost use Rattle.std.specs.Prelude.{◌≤◌, ℕ, Option, List, vec_len, IfOk, IfErr, IfSome, OnOk};
-ghost use Rattle.flash_simulation.specs.Simulation.{device_of};
-ghost use Rattle.flash_simulation.specs.declared.sim_flash.SimFlash.{SimFlash};
-ghost use Rattle.system.specs.Systems.{IsSystem};
+ghost use Rattle.std.specs.Prelude.{◌≡◌, ◌≤◌, ℕ, Option, Some, List, [], vec_len, length, refl, IfOk, IfErr, OnOk};
 ghost use Rattle.host_files.specs.Files.{KeepsOthers, KeepsOrSyncs, ReadsClaimed};
-ghost use Rattle.image_jobs.specs.Images.{DecodeCause, host_at};
-ghost use Rattle.script_runs.specs.Flashes.{IsDecoded};
-ghost use Rattle.put_jobs.specs.Groups.{CarriesGroup, WritesBy, WriteCause, EventsEnd};
-ghost use Rattle.put_jobs.specs.Inputs.{written, InputEnds, IsWholeInput, IsUnreadInput};
-ghost use Rattle.put_jobs.specs.Served.{place};
+ghost use Rattle.image_jobs.specs.Images.{host_at};
+ghost use Rattle.put_jobs.specs.Gives.{GivesKnown};
+ghost use Rattle.put_jobs.specs.Inputs.{writes_left, InputEnds, IsWholeInput, IsUnreadInput};
 ghost use Rattle.fs_types.specs.declared.limits.TheConstants.{MAX_FILE_BYTES};
 
 use crate::input::read_input;
-use crate::put::{Mounted, begin_group, end_group, told_path};
-use crate::refused::tell_event;
-use flash_model::Flash;
-use flash_simulation::SimFlash;
-use fs_types::{Bytes, Call, Event, MAX_FILE_BYTES, Path};
+use crate::put::told_path;
+use crate::putting::put_into;
+use crate::things::{Things, next_events};
+use flash_model::Geometry;
+use fs_types::{Bytes, Event, MAX_FILE_BYTES, Path};
 use host_files::ImageFiles;
-use image_jobs::{Failure, flash_of, save_changed, take_image};
-use job_messages::tell_fault;
-use script_runs::{Refusal, mount_as_planned};
+use image_jobs::Failure;
+use job_messages::{tell_fault, tell_refused};
+use put_lots::Thing;
+use script_runs::Refusal;
 use std::alloc::Global;
 use std::io::{Read, Write};
 
@@ -46,7 +42,10 @@ pub fn put_input<F: ImageFiles, R: Read, E: Write>(
         Err(failure) => return Err(failure),
     };
     match told_input(alloc, reader, err) {
-        Ok(bytes) => put_bytes(files, alloc, name, base, Bytes::from_vec(bytes), err),
+        Ok(bytes) => {
+            let mut file = InputFile::of(base, Bytes::from_vec(bytes));
+            put_into(files, alloc, name, &mut file, err)
+        }
         Err(failure) => Err(failure),
     }
 }
@@ -77,66 +76,62 @@ fn tell_failed<E: Write>(failure: Failure, err: &mut E) {
     }
 }
 
-/// Puts a file of these bytes into an image, which is claimed first.
-fn put_bytes<F: ImageFiles, E: Write>(
-    files: &mut F,
-    alloc: Global,
-    name: &str,
+/// A file of the bytes of the input.
+#[derive(Drop)]
+pub(crate) struct InputFile {
     path: Path,
-    bytes: Bytes,
-    err: &mut E,
-) -> Result<(), Failure>
-    ensures ends { EventsEnd name.now (ReadsClaimed F.claims F.reads name.now) (written path bytes) (F.held files.old) (F.held files.new) result }
-    ensures synced { OnOk result (KeepsOrSyncs (F.held files.old) (F.held files.new) (F.synced files.new name.now)) }
-    ensures others { KeepsOthers name.now (F.held files.old) (F.held files.new) }
-{
-    let image = match take_image(files, alloc, name) {
-        Ok(image) => image,
-        Err(failure) => return Err(failure),
-    };
-    match write_on(alloc, &image, path, bytes, err) {
-        Ok(flash) => save_changed(files, alloc, name, &image, &flash),
-        Err(failure) => Err(failure),
-    }
+    /// Its bytes, until they are put.
+    bytes: Option<Bytes>,
+    /// How many these are.
+    count: u64,
 }
 
-/// Writes a file of these bytes on the flash that an image spells, and gives the flash as it is left.
-fn write_on<E: Write>(
-    alloc: Global,
-    image: &[u8],
-    path: Path,
-    bytes: Bytes,
-    err: &mut E,
-) -> Result<SimFlash, Failure>
-    ensures ok { IfOk result (λ end. (start : SimFlash) × WritesBy (IsDecoded image.now) (written path bytes) start end) }
-    ensures err { IfErr result (WriteCause (IsDecoded image.now) (DecodeCause image.now) (written path bytes)) }
-{
-    let mut flash = match flash_of(alloc, image) {
-        Ok(flash) => flash,
-        Err(failure) => return Err(failure),
-    };
-    let system = match mount_as_planned(alloc, &mut flash) {
-        Ok(system) => Some(system),
-        Err(fault) => return Err(Failure::of_system(fault)),
-    };
-    let mut mounted = Mounted { flash, system };
-    let events = [Event::Call(Call::WriteFile { path, bytes })];
-    match carry_group(alloc, &mut mounted, &events) {
-        Ok(()) => Ok(mounted.flash),
-        Err(refusal) => {
-            tell_event(alloc, refusal, &events, mounted.flash.geometry(), err);
-            Err(Failure::of_refusal(refusal))
+impl InputFile {
+    /// A file of these bytes at a path.
+    fn of(path: Path, bytes: Bytes) -> InputFile
+        ensures path { result.path ≡ path }
+        ensures bytes { result.bytes ≡ Some bytes }
+    {
+        let count = bytes.as_slice().len() as u64;
+        InputFile {
+            path,
+            bytes: Some(bytes),
+            count,
         }
     }
 }
 
-/// Carries out events in one change group, and brings it to the flash where it makes a version.
-fn carry_group(alloc: Global, mounted: &mut Mounted, events: &[Event]) -> Result<(), Refusal>
-    requires { IfSome mounted.old.system (IsSystem (device_of mounted.old.flash)) }
-    ensures { CarriesGroup (place mounted.old) events.now result (place mounted.new) }
-{
-    match begin_group(alloc, events, mounted) {
-        Ok(()) => end_group(alloc, mounted),
-        Err(refusal) => Err(refusal),
+impl<F: ImageFiles> Things<F> for InputFile {
+    ghost removes = { λ _ _ removed. removed ≡ [] };
+
+    ghost unlisted = { λ _ _ _. ⊥ };
+
+    ghost gives = { λ _ s. GivesKnown (writes_left s.path s.bytes) };
+
+    ghost calls = { λ s. length (writes_left s.path s.bytes) };
+
+    fn removed(&self, alloc: Global, _image: &[u8]) -> Result<Vec<Event>, Failure> {
+        Ok(Vec::new(alloc))
     }
+
+    fn next<E: Write>(
+        &mut self,
+        _files: &F,
+        alloc: Global,
+        _err: &mut E,
+    ) -> Result<Option<Vec<Event>>, Failure> {
+        let Some(bytes) = self.bytes.take() else {
+            return Ok(None);
+        };
+        match self.path.clone() {
+            Ok(path) => next_events(alloc, Some(Thing::File(path, bytes))),
+            Err(_) => Err(Failure::Memory),
+        }
+    }
+
+    fn tell_group<E: Write>(&self, alloc: Global, refusal: Refusal, sizes: Geometry, err: &mut E) {
+        tell_refused(alloc, refusal, &self.path, self.count, sizes, err);
+    }
+
+    ghost none_given = { λ _ s. (writes_left s.path s.bytes, refl) };
 }

@@ -1,24 +1,17 @@
 //! Lots of things that are known, put into an image.
-ghost use Rattle.std.specs.Prelude.{◌≡◌, IfOk, IfErr, IfSome, OnOk};
+ghost use Rattle.std.specs.Prelude.{◌≡◌, [], OnOk, refl, length, reverse};
 ghost use Rattle.std.specs.List.{flat_map};
-ghost use Rattle.flash_simulation.specs.Simulation.{device_of};
-ghost use Rattle.flash_simulation.specs.declared.sim_flash.SimFlash.{SimFlash};
-ghost use Rattle.system.specs.Systems.{IsSystem};
 ghost use Rattle.host_files.specs.Files.{KeepsOthers, KeepsOrSyncs, ReadsClaimed};
-ghost use Rattle.image_jobs.specs.Failures.{of_refusal};
-ghost use Rattle.image_jobs.specs.Images.{DecodeCause};
-ghost use Rattle.script_runs.specs.Flashes.{IsDecoded};
 ghost use Rattle.put_lots.specs.Things.{thing_events};
-ghost use Rattle.put_jobs.specs.Groups.{WritesBy, WriteCause, EventsEnd, PutsLots, PutsLotGroup};
-ghost use Rattle.put_jobs.specs.Served.{place};
+ghost use Rattle.put_jobs.specs.Gives.{GivesKnown};
+ghost use Rattle.put_jobs.specs.Groups.{EventsEnd};
 
-use crate::put::{Mounted, begin_group, end_group, put_ready};
-use flash_simulation::SimFlash;
+use crate::putting::put_into;
+use crate::things::{Things, next_events};
+use fs_types::Event;
 use host_files::ImageFiles;
-use image_jobs::{Failure, flash_of, save_changed, take_image};
-use job_messages::tell_refusal;
+use image_jobs::Failure;
 use put_lots::Thing;
-use script_runs::{Refusal, mount_as_planned};
 use std::alloc::Global;
 use std::io::Write;
 
@@ -35,89 +28,49 @@ pub fn put_lots<F: ImageFiles, E: Write>(
     ensures synced { OnOk result (KeepsOrSyncs (F.held files.old) (F.held files.new) (F.synced files.new name.now)) }
     ensures others { KeepsOthers name.now (F.held files.old) (F.held files.new) }
 {
-    let image = match take_image(files, alloc, name) {
-        Ok(image) => image,
-        Err(failure) => return Err(failure),
-    };
-    match put_lots_on(alloc, &image, lots, err) {
-        Ok(flash) => save_changed(files, alloc, name, &image, &flash),
-        Err(failure) => Err(failure),
+    let mut lots = Lots::of(lots);
+    put_into(files, alloc, name, &mut lots, err)
+}
+
+/// Lots that are put.
+#[derive(Drop)]
+pub(crate) struct Lots {
+    /// The last of them is put first.
+    left: Vec<Thing>,
+}
+
+impl Lots {
+    /// All of these, in order.
+    fn of(lots: Vec<Thing>) -> Lots
+        ensures { reverse result.left.items ≡ lots.items }
+    {
+        let mut left = lots;
+        left.reverse();
+        Lots { left }
     }
 }
 
-/// Puts lots on the flash that an image spells, and gives the flash as it is left.
-fn put_lots_on<E: Write>(
-    alloc: Global,
-    image: &[u8],
-    lots: Vec<Thing>,
-    err: &mut E,
-) -> Result<SimFlash, Failure>
-    ensures ok { IfOk result (λ end. (start : SimFlash) × WritesBy (IsDecoded image.now) (flat_map thing_events lots.items) start end) }
-    ensures err { IfErr result (WriteCause (IsDecoded image.now) (DecodeCause image.now) (flat_map thing_events lots.items)) }
-{
-    let mut flash = match flash_of(alloc, image) {
-        Ok(flash) => flash,
-        Err(failure) => return Err(failure),
-    };
-    let system = match mount_as_planned(alloc, &mut flash) {
-        Ok(system) => Some(system),
-        Err(fault) => return Err(Failure::of_system(fault)),
-    };
-    let mut mounted = Mounted { flash, system };
-    match put_lot_group(alloc, lots, &mut mounted, err) {
-        Ok(()) => Ok(mounted.flash),
-        Err(failure) => Err(failure),
-    }
-}
+impl<F: ImageFiles> Things<F> for Lots {
+    ghost removes = { λ _ _ removed. removed ≡ [] };
 
-/// Puts lots in one change group, and brings it to the flash where it makes a version.
-fn put_lot_group<E: Write>(
-    alloc: Global,
-    lots: Vec<Thing>,
-    mounted: &mut Mounted,
-    err: &mut E,
-) -> Result<(), Failure>
-    requires { IfSome mounted.old.system (IsSystem (device_of mounted.old.flash)) }
-    ensures { PutsLotGroup (flat_map thing_events lots.items) (place mounted.old) result (place mounted.new) }
-{
-    match begin_group(alloc, &[], mounted) {
-        Ok(()) => {}
-        Err(refusal) => return Err(refused(refusal, err)),
-    }
-    match put_each_lot(alloc, lots, mounted, err) {
-        Ok(()) => {}
-        Err(failure) => return Err(failure),
-    }
-    match end_group(alloc, mounted) {
-        Ok(()) => Ok(()),
-        Err(refusal) => Err(refused(refusal, err)),
-    }
-}
+    ghost unlisted = { λ _ _ _. ⊥ };
 
-/// Tells that the beginning of a change group or its end is refused.
-fn refused<E: Write>(refusal: Refusal, err: &mut E) -> Failure
-    ensures { result ≡ of_refusal refusal }
-{
-    tell_refusal(refusal, "", err);
-    Failure::of_refusal(refusal)
-}
+    ghost gives = { λ _ s. GivesKnown (flat_map thing_events (reverse s.left.items)) };
 
-/// Puts lots, in order. What is refused is told.
-fn put_each_lot<E: Write>(
-    alloc: Global,
-    lots: Vec<Thing>,
-    mounted: &mut Mounted,
-    err: &mut E,
-) -> Result<(), Failure>
-    requires { IfSome mounted.old.system (IsSystem (device_of mounted.old.flash)) }
-    ensures mounted { IfSome mounted.new.system (IsSystem (device_of mounted.new.flash)) }
-    ensures ends { PutsLots (flat_map thing_events lots.items) (place mounted.old) result (place mounted.new) }
-{
-    for lot in lots {
-        match put_ready(alloc, Some(lot), mounted, err) {
-            Ok(()) => {}
-            Err(failure) => return Err(failure),
-        }
+    ghost calls = { λ s. length s.left.items };
+
+    fn removed(&self, alloc: Global, _image: &[u8]) -> Result<Vec<Event>, Failure> {
+        Ok(Vec::new(alloc))
     }
-    Ok(())
+
+    fn next<E: Write>(
+        &mut self,
+        _files: &F,
+        alloc: Global,
+        _err: &mut E,
+    ) -> Result<Option<Vec<Event>>, Failure> {
+        next_events(alloc, self.left.pop())
+    }
+
+    ghost none_given = { λ _ s. (flat_map thing_events (reverse s.left.items), refl) };
 }

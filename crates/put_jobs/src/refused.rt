@@ -4,12 +4,10 @@ ghost use Rattle.flash_simulation.specs.Simulation.{device_of};
 ghost use Rattle.system.specs.Systems.{IsSystem};
 ghost use Rattle.put_jobs.specs.Served.{place, FreesTold};
 
-use crate::put::{Mounted, ask_all};
+use crate::putting::Put;
 use flash_model::{Flash, Geometry};
 use fs_types::{Answer, Bytes, Call, Event, Fault, MAX_NAMES, NamedFile, Path, Reply, View};
-use host_files::Source;
 use image_jobs::Failure;
-use image_sizes::tree_blocks;
 use job_messages::{tell_refusal, tell_refused};
 use put_lots::{Thing, events_of};
 use script_runs::Refusal;
@@ -18,26 +16,20 @@ use std::io::Write;
 use undofs::serve;
 
 /// Tells what is refused of the events that put a thing, on the flash that they left, which is given up then.
-pub(crate) fn tell_stopped<E: Write>(
-    alloc: Global,
-    refusal: Refusal,
-    events: &[Event],
-    mounted: &mut Mounted,
-    err: &mut E,
-)
-    requires { IfSome mounted.old.system (IsSystem (device_of mounted.old.flash)) }
-    ensures { IfSome mounted.new.system (IsSystem (device_of mounted.new.flash)) }
+pub(crate) fn tell_stopped<E: Write>(refusal: Refusal, events: &[Event], put: &mut Put, err: &mut E)
+    requires { IfSome put.old.system (IsSystem (device_of put.old.flash)) }
+    ensures { IfSome put.new.system (IsSystem (device_of put.new.flash)) }
 {
     match events {
         [Event::Call(Call::WriteFiles { directory, files })] => {
-            tell_lot(alloc, refusal, directory, files.as_slice(), mounted, err);
+            tell_lot(refusal, directory, files.as_slice(), put, err);
         }
-        _ => tell_event(alloc, refusal, events, mounted.flash.geometry(), err),
+        _ => tell_event(put.alloc, refusal, events, put.flash.geometry(), err),
     }
 }
 
 /// Tells that the first of some events is refused, with its path where it makes a directory or writes a file.
-pub(crate) fn tell_event<E: Write>(
+fn tell_event<E: Write>(
     alloc: Global,
     refusal: Refusal,
     events: &[Event],
@@ -59,76 +51,73 @@ pub(crate) fn tell_event<E: Write>(
 /// Tells which file of a lot is refused: the first that is refused so where they are put one after the other.
 /// Where none is, the directory is told.
 fn tell_lot<E: Write>(
-    alloc: Global,
     refusal: Refusal,
     directory: &Path,
     files: &[NamedFile],
-    mounted: &mut Mounted,
+    put: &mut Put,
     err: &mut E,
 )
-    requires { IfSome mounted.old.system (IsSystem (device_of mounted.old.flash)) }
-    ensures { IfSome mounted.new.system (IsSystem (device_of mounted.new.flash)) }
+    requires { IfSome put.old.system (IsSystem (device_of put.old.flash)) }
+    ensures { IfSome put.new.system (IsSystem (device_of put.new.flash)) }
 {
-    let sizes = mounted.flash.geometry();
+    let sizes = put.flash.geometry();
     for file in files {
-        if let Ok(Some(path)) = refused_alone(alloc, refusal, directory, file, mounted) {
+        if let Ok(Some(path)) = refused_alone(refusal, directory, file, put) {
             let count = file.bytes.as_slice().len() as u64;
-            tell_refused(alloc, refusal, &path, count, sizes, err);
+            tell_refused(put.alloc, refusal, &path, count, sizes, err);
             return;
         }
     }
-    tell_refused(alloc, refusal, directory, 0, sizes, err);
+    tell_refused(put.alloc, refusal, directory, 0, sizes, err);
 }
 
 /// The path of a file of a directory, where it is refused so by itself.
 fn refused_alone(
-    alloc: Global,
     refusal: Refusal,
     directory: &Path,
     file: &NamedFile,
-    mounted: &mut Mounted,
+    put: &mut Put,
 ) -> Result<Option<Path>, AllocError>
-    requires { IfSome mounted.old.system (IsSystem (device_of mounted.old.flash)) }
-    ensures { IfSome mounted.new.system (IsSystem (device_of mounted.new.flash)) }
+    requires { IfSome put.old.system (IsSystem (device_of put.old.flash)) }
+    ensures { IfSome put.new.system (IsSystem (device_of put.new.flash)) }
 {
     if directory.names().len() >= MAX_NAMES {
         return Ok(None);
     }
     let path = file.path_in(directory)?;
-    let bytes = Bytes::from_slice(alloc, file.bytes.as_slice())?;
-    let events = events_of(alloc, Thing::File(path.clone()?, bytes))?;
-    match ask_all(alloc, mounted, &events) {
+    let bytes = Bytes::from_slice(put.alloc, file.bytes.as_slice())?;
+    let events = events_of(put.alloc, Thing::File(path.clone()?, bytes))?;
+    match put.ask_all(&events) {
         Err(found) if found == refusal => Ok(Some(path)),
         _ => Ok(None),
     }
 }
 
-/// Tells that the beginning of a change group is refused, or one of the events that remove something in it: the
-/// first of them is told of which what it removes still stands.
+/// Tells which event is refused of those that remove something at the beginning of a change group: the first
+/// of which what it removes still stands. Answers whether one does.
 pub(crate) fn tell_unremoved<E: Write>(
-    alloc: Global,
     refusal: Refusal,
     removed: &[Event],
-    mounted: &mut Mounted,
+    put: &mut Put,
     err: &mut E,
-)
-    requires { IfSome mounted.old.system (IsSystem (device_of mounted.old.flash)) }
-    ensures { IfSome mounted.new.system (IsSystem (device_of mounted.new.flash)) }
+) -> bool
+    requires { IfSome put.old.system (IsSystem (device_of put.old.flash)) }
+    ensures { IfSome put.new.system (IsSystem (device_of put.new.flash)) }
 {
-    let sizes = mounted.flash.geometry();
+    let sizes = put.flash.geometry();
     for event in removed {
-        if let Some(path) = path_left(alloc, event, mounted) {
-            tell_refused(alloc, refusal, path, 0, sizes, err);
-            return;
+        if let Some(path) = path_left(event, put) {
+            tell_refused(put.alloc, refusal, path, 0, sizes, err);
+            return true;
         }
     }
-    tell_refusal(refusal, "", err);
+    false
 }
 
 /// The path of an event that removes something, where that still stands.
-fn path_left<'a>(alloc: Global, event: &'a Event, mounted: &mut Mounted) -> Option<&'a Path>
-    requires { IfSome mounted.old.system (IsSystem (device_of mounted.old.flash)) }
-    ensures { IfSome mounted.new.system (IsSystem (device_of mounted.new.flash)) }
+fn path_left<'a>(event: &'a Event, put: &mut Put) -> Option<&'a Path>
+    requires { IfSome put.old.system (IsSystem (device_of put.old.flash)) }
+    ensures { IfSome put.new.system (IsSystem (device_of put.new.flash)) }
 {
     let path = removed_path(event)?;
     let call = Call::Stat {
@@ -136,9 +125,9 @@ fn path_left<'a>(alloc: Global, event: &'a Event, mounted: &mut Mounted) -> Opti
         path: path.clone().ok()?,
     };
     match serve(
-        alloc,
-        &mut mounted.flash,
-        &mut mounted.system,
+        put.alloc,
+        &mut put.flash,
+        &mut put.system,
         &Event::Call(call),
     ) {
         Answer::Refused(Fault::NoEntry) | Answer::Refused(Fault::NotDirectory) => None,
@@ -154,25 +143,19 @@ fn removed_path(event: &Event) -> Option<&Path> {
     }
 }
 
-/// Tells how many blocks are free without what is put of these sources, and how many that wants with the
-/// directories on its way, where the flash is full. The change group that is open is given up.
-pub(crate) fn tell_room<E: Write>(
-    alloc: Global,
-    failure: Failure,
-    base: &Path,
-    sources: &[Source],
-    mounted: &mut Mounted,
-    err: &mut E,
-)
-    requires { IfSome mounted.old.system (IsSystem (device_of mounted.old.flash)) }
-    ensures { IfSome mounted.new.system (IsSystem (device_of mounted.new.flash)) }
+/// Tells how many blocks are free without what is put, and how many that wants, where the flash is full and that
+/// is known. The change group that is open is given up then.
+pub(crate) fn tell_room<E: Write>(failure: Failure, wanted: Option<u64>, put: &mut Put, err: &mut E)
+    requires { IfSome put.old.system (IsSystem (device_of put.old.flash)) }
+    ensures { IfSome put.new.system (IsSystem (device_of put.new.flash)) }
 {
+    let Some(wanted) = wanted else {
+        return;
+    };
     if failure != Failure::Refused(Refusal::Fault(Fault::FlashFull)) {
         return;
     }
-    let tree = tree_blocks(mounted.flash.geometry(), sources);
-    let wanted = tree.saturating_add(base.names().len() as u64);
-    if let Some(free) = free_without_group(alloc, mounted) {
+    if let Some(free) = free_without_group(put) {
         let _ = writeln!(
             err,
             "uffs: {free} blocks are free, and the put wants {wanted}"
@@ -181,15 +164,15 @@ pub(crate) fn tell_room<E: Write>(
 }
 
 /// How many blocks are free once the change group that is open is given up, where that is told.
-fn free_without_group(alloc: Global, mounted: &mut Mounted) -> Option<u64>
-    requires { IfSome mounted.old.system (IsSystem (device_of mounted.old.flash)) }
-    ensures mounted { IfSome mounted.new.system (IsSystem (device_of mounted.new.flash)) }
-    ensures told { IfSome result (FreesTold (place mounted.old) (place mounted.new)) }
+fn free_without_group(put: &mut Put) -> Option<u64>
+    requires { IfSome put.old.system (IsSystem (device_of put.old.flash)) }
+    ensures mounted { IfSome put.new.system (IsSystem (device_of put.new.flash)) }
+    ensures told { IfSome result (FreesTold (place put.old) (place put.new)) }
 {
     let give_up = Event::Call(Call::Abandon);
     let count = Event::Call(Call::Df);
-    let _left = serve(alloc, &mut mounted.flash, &mut mounted.system, &give_up);
-    match serve(alloc, &mut mounted.flash, &mut mounted.system, &count) {
+    let _left = serve(put.alloc, &mut put.flash, &mut put.system, &give_up);
+    match serve(put.alloc, &mut put.flash, &mut put.system, &count) {
         Answer::Done(Reply::Df { free, .. }) => Some(free),
         _ => None,
     }

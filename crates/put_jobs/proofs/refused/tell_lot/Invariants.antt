@@ -4,4 +4,4 @@ use Rattle.system.specs.Systems.{IsSystem}
 use Rattle.put_jobs.proofs.refused.tell_lot.Given as goal
 
 abbrev pub invariant-loop-file : goal.invariant-loop-file
-invariant-loop-file g l = IfSome l.mounted.system (IsSystem (device_of l.mounted.flash))
+invariant-loop-file g l = IfSome l.put.system (IsSystem (device_of l.put.flash))

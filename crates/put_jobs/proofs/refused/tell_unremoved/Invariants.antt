@@ -4,4 +4,4 @@ use Rattle.system.specs.Systems.{IsSystem}
 use Rattle.put_jobs.proofs.refused.tell_unremoved.Given as goal
 
 abbrev pub invariant-loop-event : goal.invariant-loop-event
-invariant-loop-event g l = IfSome l.mounted.system (IsSystem (device_of l.mounted.flash))
+invariant-loop-event g l = IfSome l.put.system (IsSystem (device_of l.put.flash))

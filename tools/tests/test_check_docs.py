@@ -12,7 +12,7 @@ EDITS = len(glob.glob(f"{TOP}/crates/*/must-fail/*.edit") + glob.glob(f"{TOP}/cr
 FAULTS = {
     "an example that is not run": ("README.md", "ls /                        entries 1 old/", "ls /                        entries 2 old/", "not run"),
     "a figure that the gate does not have": ("README.md", "| 2099 | 133 |", "| 2098 | 133 |", "README.md"),
-    "a sum that the gate does not have": ("README.md", "in 18,974 runs", "in 18,975 runs", "not as the gate has it"),
+    "a sum that the gate does not have": ("README.md", "in 19,692 runs", "in 19,693 runs", "not as the gate has it"),
     "another version": ("CHANGELOG.md", "## 0.1.0", "## 0.1.1", "not as the gate has it"),
     "a count beside littlefs": ("docs/speed.md", "| 8 | 3.06 |", "| 8 | 3.05 |", "not as the counts come to"),
     "a count of long functions": ("CONTRIBUTING.md", "functions have 40 lines", "functions have 41 lines", "not as the gate has it"),

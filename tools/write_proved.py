@@ -50,17 +50,18 @@ def libraries():
 
 
 def comments():
-    """The comment of each definition of specs/, by its name."""
-    told = {}
-    for path in glob.glob(f"{TOP}/crates/*/specs/**/*.antt", recursive=True):
-        above = []
+    """The comment of each definition of specs/, by its crate and its name; by no crate the first one of that name."""
+    told = {"": {}}
+    for path in sorted(glob.glob(f"{TOP}/crates/*/specs/**/*.antt", recursive=True)):
+        above, crate = [], os.path.relpath(path, f"{TOP}/crates").split(os.sep)[0]
         for line in read(path).splitlines():
             if line.startswith("-- "):
                 above.append(line[3:].strip())
                 continue
             found = DEFINITION.match(line)
             if found and above:
-                told.setdefault(found.group(1) or found.group(2), " ".join(above))
+                for owner in ("", crate):
+                    told.setdefault(owner, {}).setdefault(found.group(1) or found.group(2), " ".join(above))
             above = []
     return told
 
@@ -178,7 +179,7 @@ def section(name, told):
     for path in sorted(glob.glob(f"{TOP}/crates/{name}/src/**/*.rt", recursive=True)):
         for function in list(functions_in(path, names)):
             if function.groups or function.bare:
-                lines += function.text(told)
+                lines += function.text({**told[""], **told.get(name, {})})
     about = said([it for it in root.splitlines() if it.startswith("//!")], "//!")
     return [f"## `{name}`", about, "", *lines, ""] if lines else []
 

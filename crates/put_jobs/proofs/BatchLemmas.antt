@@ -8,7 +8,7 @@ use Rattle.host_files.specs.Files.{Held}
 use Rattle.host_files.specs.Sources.{Found, source_found}
 use Rattle.host_files.specs.declared.source.Source.{Source}
 use Rattle.image_jobs.specs.declared.failure.Failure.{Failure}
-use Rattle.put_removals.specs.declared.kept.Kept.{Kept}
+use Rattle.put_lots.specs.declared.kept.Kept.{Kept}
 use Rattle.put_jobs.specs.Batches.{IsBatch, kept_in}
 use Rattle.put_jobs.specs.Mirrors.{wants_folder, kept_asked}
 use Rattle.put_jobs.specs.Places.{AreOthers}

@@ -26,7 +26,7 @@ use Rattle.put_lots.specs.Lots.{taken_in, listed, lots_from}
 use Rattle.put_lots.specs.Things.{thing_events}
 use Rattle.put_lots.specs.declared.lots.Taken.{Taken}
 use Rattle.put_lots.specs.declared.thing.Thing.{Thing}
-use Rattle.put_removals.specs.declared.kept.Kept.{Kept}
+use Rattle.put_lots.specs.declared.kept.Kept.{Kept}
 use Rattle.put_jobs.specs.Batches.{kept_in}
 use Rattle.put_jobs.specs.Gives.{Ending, whole, broken, begun, GivesNext, GivesKnown, GivesSources, PutsAfter, PutsGroup, PutsOn, UnputOn, PutsIn, UnputIn, IsTaken, ThingsEnd}
 use Rattle.put_jobs.specs.Groups.{WriteCause, EventsEnd}

@@ -7,7 +7,7 @@ use Rattle.std.proofs.lemmas.Grind.{reverse_onto}
 use Rattle.fs_types.specs.Names.{Path}
 use Rattle.fs_types.specs.declared.event.Event.{Event}
 use Rattle.inquiries.specs.declared.items.Item.{Item}
-use Rattle.put_removals.specs.declared.kept.Kept.{Kept}
+use Rattle.put_lots.specs.declared.kept.Kept.{Kept}
 use Rattle.put_jobs.specs.Mirrors.{removal_of, removals}
 
 -- so many of the last items are gone through

@@ -26,7 +26,7 @@ use Rattle.host_files.specs.Sources.{Found, source_found}
 use Rattle.put_jobs.specs.Places.{put_place, way_fault, kind_fault, either_fault, source_fault, Unplaced, AreOthers}
 use Rattle.script_runs.specs.Flashes.{IsDecoded}
 use Rattle.image_jobs.specs.Images.{DecodeCause, IsUnclaimed, IsUnread, IsSpelledFlash, LoadCause, SavesChange, ChangeUnsaved}
-use Rattle.put_removals.specs.declared.kept.Kept.{Kept}
+use Rattle.put_lots.specs.declared.kept.Kept.{Kept}
 use Rattle.put_jobs.specs.Mirrors.{AreRemoved, UnlistedBy, PutsOver, OverCause}
 use Rattle.put_jobs.specs.Putting.{SourcesEnd}
 use Rattle.image_jobs.specs.declared.failure.Failure.{Failure}

@@ -2,7 +2,7 @@
 use Rattle.std.specs.Prelude.{◌≡◌, Bool, false, Option, List, map, option_map, vec_items}
 use Rattle.fs_types.specs.Names.{Path}
 use Rattle.host_files.specs.Sources.{Found, source_found}
-use Rattle.put_removals.specs.declared.kept.Kept.{Kept}
+use Rattle.put_lots.specs.declared.kept.Kept.{Kept}
 use Rattle.put_jobs.specs.Mirrors.{wants_folder, kept_asked}
 use Rattle.put_jobs.specs.Puts.{is_no_folder, left_in}
 use Rattle.put_jobs.specs.declared.batch.Batch.{Batch}

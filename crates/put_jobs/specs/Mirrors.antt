@@ -11,8 +11,8 @@ use Rattle.inquiries.specs.Asked.{Lists}
 use Rattle.inquiries.specs.declared.inquiry.Inquiry.{Inquiry}
 use Rattle.inquiries.specs.declared.items.Item.{Item}
 use Rattle.image_jobs.specs.declared.failure.Failure.{Failure}
-use Rattle.put_removals.specs.Removals.{is_removed, kept_found, removal}
-use Rattle.put_removals.specs.declared.kept.Kept.{Kept}
+use Rattle.put_lots.specs.Removals.{is_removed, kept_found, removal}
+use Rattle.put_lots.specs.declared.kept.Kept.{Kept}
 use Rattle.host_files.specs.Files.{Readings}
 use Rattle.inquiry_jobs.specs.Asking.{UntoldBy}
 use Rattle.put_jobs.specs.Puts.{PutsBy, PutCause}

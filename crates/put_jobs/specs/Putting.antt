@@ -8,7 +8,7 @@ use Rattle.image_jobs.specs.Images.{IsSpelledFlash, LoadCause, IsUnclaimed, Save
 use Rattle.host_files.specs.Files.{Held, readings_of}
 use Rattle.put_jobs.specs.Mirrors.{wants_folder, kept_asked, PutsOver, OverCause}
 use Rattle.put_jobs.specs.Puts.{IsAsked, GatherCause, is_no_folder, left_in}
-use Rattle.put_removals.specs.declared.kept.Kept.{Kept}
+use Rattle.put_lots.specs.declared.kept.Kept.{Kept}
 use Rattle.host_files.specs.Sources.{Found}
 use Rattle.put_jobs.specs.Places.{AreOthers}
 use Rattle.image_jobs.specs.declared.failure.Failure.{Failure}

@@ -11,7 +11,7 @@ use fs_types::Path;
 use host_files::{Source, SourceKind};
 use image_jobs::Failure;
 use job_messages::tell_left_out;
-use put_removals::{Kept, kept_of};
+use put_lots::{Kept, kept_of};
 use std::alloc::{AllocError, Global};
 use std::io::Write;
 

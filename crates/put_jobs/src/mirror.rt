@@ -13,7 +13,7 @@ use fs_types::{Event, Path};
 use image_jobs::{Failure, flash_of};
 use inquiries::Item;
 use inquiry_jobs::{list_as_planned, of_ask};
-use put_removals::{Kept, is_removed, removal};
+use put_lots::{Kept, is_removed, removal};
 use std::alloc::{AllocError, Global};
 
 /// The events that remove what stands below the path in the image that bytes spell and is not left there,

@@ -13,8 +13,8 @@ use Rattle.inquiries.specs.declared.items.Item.{Item}
 use Rattle.put_lots.specs.Lots.{lots_of}
 use Rattle.put_lots.specs.Things.{thing_events}
 use Rattle.put_lots.specs.declared.thing.Thing.{Thing}
-use Rattle.put_removals.specs.Removals.{is_removed, removal}
-use Rattle.put_removals.specs.declared.kept.Kept.{Kept}
+use Rattle.put_lots.specs.Removals.{is_removed, removal}
+use Rattle.put_lots.specs.declared.kept.Kept.{Kept}
 use Rattle.put_jobs.specs.Inputs.{written}
 use Rattle.put_jobs.specs.Mirrors.{AreRemoved, removal_of, removals}
 use Rattle.put_jobs.specs.Puts.{lot_events}

@@ -17,7 +17,7 @@ use Rattle.script_runs.specs.Flashes.{IsMade}
 use Rattle.image_jobs.specs.Images.{IsSpelledFlash}
 use Rattle.inquiries.specs.declared.items.Item.{Item}
 use Rattle.put_lots.specs.declared.thing.Thing.{Thing}
-use Rattle.put_removals.specs.declared.kept.Kept.{Kept}
+use Rattle.put_lots.specs.declared.kept.Kept.{Kept}
 use Rattle.put_jobs.specs.Groups.{WritesBy}
 use Rattle.put_jobs.specs.Inputs.{written}
 use Rattle.put_jobs.specs.Mirrors.{removals, PutsOver}

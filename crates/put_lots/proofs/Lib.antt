@@ -1,2 +1,3 @@
 pub mod Cuts
 pub mod Last
+pub mod KeptSources

@@ -1,2 +1,3 @@
 pub mod Lots
 pub mod Things
+pub mod Removals

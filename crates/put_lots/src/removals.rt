@@ -1,7 +1,7 @@
 //! What is removed, and how.
 ghost use Rattle.std.specs.Prelude.{◌≡◌, IfOk};
 ghost use Rattle.std.specs.List.{list_any};
-ghost use Rattle.put_removals.specs.Removals as spec;
+ghost use Rattle.put_lots.specs.Removals as spec;
 
 use crate::kept::Kept;
 use fs_types::{Call, Event, Name, Path, Stat};

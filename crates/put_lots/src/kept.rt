@@ -2,7 +2,7 @@
 ghost use Rattle.std.specs.Prelude.{◌≡◌, ◌++◌, map, IfOk, OnOk};
 ghost use Rattle.std.specs.List.{flat_map};
 ghost use Rattle.host_files.specs.Sources.{source_found};
-ghost use Rattle.put_removals.specs.Removals.{kept_found};
+ghost use Rattle.put_lots.specs.Removals.{kept_found};
 
 use fs_types::{Fault, Name, Path, Stat};
 use host_files::{Source, SourceKind};
@@ -19,7 +19,7 @@ pub struct Kept {
 
 impl Kept {
     ghost use Rattle.std.specs.Prelude.{◌≡◌};
-    ghost use Rattle.put_removals.specs.Removals.{accounts_for};
+    ghost use Rattle.put_lots.specs.Removals.{accounts_for};
 
     /// Whether it accounts for what stands in the image at these names from the path down: a folder for a
     /// directory, a file for a file, and a link, which is left out, for all at it and below it.

@@ -8,7 +8,7 @@ use Rattle.fs_types.specs.declared.event.Event.{Event}
 use Rattle.fs_types.specs.declared.fault.Fault.{Fault}
 use Rattle.host_files.specs.Sources.{Found}
 use Rattle.host_files.specs.declared.source.SourceKind.{SourceKind}
-use Rattle.put_removals.specs.declared.kept.Kept.{Kept}
+use Rattle.put_lots.specs.declared.kept.Kept.{Kept}
 
 -- what a source accounts for; nothing where its way is no path
 abbrev pub kept_by : Option Fault → Found → List Kept

@@ -5,8 +5,8 @@ use Rattle.std.proofs.lemmas.List.{map_more}
 use Rattle.std.proofs.lemmas.List.Concat.{flat_map-append}
 use Rattle.host_files.specs.Sources.{Found, source_found}
 use Rattle.host_files.specs.declared.source.Source.{Source}
-use Rattle.put_removals.specs.Removals.{kept_found}
-use Rattle.put_removals.specs.declared.kept.Kept.{Kept}
+use Rattle.put_lots.specs.Removals.{kept_found}
+use Rattle.put_lots.specs.declared.kept.Kept.{Kept}
 
 pub kept_more : (sources : List Source) (i : ℕ) (source : Source) (kept more : List Kept) → i < length sources → source ≡ get_or sources i source → kept ≡ flat_map kept_found (map source_found (take i sources))
     → more ≡ kept ++ kept_found (source_found source) → more ≡ flat_map kept_found (map source_found (take (i + 1) sources))

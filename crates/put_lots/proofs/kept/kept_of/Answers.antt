@@ -1,5 +1,5 @@
-use Rattle.put_removals.proofs.KeptSources.{kept_more, kept_all}
-use Rattle.put_removals.proofs.kept.kept_of.Goals as goal
+use Rattle.put_lots.proofs.KeptSources.{kept_more, kept_all}
+use Rattle.put_lots.proofs.kept.kept_of.Goals as goal
 
 pub loop-source-preserved : goal.loop-source-preserved
 loop-source-preserved c =

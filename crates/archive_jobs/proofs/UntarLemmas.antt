@@ -12,10 +12,10 @@ use Rattle.put_jobs.specs.Inputs.{IsWholeInput, IsUnreadInput}
 use Rattle.put_jobs.specs.Puts.{lot_events}
 use Rattle.put_lots.specs.Things.{thing_events}
 use Rattle.put_lots.specs.declared.thing.Thing.{Thing}
-use Rattle.tar_jobs.specs.Wholes.{entries_read}
-use Rattle.tar_jobs.specs.declared.archive_entry.ArchiveEntry.{ArchiveEntry}
-use Rattle.archive_things.specs.Things.{things_below}
-use Rattle.tar_jobs.specs.declared.step.ArchiveFault.{ArchiveFault}
+use Rattle.archives.specs.Wholes.{entries_read}
+use Rattle.archives.specs.declared.archive_entry.ArchiveEntry.{ArchiveEntry}
+use Rattle.archives.specs.Things.{things_below}
+use Rattle.archives.specs.declared.step.ArchiveFault.{ArchiveFault}
 use Rattle.archive_jobs.specs.Untars.{of_input, of_fault, IsUnreadArchive, IsUnputArchive, ArePut, too_deep}
 use Rattle.archive_jobs.specs.declared.putting.TheConstants.{MAX_ARCHIVE_BYTES}
 

@@ -13,10 +13,10 @@ use Rattle.put_jobs.specs.Puts.{lot_events}
 use Rattle.put_lots.specs.Lots.{lots_of}
 use Rattle.put_lots.specs.declared.thing.Thing.{Thing}
 use Rattle.tar_format.specs.declared.header_fault.HeaderFault.{HeaderFault}
-use Rattle.tar_jobs.specs.Wholes.{entries_read}
-use Rattle.tar_jobs.specs.declared.archive_entry.ArchiveEntry.{ArchiveEntry}
-use Rattle.tar_jobs.specs.declared.step.ArchiveFault.{ArchiveFault}
-use Rattle.archive_things.specs.Things.{fits, things_below}
+use Rattle.archives.specs.Wholes.{entries_read}
+use Rattle.archives.specs.declared.archive_entry.ArchiveEntry.{ArchiveEntry}
+use Rattle.archives.specs.declared.step.ArchiveFault.{ArchiveFault}
+use Rattle.archives.specs.Things.{fits, things_below}
 use Rattle.archive_jobs.specs.declared.putting.TheConstants.{MAX_ARCHIVE_BYTES}
 
 -- the typeflags of a hard link and of a symbolic one

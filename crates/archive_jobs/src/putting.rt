@@ -4,11 +4,11 @@ ghost use Rattle.host_files.specs.Files.{KeepsOthers, KeepsOrSyncs, ReadsClaimed
 ghost use Rattle.image_jobs.specs.Images.{host_at};
 ghost use Rattle.put_jobs.specs.Inputs.{IsWholeInput};
 ghost use Rattle.put_lots.specs.Lots.{lots_of};
-ghost use Rattle.archive_things.specs.Things.{fits, things_below};
+ghost use Rattle.archives.specs.Things.{fits, things_below};
 ghost use Rattle.archive_jobs.specs.Untars.{of_fault, of_input, is_link, AreLots, ArePut, IsUnplaced, IsUnreadArchive, IsUnputArchive, UntarEnds};
 
 use crate::telling::{tell_left_out, tell_too_deep, tell_unread};
-use archive_things::{lots_of, things_below, too_deep};
+use archives::{ArchiveEntry, ArchiveFault, lots_of, read_archive, things_below, too_deep};
 use fs_types::{Fault, Path};
 use host_files::ImageFiles;
 use image_jobs::{Failure, SourceFault};
@@ -17,7 +17,6 @@ use put_lots::Thing;
 use std::alloc::{AllocError, Global};
 use std::io::{Read, Write};
 use tar_format::HeaderFault;
-use tar_jobs::{ArchiveEntry, ArchiveFault, read_archive};
 
 /// The most bytes of an archive that is put into an image.
 pub const MAX_ARCHIVE_BYTES: usize = 268_435_456;

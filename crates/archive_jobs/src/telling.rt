@@ -1,4 +1,5 @@
 //! What is told of an archive on standard error.
+use archives::{ArchiveFault, UnreadArchive};
 use flash_model::Geometry;
 use fs_types::{Bytes, Fault, Path};
 use image_jobs::SourceFault;
@@ -8,7 +9,6 @@ use script_runs::Refusal;
 use std::alloc::{AllocError, Global};
 use std::io::Write;
 use tar_format::HeaderFault;
-use tar_jobs::{ArchiveFault, UnreadArchive};
 use tree_archives::{Interruption, Unarchived, Unwritten};
 
 /// Tells why the archive of an image is not written to its end, where that is a refusal.

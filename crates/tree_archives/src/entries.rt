@@ -9,11 +9,11 @@ ghost use Rattle.inquiries.specs.Items.{IsFileOf, IsItemOf};
 ghost use Rattle.inquiries.specs.Readings.{shown, IsUnchanged, Meets};
 ghost use Rattle.tree_archives.specs.Entries.{entry_of};
 
+use archives::{ArchiveEntry, Contents};
 use flash_model::Flash;
 use fs_types::{Bytes, Fault, Path, Stat, View};
 use inquiries::{Item, read_file};
 use std::alloc::Global;
-use tar_jobs::{ArchiveEntry, Contents};
 use undofs::Fs;
 
 /// What stands at a path of a view, a file with its bytes. An empty file is not looked up.

@@ -1,6 +1,6 @@
 use Rattle.std.proofs.Common.{◌∙◌, inr, sym, ap, subst}
 use Rattle.std.proofs.lemmas.Result.{IfOk-weaker, IfErr-weaker}
-use Rattle.tar_jobs.specs.Wholes.{entries_read}
+use Rattle.archives.specs.Wholes.{entries_read}
 use Rattle.archive_jobs.specs.Untars.{IsUnputArchive}
 use Rattle.archive_jobs.proofs.UntarLemmas.{unput_fault}
 use Rattle.archive_jobs.proofs.putting.lots_of_archive.Goals as goal

@@ -1,7 +1,7 @@
 use Rattle.std.proofs.Common.{◌≡◌, ◌∙◌, true, inr, refl, sym, ap, subst, List}
 use Rattle.std.specs.Prelude.{All, option_copied}
-use Rattle.tar_jobs.specs.declared.archive_entry.ArchiveEntry.{ArchiveEntry}
-use Rattle.archive_things.specs.Things.{fits}
+use Rattle.archives.specs.declared.archive_entry.ArchiveEntry.{ArchiveEntry}
+use Rattle.archives.specs.Things.{fits}
 use Rattle.archive_jobs.specs.Untars.{too_deep}
 use Rattle.archive_jobs.proofs.UntarLemmas.{all_fit}
 use Rattle.archive_jobs.proofs.putting.lots_of_entries.Goals as goal

@@ -9,8 +9,8 @@ use Rattle.inquiries.specs.Items.{IsItemOf}
 use Rattle.inquiries.specs.Readings.{shown}
 use Rattle.inquiries.proofs.DifferenceLemmas.{items_there}
 use Rattle.inquiries.proofs.Readings.{unchanged-trans, meets-later}
-use Rattle.tar_jobs.specs.Archives.{archive_of}
-use Rattle.tar_jobs.specs.declared.archive_entry.ArchiveEntry.{ArchiveEntry}
+use Rattle.archives.specs.Archives.{archive_of}
+use Rattle.archives.specs.declared.archive_entry.ArchiveEntry.{ArchiveEntry}
 use Rattle.tree_archives.specs.Entries.{tree_entries}
 use Rattle.tree_archives.specs.Interruptions.{Interrupts}
 use Rattle.tree_archives.proofs.ArchiveLemmas.{archive_there, same_entries}

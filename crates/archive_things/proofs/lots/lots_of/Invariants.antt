@@ -1,5 +1,0 @@
-use Rattle.archive_things.proofs.LotLemmas.{HasTaken}
-use Rattle.archive_things.proofs.lots.lots_of.Given as goal
-
-abbrev pub invariant-loop-thing : goal.invariant-loop-thing
-invariant-loop-thing l = HasTaken l.yielded l.lots.items l.last

@@ -9,9 +9,9 @@ use Rattle.flash_simulation.specs.declared.sim_flash.SimFlash.{SimFlash}
 use Rattle.image_jobs.specs.Images.{IsSpelledFlash}
 use Rattle.image_jobs.specs.declared.failure.Failure.{Failure}
 use Rattle.inquiry_jobs.specs.Asking.{view_spelled}
-use Rattle.tree_archives.specs.Archiving.{IsArchived, UnwrittenCause}
-use Rattle.tree_archives.specs.declared.interruption.Interruption.{Interruption}
-use Rattle.tree_archives.specs.declared.unwritten.Unwritten.{Unwritten}
+use Rattle.archive_jobs.specs.Archiving.{IsArchived, UnwrittenCause}
+use Rattle.archive_jobs.specs.declared.interruption.Interruption.{Interruption}
+use Rattle.archive_jobs.specs.declared.unwritten.Unwritten.{Unwritten}
 use Rattle.archive_jobs.specs.Tars.{TarEnds, of_unwritten}
 
 module _ (seen : Option (Bor (List ℕ))) (held : Option (List ℕ)) (view : View) (flash : SimFlash) (spelled : view_spelled seen ≡ Ok view) (there : IsSpelledFlash held flash) (old new : Option (List ℕ)) where

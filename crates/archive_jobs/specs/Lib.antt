@@ -1,2 +1,5 @@
 pub mod Tars
 pub mod Untars
+pub mod Entries
+pub mod Interruptions
+pub mod Archiving

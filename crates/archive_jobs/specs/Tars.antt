@@ -12,10 +12,10 @@ use Rattle.image_jobs.specs.Failures.{of_system, of_refusal}
 use Rattle.image_jobs.specs.Images.{IsSpelledFlash, LoadCause}
 use Rattle.image_jobs.specs.declared.failure.Failure.{Failure}
 use Rattle.inquiry_jobs.specs.Asking.{view_spelled, IsMisspelled}
-use Rattle.tree_archives.specs.Archiving.{ArchiveCause, IsArchived, IsCutShort}
-use Rattle.tree_archives.specs.declared.interruption.Interruption.{Interruption}
-use Rattle.tree_archives.specs.declared.unarchived.Unarchived.{Unarchived}
-use Rattle.tree_archives.specs.declared.unwritten.Unwritten.{Unwritten}
+use Rattle.archive_jobs.specs.Archiving.{ArchiveCause, IsArchived, IsCutShort}
+use Rattle.archive_jobs.specs.declared.interruption.Interruption.{Interruption}
+use Rattle.archive_jobs.specs.declared.unarchived.Unarchived.{Unarchived}
+use Rattle.archive_jobs.specs.declared.unwritten.Unwritten.{Unwritten}
 
 -- by why there is no archive: a path without room is one that is too long
 abbrev pub of_unarchived : Unarchived → Failure

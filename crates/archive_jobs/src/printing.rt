@@ -3,7 +3,11 @@ ghost use Rattle.std.specs.Prelude.{◌≡◌, Ok, IfOk, IfErr};
 ghost use Rattle.inquiry_jobs.specs.Asking.{view_spelled, IsMisspelled};
 ghost use Rattle.archive_jobs.specs.Tars.{of_unarchived, of_unwritten, TarEnds};
 
+use crate::archiving::write_archive;
+use crate::interruption::Interruption;
 use crate::telling::tell_unwritten;
+use crate::unarchived::Unarchived;
+use crate::unwritten::Unwritten;
 use flash_model::Flash;
 use fs_types::{Fault, View};
 use host_files::ImageFiles;
@@ -13,7 +17,6 @@ use job_messages::tell_refusal;
 use script_runs::Refusal;
 use std::alloc::Global;
 use std::io::Write;
-use tree_archives::{Interruption, Unarchived, Unwritten, write_archive};
 
 /// Writes the archive of all that stands in a view of an image, an entry at a time. What is refused is told.
 /// Nothing is written where there is no archive; what is met later leaves a first part of it.

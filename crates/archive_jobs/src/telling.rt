@@ -1,4 +1,7 @@
 //! What is told of an archive on standard error.
+use crate::interruption::Interruption;
+use crate::unarchived::Unarchived;
+use crate::unwritten::Unwritten;
 use archives::{ArchiveFault, UnreadArchive};
 use flash_model::Geometry;
 use fs_types::{Bytes, Fault, Path};
@@ -9,7 +12,6 @@ use script_runs::Refusal;
 use std::alloc::{AllocError, Global};
 use std::io::Write;
 use tar_format::HeaderFault;
-use tree_archives::{Interruption, Unarchived, Unwritten};
 
 /// Tells why the archive of an image is not written to its end, where that is a refusal.
 pub(crate) fn tell_unwritten<E: Write>(

@@ -1,4 +1,0 @@
-pub mod EntryLemmas
-pub mod RoomLemmas
-pub mod WriteLemmas
-pub mod ArchiveLemmas

@@ -2,8 +2,8 @@
 use Rattle.std.proofs.Common.{◌≡◌, ◌∙◌, ℕ, Bool, true, false, Option, Result, List, refl, ap, subst}
 use Rattle.host_files.specs.Files.{Held}
 use Rattle.host_files.specs.Folders.{Made}
-use Rattle.folder_jobs.specs.Gets.{GetEnds}
-use Rattle.folder_jobs.proofs.GetLemmas.{got_by}
+use Rattle.image_words.specs.ImageGets.{GetEnds}
+use Rattle.image_words.proofs.GetLemmas.{got_by}
 use Rattle.image_jobs.specs.Images.{host_at}
 use Rattle.image_jobs.specs.declared.failure.Failure.{Failure}
 use Rattle.inquiry_jobs.specs.Asking.{file_spelled}

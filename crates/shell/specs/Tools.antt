@@ -25,14 +25,14 @@ use Rattle.put_jobs.specs.Mirrors.{wants_folder}
 use Rattle.script_runs.specs.Scripts.{Streams}
 use Rattle.host_files.specs.Sources.{Found, Gathered}
 use Rattle.host_files.specs.Streams.{Written}
-use Rattle.history_jobs.specs.Histories.{HistoryEnds, RunsUnprinted, history_spelled, trim_script}
-use Rattle.history_jobs.specs.Replies.{RepliesEnd}
-use Rattle.map_jobs.specs.Mapping.{MapEnds, MapPageEnds}
-use Rattle.usage_jobs.specs.Usages.{UsageEnds}
-use Rattle.part_jobs.specs.Making.{FormatPartEnds, ToPartEnds, FromPartEnds}
-use Rattle.part_jobs.specs.Serving.{ServePartEnds, of_session}
-use Rattle.raw_jobs.specs.Making.{RawEnds, FromRawEnds}
-use Rattle.raw_jobs.specs.declared.taking.RawSizes.{RawSizes}
+use Rattle.image_words.specs.Histories.{HistoryEnds, RunsUnprinted, history_spelled, trim_script}
+use Rattle.image_words.specs.ScriptReplies.{RepliesEnd}
+use Rattle.image_words.specs.Maps.{MapEnds, MapPageEnds}
+use Rattle.image_words.specs.ImageUsages.{UsageEnds}
+use Rattle.image_words.specs.PartFiles.{FormatPartEnds, ToPartEnds, FromPartEnds}
+use Rattle.image_words.specs.PartServing.{ServePartEnds, of_session}
+use Rattle.image_words.specs.RawImages.{RawEnds, FromRawEnds}
+use Rattle.image_words.specs.declared.raw_sizes.RawSizes.{RawSizes}
 use Rattle.image_jobs.specs.declared.failure.Failure.{Failure}
 use Rattle.script_runs.specs.declared.scripts.ScriptFault.{ScriptFault}
 use Rattle.told_flash.specs.declared.start.StartFault.{StartFault}
@@ -41,13 +41,13 @@ use Rattle.told_sessions.specs.Sessions.{SessionEnds}
 use Rattle.told_sessions.specs.declared.session_fault.SessionFault.{SessionFault}
 use Rattle.inquiry_jobs.specs.LastChanges.{LastChangeEnds}
 use Rattle.inquiry_jobs.specs.Tellings.{TellEnds, DiffEnds}
-use Rattle.update_jobs.specs.Updated.{UpdateEnds, manner_asked}
-use Rattle.folder_jobs.specs.Gets.{GetEnds}
+use Rattle.image_words.specs.ImageUpdates.{UpdateEnds, manner_asked}
+use Rattle.image_words.specs.ImageGets.{GetEnds}
 use Rattle.put_jobs.specs.Putting.{PutEnds}
 use Rattle.copy_jobs.specs.Copying.{CopyEnds}
 use Rattle.copy_jobs.specs.declared.asked_sizes.AskedSizes.{AskedSizes}
-use Rattle.create_jobs.specs.Creations.{CreateEnds}
-use Rattle.create_jobs.specs.declared.creation.NewImage.{NewImage}
+use Rattle.image_words.specs.Creations.{CreateEnds}
+use Rattle.image_words.specs.declared.creation.NewImage.{NewImage}
 use Rattle.archive_jobs.specs.Tars.{TarEnds}
 use Rattle.archive_jobs.specs.Untars.{UntarEnds}
 

@@ -16,26 +16,24 @@ use crate::serving::{history_given, serve_part};
 use archive_jobs::{put_archive, tell_archive};
 use clap::Error;
 use clap::error::ErrorKind;
-use create_jobs::{Creation, NewImage, create_image};
 use flash_model::Geometry;
-use history_jobs::{change_history, tell_replies, trim_image};
 use host_files::{Channels, Folders, ImageFiles, Parts, Sources};
 use image_jobs::{Failure, check_image, format_image, run_image};
+use image_words::{
+    Creation, NewImage, RawSizes, change_history, create_image, format_part, image_to_part,
+    image_to_raw, part_to_image, raw_to_image, save_map_page, serve_part_file, tell_map,
+    tell_replies, tell_update, tell_usages, trim_image,
+};
 use inquiry_jobs::{
     tell_differences, tell_file, tell_last_change, tell_list, tell_path_history, tell_tree,
     tell_versions,
 };
 use job_messages::tell_failure;
 use jobs::{HistoryCall, Job, Task, job};
-use map_jobs::{save_map_page, tell_map};
-use part_jobs::{format_part, image_to_part, part_to_image, serve_part_file};
 use put_jobs::Order;
-use raw_jobs::{RawSizes, image_to_raw, raw_to_image};
 use script_runs::run_in_memory;
 use std::alloc::Global;
 use std::io::{Read, Write};
-use update_jobs::tell_update;
-use usage_jobs::tell_usages;
 
 /// Carries out the words that follow the program's name, and answers the status.
 ///

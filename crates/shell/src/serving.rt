@@ -6,8 +6,8 @@ ghost use Rattle.shell.specs.Tools.{ServeEnds, IsUnreached, of_start, history_gi
 use crate::program::word_given;
 use host_files::{Channels, FileFault};
 use image_jobs::Failure;
+use image_words::of_session;
 use jobs::Job;
-use part_jobs::of_session;
 use std::alloc::Global;
 use std::io::{Read, Write};
 use told_flash::{StartFault, ToldFlash};

@@ -2,8 +2,8 @@ use Rattle.std.proofs.Common.{◌≡◌, List, ℕ, Option, refl, subst}
 use Rattle.flash_model.specs.declared.geometry.Geometry.{Geometry}
 use Rattle.script_runs.specs.Scripts.{streams_at}
 use Rattle.host_files.specs.Files.{KeepsOthers}
-use Rattle.part_jobs.specs.Making.{FormatPartEnds}
-use Rattle.part_jobs.specs.Serving.{ServePartEnds}
+use Rattle.image_words.specs.PartFiles.{FormatPartEnds}
+use Rattle.image_words.specs.PartServing.{ServePartEnds}
 use Rattle.shell.specs.Explained.{ExplainEnds}
 use Rattle.shell.specs.Tools.{word_given}
 use Rattle.shell.proofs.program.do_alone.Goals as goal

@@ -4,15 +4,15 @@ use Rattle.image_jobs.specs.Images.{Host, host_at}
 use Rattle.image_jobs.specs.declared.failure.Failure.{Failure}
 use Rattle.jobs.specs.declared.tasks.Job.{Job}
 use Rattle.jobs.specs.declared.tasks.Task.{Task}
-use Rattle.map_jobs.specs.Mapping.{MapPageEnds}
-use Rattle.part_jobs.specs.Making.{ToPartEnds, FromPartEnds}
-use Rattle.raw_jobs.specs.Making.{RawEnds, FromRawEnds}
-use Rattle.raw_jobs.specs.declared.taking.RawSizes.{RawSizes}
+use Rattle.image_words.specs.Maps.{MapPageEnds}
+use Rattle.image_words.specs.PartFiles.{ToPartEnds, FromPartEnds}
+use Rattle.image_words.specs.RawImages.{RawEnds, FromRawEnds}
+use Rattle.image_words.specs.declared.raw_sizes.RawSizes.{RawSizes}
 use Rattle.archive_jobs.specs.Untars.{UntarEnds}
 use Rattle.shell.proofs.PutFromLemmas.{put_by}
 use Rattle.shell.specs.Tools.{EndsOn, Known, known_by, image_asked, word_given}
-use Rattle.create_jobs.specs.Creations.{CreateEnds}
-use Rattle.create_jobs.specs.declared.creation.NewImage.{NewImage}
+use Rattle.image_words.specs.Creations.{CreateEnds}
+use Rattle.image_words.specs.declared.creation.NewImage.{NewImage}
 use Rattle.shell.proofs.program.do_task.Goals as goal
 
 -- a job ends by the task that it has

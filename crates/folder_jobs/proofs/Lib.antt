@@ -1,3 +1,0 @@
-pub mod CopyLemmas
-pub mod GetLemmas
-pub mod MakeLemmas

@@ -1,0 +1,12 @@
+pub mod Histories
+pub mod ScriptReplies
+pub mod Maps
+pub mod ImageUsages
+pub mod PartFlashes
+pub mod PartFiles
+pub mod PartServing
+pub mod RawImages
+pub mod ImageUpdates
+pub mod Creations
+pub mod PathCopies
+pub mod ImageGets

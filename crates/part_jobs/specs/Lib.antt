@@ -1,3 +1,0 @@
-pub mod Flashes
-pub mod Making
-pub mod Serving

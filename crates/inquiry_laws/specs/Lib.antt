@@ -1,5 +1,0 @@
-pub mod DifferenceLaw
-pub mod LineLaw
-pub mod ListLaw
-pub mod TreeLaw
-pub mod VersionsLaw

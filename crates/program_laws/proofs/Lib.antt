@@ -1,0 +1,10 @@
+pub mod Differing
+pub mod Lines
+pub mod Lists
+pub mod Pairs
+pub mod Rows
+pub mod Trees
+pub mod VersionLines
+pub mod PutEvents
+pub mod Puts
+pub mod Worlds

@@ -1,3 +1,0 @@
-pub mod PutEvents
-pub mod Puts
-pub mod Worlds

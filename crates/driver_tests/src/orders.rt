@@ -3,10 +3,10 @@ ghost use Rattle.std.specs.Prelude.{◌≡◌, [], IfSome};
 
 use crate::telling::{Full, Interrupted, erased_image, told};
 use flash_model::{DevFault, Flash, PageState};
+use remote_flash::ToldFlash;
 use std::alloc::Global;
 use std::io::{Read, Write};
 use std::test::Fail;
-use told_flash::ToldFlash;
 
 /// An operation.
 #[derive(Clone, Copy, Debug)]

@@ -2,9 +2,9 @@
 use crate::part::{LEFT, Leaves, replay};
 use crate::sessions::{DONE, Session, image_shown, replies};
 use crate::telling::told;
+use remote_flash::ToldFlash;
 use std::alloc::Global;
 use std::test::Fail;
-use told_flash::ToldFlash;
 
 /// What is asked of the part at the next start.
 const LOOK: &str = "ls /\nls /a\n";

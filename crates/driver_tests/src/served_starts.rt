@@ -4,10 +4,10 @@ use crate::sessions::{DONE, SCRIPT};
 use crate::telling::{all_done, erased_image, told};
 use flash_image::ImageFault;
 use fs_types::Fault;
+use remote_flash::{LONGEST_IMAGE, StartFault, ToldFlash};
 use script_runs::ScriptFault;
 use std::alloc::Global;
 use std::test::Fail;
-use told_flash::{LONGEST_IMAGE, StartFault, ToldFlash};
 use told_sessions::{SessionFault, serve_script};
 
 /// Why a script on the part of a driver did not run to its end.

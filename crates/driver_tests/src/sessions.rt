@@ -5,11 +5,11 @@ use crate::telling::told;
 use flash_image::encode;
 use flash_model::{Flash, Geometry, PageState};
 use flash_simulation::SimFlash;
+use remote_flash::ToldFlash;
 use script_runs::run_script_on;
 use std::alloc::Global;
 use std::io::{Read, Write};
 use std::test::Fail;
-use told_flash::ToldFlash;
 use undofs::format;
 
 /// The script, and its replies where each order is done.

@@ -2,9 +2,9 @@
 use crate::telling::{erased_image, told};
 use flash_image::ImageFault;
 use flash_model::{Flash, Geometry};
+use remote_flash::{LONGEST_IMAGE, StartFault, ToldFlash};
 use std::alloc::Global;
 use std::test::Fail;
-use told_flash::{LONGEST_IMAGE, StartFault, ToldFlash};
 
 /// What a start says of what is told: the sizes of the flash, or why there is none.
 fn start(alloc: Global, told: &[u8]) -> Result<Geometry, StartFault> {

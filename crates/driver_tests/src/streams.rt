@@ -4,9 +4,9 @@ use crate::outcomes::{Wrong, wrong_end};
 use crate::part::order_count;
 use crate::sessions::{CUT, ORDERS, Session, formatted_image, play_over, run};
 use crate::telling::{Broken, Full, all_done, answers_after, told};
+use remote_flash::{StartFault, ToldFlash};
 use std::alloc::Global;
 use std::test::Fail;
-use told_flash::{StartFault, ToldFlash};
 
 /// A script of five orders: a directory is two nodes, each a block that is erased and a page that is
 /// programmed, and a `sync` programs a page.

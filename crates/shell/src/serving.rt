@@ -8,9 +8,9 @@ use host_files::{Channels, FileFault};
 use image_jobs::Failure;
 use image_words::of_session;
 use jobs::Job;
+use remote_flash::{StartFault, ToldFlash};
 use std::alloc::Global;
 use std::io::{Read, Write};
-use told_flash::{StartFault, ToldFlash};
 use told_sessions::serve_script;
 
 /// Opens the two streams of a driver, and runs the script on its part.

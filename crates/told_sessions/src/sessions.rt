@@ -1,16 +1,16 @@
 //! A script on a flash.
 ghost use Rattle.std.specs.Prelude.{MatchResult};
 ghost use Rattle.script_runs.specs.Scripts.{streams_at};
-ghost use Rattle.told_flash.specs.Flashes.{told_device};
+ghost use Rattle.remote_flash.specs.Flashes.{told_device};
 ghost use Rattle.told_sessions.specs.Sessions.{SessionEnds, MakesReady, IsNotReady};
 
 use crate::session_fault::SessionFault;
 use flash_model::Flash;
 use fs_types::Fault;
+use remote_flash::ToldFlash;
 use script_runs::run_script_on;
 use std::alloc::Global;
 use std::io::{Read, Write};
-use told_flash::ToldFlash;
 use undofs::format;
 
 /// Makes an empty file system on a flash where it is given how many versions are kept, mounts it, and carries

@@ -1,7 +1,7 @@
 use Rattle.std.proofs.Common.{◌≡◌, List, ℕ, Option, Some, Ok, Err, IfSome, inr, subst}
 use Rattle.script_runs.specs.Scripts.{streams_at}
-use Rattle.told_flash.specs.Drivers.{driver_answers}
-use Rattle.told_flash.specs.Flashes.{told_device, driver_of}
+use Rattle.remote_flash.specs.Drivers.{driver_answers}
+use Rattle.remote_flash.specs.Flashes.{told_device, driver_of}
 use Rattle.told_sessions.specs.Sessions.{SessionEnds}
 use Rattle.shell.proofs.serving.serve_part.Goals as goal
 

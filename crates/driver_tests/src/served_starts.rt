@@ -5,10 +5,10 @@ use crate::telling::{all_done, erased_image, told};
 use flash_image::ImageFault;
 use fs_types::Fault;
 use remote_flash::{LONGEST_IMAGE, StartFault, ToldFlash};
+use remote_sessions::{SessionFault, serve_script};
 use script_runs::ScriptFault;
 use std::alloc::Global;
 use std::test::Fail;
-use told_sessions::{SessionFault, serve_script};
 
 /// Why a script on the part of a driver did not run to its end.
 #[derive(Clone, Copy, Debug, PartialEq, Eq)]

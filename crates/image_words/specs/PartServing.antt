@@ -6,8 +6,8 @@ use Rattle.script_runs.specs.Scripts.{Streams}
 use Rattle.part_file.specs.Pages.{IsPart}
 use Rattle.part_file.specs.Reading.{IsPartFault}
 use Rattle.part_file.specs.declared.part_file.PartFault.{PartFault}
-use Rattle.told_sessions.specs.Sessions.{SessionEnds}
-use Rattle.told_sessions.specs.declared.session_fault.SessionFault.{SessionFault}
+use Rattle.remote_sessions.specs.Sessions.{SessionEnds}
+use Rattle.remote_sessions.specs.declared.session_fault.SessionFault.{SessionFault}
 use Rattle.image_jobs.specs.Failures.{of_part, of_script, of_system}
 use Rattle.image_jobs.specs.Images.{IsUnclaimed}
 use Rattle.image_jobs.specs.declared.failure.Failure.{Failure}

@@ -8,9 +8,9 @@ use crate::part_sessions::serve_part;
 use host_files::{FileFault, Parts};
 use image_jobs::Failure;
 use part_file::PartFlash;
+use remote_sessions::SessionFault;
 use std::alloc::Global;
 use std::io::{Read, Write};
-use told_sessions::SessionFault;
 
 /// Opens the file of a name in place, claimed to the end, and runs the script on the part in it, on which
 /// an empty file system is made first where it is given how many versions are kept.

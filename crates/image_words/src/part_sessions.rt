@@ -3,13 +3,13 @@ ghost use Rattle.script_runs.specs.Scripts.{streams_at};
 ghost use Rattle.part_file.specs.Flashes.{part_device, driver_of, backing_behind};
 ghost use Rattle.part_file.specs.Pages.{HoldsPart};
 ghost use Rattle.part_file.specs.Parts.{is_lost};
-ghost use Rattle.told_sessions.specs.Sessions.{SessionEnds};
+ghost use Rattle.remote_sessions.specs.Sessions.{SessionEnds};
 
 use host_files::Backing;
 use part_file::PartFlash;
+use remote_sessions::{SessionFault, serve_on};
 use std::alloc::Global;
 use std::io::{Read, Write};
-use told_sessions::{SessionFault, serve_on};
 
 /// [`serve_on`] on the flash of a part in a flat file.
 ///

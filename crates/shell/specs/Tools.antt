@@ -37,8 +37,8 @@ use Rattle.image_jobs.specs.declared.failure.Failure.{Failure}
 use Rattle.script_runs.specs.declared.scripts.ScriptFault.{ScriptFault}
 use Rattle.remote_flash.specs.declared.start.StartFault.{StartFault}
 use Rattle.remote_flash.specs.Starts.{start_text, IsStartFault}
-use Rattle.told_sessions.specs.Sessions.{SessionEnds}
-use Rattle.told_sessions.specs.declared.session_fault.SessionFault.{SessionFault}
+use Rattle.remote_sessions.specs.Sessions.{SessionEnds}
+use Rattle.remote_sessions.specs.declared.session_fault.SessionFault.{SessionFault}
 use Rattle.inquiry_jobs.specs.LastChanges.{LastChangeEnds}
 use Rattle.inquiry_jobs.specs.Tellings.{TellEnds, DiffEnds}
 use Rattle.image_words.specs.ImageUpdates.{UpdateEnds, manner_asked}

@@ -9,9 +9,9 @@ use image_jobs::Failure;
 use image_words::of_session;
 use jobs::Job;
 use remote_flash::{StartFault, ToldFlash};
+use remote_sessions::serve_script;
 use std::alloc::Global;
 use std::io::{Read, Write};
-use told_sessions::serve_script;
 
 /// Opens the two streams of a driver, and runs the script on its part.
 pub(crate) fn serve_part<F: Channels, R: Read, W: Write>(

@@ -2,7 +2,7 @@ use Rattle.std.proofs.Common.{◌≡◌, List, ℕ, Option, Some, Ok, Err, IfSom
 use Rattle.script_runs.specs.Scripts.{streams_at}
 use Rattle.remote_flash.specs.Drivers.{driver_answers}
 use Rattle.remote_flash.specs.Flashes.{told_device, driver_of}
-use Rattle.told_sessions.specs.Sessions.{SessionEnds}
+use Rattle.remote_sessions.specs.Sessions.{SessionEnds}
 use Rattle.shell.proofs.serving.serve_part.Goals as goal
 
 pub returns-in-Ok-serve_script : goal.returns-in-Ok-serve_script

@@ -2,7 +2,7 @@
 ghost use Rattle.std.specs.Prelude.{MatchResult};
 ghost use Rattle.script_runs.specs.Scripts.{streams_at};
 ghost use Rattle.remote_flash.specs.Flashes.{told_device};
-ghost use Rattle.told_sessions.specs.Sessions.{SessionEnds, MakesReady, IsNotReady};
+ghost use Rattle.remote_sessions.specs.Sessions.{SessionEnds, MakesReady, IsNotReady};
 
 use crate::session_fault::SessionFault;
 use flash_model::Flash;

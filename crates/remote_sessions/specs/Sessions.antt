@@ -5,7 +5,7 @@ use Rattle.flash_model.specs.Device.{Device}
 use Rattle.mounting.specs.Formats.{IsFormatted, ListsFailed, IsNumbered, FormatCause}
 use Rattle.script_runs.specs.Scripts.{EndsOnFlash, Streams, unplanned}
 use Rattle.script_runs.specs.declared.scripts.ScriptFault.{ScriptFault}
-use Rattle.told_sessions.specs.declared.session_fault.SessionFault.{SessionFault}
+use Rattle.remote_sessions.specs.declared.session_fault.SessionFault.{SessionFault}
 
 -- a flash is made ready for a script: an empty file system is made on it where it is given how many versions are kept, else it
 -- stays as it is

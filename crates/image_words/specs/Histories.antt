@@ -2,7 +2,7 @@
 use Rattle.std.specs.Prelude.{◌≡◌, ◌⊎◌, ℕ, min, true, Option, Some, None, Result, Ok, Err, List, [], ◌++◌, codes, decimal}
 use Rattle.std.specs.List.{repeat}
 use Rattle.fs_types.specs.declared.limits.TheConstants.{MAX_VERSIONS}
-use Rattle.jobs.specs.declared.tasks.HistoryCall.{HistoryCall}
+use Rattle.command_line.specs.declared.tasks.HistoryCall.{HistoryCall}
 use Rattle.script.specs.Lines.{line_of}
 use Rattle.script.specs.declared.line.Line.{Line}
 use Rattle.host_files.specs.Files.{Held}

@@ -4,9 +4,9 @@ ghost use Rattle.host_files.specs.Files.{KeepsOthers, KeepsOrSyncs, ReadsClaimed
 ghost use Rattle.image_words.specs.Histories.{HistoryEnds, RunsUnprinted, history_spelled, trim_script, unprinted};
 
 use crate::history_lines::history_script;
+use command_line::HistoryCall;
 use host_files::ImageFiles;
 use image_jobs::{Failure, run_image};
-use jobs::HistoryCall;
 use std::alloc::Global;
 
 /// All that the image reaches is marked, all other data blocks are cleaned then, and it is synced.

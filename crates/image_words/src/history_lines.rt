@@ -3,9 +3,9 @@ ghost use Rattle.std.specs.Prelude.{◌≡◌, Ok, Err, IfOk, IfErr, OnOk, strin
 ghost use Rattle.script.specs.Lines.{line_of};
 ghost use Rattle.image_words.specs.Histories.{Unspelled, history_line, history_script, history_spelled, line_count, refusal_of_line};
 
+use command_line::HistoryCall;
 use fs_types::MAX_VERSIONS;
 use image_jobs::Failure;
-use jobs::HistoryCall;
 use script::{Line, read_line};
 use script_runs::Refusal;
 use std::alloc::{AllocError, Global};

@@ -1,8 +1,8 @@
 //! What is told where what the words of a job name was refused.
+use command_line::{HistoryCall, Job, Task};
 use fs_types::Fault;
 use host_files::ImageFiles;
 use image_jobs::{explain_refusal, look_at_image};
-use jobs::{HistoryCall, Job, Task};
 use script_runs::Refusal;
 use std::alloc::{AllocError, Global};
 use std::io;

@@ -2,11 +2,11 @@
 ghost use Rattle.std.specs.Prelude.{◌<◌};
 
 use crate::refused_words::tell_refused_words;
+use command_line::{Job, Task};
 use flash_model::{Flash, Geometry};
 use fs_types::{Fault, MAX_VERSIONS, MIN_BLOCK_BYTES, MIN_VERSIONS, Path};
 use host_files::{ImageFiles, Source, UnreadCause, takes_away};
 use image_jobs::{Failure, SourceFault, explain_refusal, explain_unread, load};
-use jobs::{Job, Task};
 use raw_part::PartLayout;
 use record_sizes::recorded_sizes;
 use script::print_name;

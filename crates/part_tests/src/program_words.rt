@@ -1,5 +1,5 @@
 //! Jobs that words ask for, with ample memory.
-use jobs::{HistoryCall, Job, Task, job};
+use command_line::{HistoryCall, Job, Task, job};
 use std::alloc::{AllocError, Global};
 use std::test::Fail;
 

@@ -8,7 +8,7 @@ use Rattle.image_jobs.specs.Images.{host_at}
 use Rattle.image_jobs.specs.declared.failure.Failure.{Failure}
 use Rattle.inquiry_jobs.specs.Asking.{file_spelled}
 use Rattle.inquiry_jobs.specs.Tellings.{TellEnds}
-use Rattle.jobs.specs.declared.tasks.Job.{Job}
+use Rattle.command_line.specs.declared.tasks.Job.{Job}
 use Rattle.shell.specs.Tools.{GetsTo, is_stream, word_given}
 
 -- to the output, where the word of the file is that of a stream

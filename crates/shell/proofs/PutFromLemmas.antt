@@ -5,7 +5,7 @@ use Rattle.host_files.specs.Sources.{Found}
 use Rattle.image_jobs.specs.declared.failure.Failure.{Failure}
 use Rattle.put_jobs.specs.Mirrors.{wants_folder}
 use Rattle.image_jobs.specs.Images.{Host, host_at}
-use Rattle.jobs.specs.declared.tasks.Job.{Job}
+use Rattle.command_line.specs.declared.tasks.Job.{Job}
 use Rattle.shell.specs.Tools.{Known, PutsFrom, StreamEnds, is_stream, word_given}
 use Rattle.put_jobs.specs.Putting.{PutEnds}
 use Rattle.put_jobs.specs.declared.put.Order.{Order}

@@ -7,9 +7,9 @@ use Rattle.clap.specs.declared.error.Error.{Error}
 use Rattle.clap.specs.declared.error.kind.ErrorKind.{ErrorKind}
 use Rattle.fs_types.specs.declared.fault.Fault.{Fault}
 use Rattle.command_words.specs.Grammar.{uffs}
-use Rattle.jobs.specs.Jobs.{SaysJob, given, has_no_image}
-use Rattle.jobs.specs.declared.tasks.Job.{Job}
-use Rattle.jobs.specs.declared.tasks.Task.{Task}
+use Rattle.command_line.specs.Jobs.{SaysJob, given, has_no_image}
+use Rattle.command_line.specs.declared.tasks.Job.{Job}
+use Rattle.command_line.specs.declared.tasks.Task.{Task}
 use Rattle.image_jobs.specs.Failures.{of_script, failure_status, job_status, fault_status}
 use Rattle.host_files.specs.Files.{Held}
 use Rattle.script_runs.specs.Scripts.{streams_at}

@@ -7,10 +7,10 @@ use Rattle.clap.specs.Words.{fault_of}
 use Rattle.clap.specs.declared.error.kind.ErrorKind.{ErrorKind}
 use Rattle.flash_model.specs.declared.geometry.Geometry.{Geometry}
 use Rattle.command_words.specs.Grammar.{uffs}
-use Rattle.jobs.specs.Jobs.{AsksFor}
-use Rattle.jobs.specs.declared.tasks.HistoryCall.{HistoryCall}
-use Rattle.jobs.specs.declared.tasks.Job.{Job}
-use Rattle.jobs.specs.declared.tasks.Task.{Task}
+use Rattle.command_line.specs.Jobs.{AsksFor}
+use Rattle.command_line.specs.declared.tasks.HistoryCall.{HistoryCall}
+use Rattle.command_line.specs.declared.tasks.Job.{Job}
+use Rattle.command_line.specs.declared.tasks.Task.{Task}
 use Rattle.inquiries.specs.declared.inquiry.Inquiry.{Inquiry}
 use Rattle.shell.specs.Explained.{ExplainEnds, HelpEnds, PrintEnds, version_line}
 use Rattle.inquiry_jobs.specs.Asking.{file_spelled, tree_spelled, list_spelled, place_spelled, path_history_spelled, differences_spelled}

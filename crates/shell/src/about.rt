@@ -1,8 +1,8 @@
 //! What the program tells of itself.
 ghost use Rattle.shell.specs.Explained.{HelpEnds, PrintEnds, version_line};
 
+use command_line::{help_text, version_text};
 use image_jobs::Failure;
-use jobs::{help_text, version_text};
 use script::write_out;
 use std::alloc::Global;
 use std::io::Write;

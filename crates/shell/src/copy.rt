@@ -5,10 +5,10 @@ ghost use Rattle.copy_jobs.specs.Copying.{CopyEnds};
 ghost use Rattle.shell.specs.Tools.{number_given, sizes_asked, word_given};
 
 use crate::program::word_given;
+use command_line::Job;
 use copy_jobs::{AskedSizes, copy_image};
 use host_files::ImageFiles;
 use image_jobs::Failure;
-use jobs::Job;
 use std::alloc::Global;
 use std::io::Write;
 

@@ -4,11 +4,11 @@ ghost use Rattle.image_jobs.specs.Images.{host_at};
 ghost use Rattle.shell.specs.Tools.{GetsTo, is_stream, word_given};
 
 use crate::program::word_given;
+use command_line::Job;
 use host_files::Folders;
 use image_jobs::Failure;
 use image_words::get_out;
 use inquiry_jobs::tell_file;
-use jobs::Job;
 use std::alloc::Global;
 use std::io::Write;
 

@@ -12,7 +12,7 @@ mod put_from;
 mod serving;
 mod streams;
 
+pub use command_line::{Job, Task, job};
 pub use image_jobs::{Failure, SourceFault};
-pub use jobs::{Job, Task, job};
 pub use process::run_process;
 pub use program::tool;

@@ -1,8 +1,8 @@
 //! The program as a process of the host.
 use crate::program::tool;
 use crate::streams::{fill_closed_streams, is_output};
+use command_line::{Task, job};
 use host_files::HostFiles;
-use jobs::{Task, job};
 use std::env::Env;
 use std::fs::File;
 use std::io::{BufReader, Error, ErrorKind, Write};

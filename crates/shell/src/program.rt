@@ -16,6 +16,7 @@ use crate::serving::{history_given, serve_part};
 use archive_jobs::{put_archive, tell_archive};
 use clap::Error;
 use clap::error::ErrorKind;
+use command_line::{HistoryCall, Job, Task, job};
 use flash_model::Geometry;
 use host_files::{Channels, Folders, ImageFiles, Parts, Sources};
 use image_jobs::{Failure, check_image, format_image, run_image};
@@ -29,7 +30,6 @@ use inquiry_jobs::{
     tell_versions,
 };
 use job_messages::tell_failure;
-use jobs::{HistoryCall, Job, Task, job};
 use put_jobs::Order;
 use script_runs::run_in_memory;
 use std::alloc::Global;

@@ -4,10 +4,10 @@ ghost use Rattle.script_runs.specs.Scripts.{streams_at};
 ghost use Rattle.shell.specs.Tools.{ServeEnds, IsUnreached, of_start, history_given, word_given};
 
 use crate::program::word_given;
+use command_line::Job;
 use host_files::{Channels, FileFault};
 use image_jobs::Failure;
 use image_words::of_session;
-use jobs::Job;
 use remote_flash::{StartFault, ToldFlash};
 use remote_sessions::serve_script;
 use std::alloc::Global;

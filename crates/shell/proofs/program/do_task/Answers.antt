@@ -2,8 +2,8 @@ use Rattle.std.proofs.Common.{Bool, ◌≡◌, List, ℕ, Result, refl, sym, sub
 use Rattle.host_files.specs.Files.{KeepsOthers, ReadsClaimed, ReadsBeside}
 use Rattle.image_jobs.specs.Images.{Host, host_at}
 use Rattle.image_jobs.specs.declared.failure.Failure.{Failure}
-use Rattle.jobs.specs.declared.tasks.Job.{Job}
-use Rattle.jobs.specs.declared.tasks.Task.{Task}
+use Rattle.command_line.specs.declared.tasks.Job.{Job}
+use Rattle.command_line.specs.declared.tasks.Task.{Task}
 use Rattle.image_words.specs.Maps.{MapPageEnds}
 use Rattle.image_words.specs.PartFiles.{ToPartEnds, FromPartEnds}
 use Rattle.image_words.specs.RawImages.{RawEnds, FromRawEnds}

@@ -1,8 +1,8 @@
 use Rattle.std.proofs.Common.{List, ℕ, Ok, Err, inl, inr, refl, map, string_bytes}
 use Rattle.clap.specs.Words.{fault_of}
 use Rattle.command_words.specs.Grammar.{uffs}
-use Rattle.jobs.specs.Jobs.{AsksFor}
-use Rattle.jobs.specs.declared.tasks.Job.{Job}
+use Rattle.command_line.specs.Jobs.{AsksFor}
+use Rattle.command_line.specs.declared.tasks.Job.{Job}
 use Rattle.host_files.specs.Files.{ReadsClaimed, ReadsBeside}
 use Rattle.image_jobs.specs.Images.{host_at}
 use Rattle.shell.specs.Tools.{known_by}

@@ -1,4 +1,4 @@
-use Rattle.jobs.proofs.words.numbers_of.Goals as goal
+use Rattle.command_line.proofs.words.numbers_of.Goals as goal
 
 pub returns-clause-some : goal.returns-clause-some
 returns-clause-some c = record {

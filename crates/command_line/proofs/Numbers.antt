@@ -2,7 +2,7 @@
 use Rattle.std.proofs.Common.{◌≡◌, ◌<◌, ◌^◌, ◌∙◌, ℕ, Option, Some, None, Result, Ok, Err, refl, sym, subst}
 use Rattle.std.specs.Str.Parse.{ParsesUnsigned}
 use Rattle.clap.specs.Words.{Text, TriesOne}
-use Rattle.jobs.specs.Jobs.{IsNumberOf, Spells}
+use Rattle.command_line.specs.Jobs.{IsNumberOf, Spells}
 
 -- the number that was read is the one that the word spells
 spelled : (E : Type 0) (t : Text) (n : ℕ) → ParsesUnsigned {E = E} 32 10 t (Ok n) → Spells t n

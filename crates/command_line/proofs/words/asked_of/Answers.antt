@@ -3,9 +3,9 @@ use Rattle.clap.specs.Words.{App, HasKind, HasMatchesOf, Text, app_of, fault_of,
 use Rattle.clap.specs.declared.builder.command.Command.{Command}
 use Rattle.clap.specs.declared.parser.matches.ArgMatches.{ArgMatches}
 use Rattle.command_words.specs.Grammar.{uffs}
-use Rattle.jobs.specs.Jobs.{SaysJob}
-use Rattle.jobs.proofs.Simple.{uffs_free, uffs_simple}
-use Rattle.jobs.proofs.words.asked_of.Goals as goal
+use Rattle.command_line.specs.Jobs.{SaysJob}
+use Rattle.command_line.proofs.Simple.{uffs_free, uffs_simple}
+use Rattle.command_line.proofs.words.asked_of.Goals as goal
 
 -- the subcommand that a parse by the program's form found
 said_by : (program : Command) (words : List Text) (m : ArgMatches) → app_of program ≡ uffs → HasMatchesOf (app_of program) words m → subcommand_rows_of m ≡ subcommand_of uffs words

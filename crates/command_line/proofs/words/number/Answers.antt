@@ -2,9 +2,9 @@ use Rattle.std.proofs.Common.{rules, subst, sym}
 use Rattle.std.specs.Str.Parse.{ParsesUnsigned, ExplainsUnsignedError, HasUnsignedDigitsIfOk}
 use Rattle.clap.specs.Words.{found_of, one_text}
 use Rattle.clap.proofs.WalkLemmas.{one_text-rows}
-use Rattle.jobs.specs.Jobs.{IsNumberOf}
-use Rattle.jobs.proofs.Numbers.{number_read, default_read, none_read}
-use Rattle.jobs.proofs.words.number.Goals as goal
+use Rattle.command_line.specs.Jobs.{IsNumberOf}
+use Rattle.command_line.proofs.Numbers.{number_read, default_read, none_read}
+use Rattle.command_line.proofs.words.number.Goals as goal
 
 pub returns-in-Ok-Some-clause-some : goal.returns-in-Ok-Some-clause-some
 returns-in-Ok-Some-clause-some c =

@@ -2,7 +2,7 @@ use Rattle.std.proofs.Common.{◌≡◌, ◌∙◌, Option, Some, None, List, �
 use Rattle.clap.specs.Words.{found_of, rows_of}
 use Rattle.clap.specs.Walk.{first_of}
 use Rattle.clap.proofs.WalkLemmas.{first_value-rows}
-use Rattle.jobs.proofs.words.image.Goals as goal
+use Rattle.command_line.proofs.words.image.Goals as goal
 
 pub returns-in-Some-clause-some : goal.returns-in-Some-clause-some
 returns-in-Some-clause-some c =

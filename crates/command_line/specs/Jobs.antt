@@ -6,10 +6,10 @@ use Rattle.std.specs.Str.Parse.{IsNumeral, without_leading_plus, digits_value}
 use Rattle.clap.specs.Words.{Row, Text, subcommand_of}
 use Rattle.clap.specs.Walk.{first_of, one_of}
 use Rattle.command_words.specs.Grammar.{uffs}
-use Rattle.jobs.specs.declared.tasks.HistoryCall.{HistoryCall}
-use Rattle.jobs.specs.declared.tasks.Task.{Task}
-use Rattle.jobs.specs.declared.tasks.Job.{Job}
-use Rattle.jobs.specs.declared.words.Numbers.{Numbers}
+use Rattle.command_line.specs.declared.tasks.HistoryCall.{HistoryCall}
+use Rattle.command_line.specs.declared.tasks.Task.{Task}
+use Rattle.command_line.specs.declared.tasks.Job.{Job}
+use Rattle.command_line.specs.declared.words.Numbers.{Numbers}
 
 -- the subcommand that the words name, with what they say of its arguments
 abbrev pub given : List Text → Option (Text × List Row)

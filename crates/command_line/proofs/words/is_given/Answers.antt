@@ -1,7 +1,7 @@
 use Rattle.std.proofs.Common.{◌∙◌, sym, ap, option_map, is_some}
 use Rattle.clap.specs.Words.{found_of}
 use Rattle.clap.proofs.WalkLemmas.{first_value-rows}
-use Rattle.jobs.proofs.words.is_given.Goals as goal
+use Rattle.command_line.proofs.words.is_given.Goals as goal
 
 pub returns-in-Some : goal.returns-in-Some
 returns-in-Some c =

@@ -1,8 +1,8 @@
 use Rattle.std.proofs.Common.{◌∙◌, sym, ap, option_map}
 use Rattle.clap.specs.Words.{found_of}
 use Rattle.clap.proofs.WalkLemmas.{first_value-rows}
-use Rattle.jobs.specs.Jobs.{flag_of}
-use Rattle.jobs.proofs.words.has_flag.Goals as goal
+use Rattle.command_line.specs.Jobs.{flag_of}
+use Rattle.command_line.proofs.words.has_flag.Goals as goal
 
 pub returns-in-Some : goal.returns-in-Some
 returns-in-Some c =

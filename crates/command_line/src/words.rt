@@ -3,9 +3,9 @@ ghost use Rattle.std.specs.Prelude.{◌≡◌, ℕ, [], codes, IfOk, OnOk, IfErr
 ghost use Rattle.clap.specs.Words.{HasKind, app_of, fault_of, found_of, rows_of, subcommand_rows_of};
 ghost use Rattle.clap.specs.Walk.{one_of, first_of};
 ghost use Rattle.command_words.specs.Grammar.{uffs};
-ghost use Rattle.jobs.specs.Jobs.{AreNumbersOf, AsksFor, IsImageOf, IsNumberOf, SaysJob, count_word, difference_task, flag_of, forget_task, format_task, has_no_image, has_word, help_task, map_task, serve_task, task_asked, task_named, history_task_named, reading_task_named, other_form_task_named, task_named_without_files, task_with, word_text};
-ghost use Rattle.jobs.specs.declared.tasks.Job.{Job};
-ghost use Rattle.jobs.specs.declared.words.Numbers.{Numbers};
+ghost use Rattle.command_line.specs.Jobs.{AreNumbersOf, AsksFor, IsImageOf, IsNumberOf, SaysJob, count_word, difference_task, flag_of, forget_task, format_task, has_no_image, has_word, help_task, map_task, serve_task, task_asked, task_named, history_task_named, reading_task_named, other_form_task_named, task_named_without_files, task_with, word_text};
+ghost use Rattle.command_line.specs.declared.tasks.Job.{Job};
+ghost use Rattle.command_line.specs.declared.words.Numbers.{Numbers};
 
 use crate::tasks::{HistoryCall, Job, Task};
 use clap::error::ErrorKind;

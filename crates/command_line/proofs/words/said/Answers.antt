@@ -1,7 +1,7 @@
 use Rattle.std.proofs.Common.{◌∙◌, sym}
 use Rattle.clap.specs.Words.{found_of, rows_of}
-use Rattle.jobs.proofs.Said.{image_unsaid, none_said, job_said}
-use Rattle.jobs.proofs.words.said.Goals as goal
+use Rattle.command_line.proofs.Said.{image_unsaid, none_said, job_said}
+use Rattle.command_line.proofs.words.said.Goals as goal
 
 pub returns-in_err-image-clause-none : goal.returns-in_err-image-clause-none
 returns-in_err-image-clause-none c =

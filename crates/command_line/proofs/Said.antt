@@ -5,10 +5,10 @@ use Rattle.clap.specs.Words.{Row, Text, found_of, rows_of, subcommand_name_of, s
 use Rattle.clap.specs.declared.parser.matches.ArgMatches.{ArgMatches}
 use Rattle.clap.specs.declared.parser.matches.ArgMatches.TheViews.{out-ArgMatches, out-SubCommand}
 use Rattle.clap.specs.Walk.{first_of}
-use Rattle.jobs.specs.Jobs.{AreNumbersOf, IsImageOf, IsJobOf, SaysJob, task_asked, word_text}
-use Rattle.jobs.specs.declared.tasks.Job.{Job}
-use Rattle.jobs.specs.declared.tasks.Task.{Task}
-use Rattle.jobs.specs.declared.words.Numbers.{Numbers}
+use Rattle.command_line.specs.Jobs.{AreNumbersOf, IsImageOf, IsJobOf, SaysJob, task_asked, word_text}
+use Rattle.command_line.specs.declared.tasks.Job.{Job}
+use Rattle.command_line.specs.declared.tasks.Task.{Task}
+use Rattle.command_line.specs.declared.words.Numbers.{Numbers}
 
 both : {B : Type 0} (f : B → Text) (g : B → List Row) (o : Option B) (name : Text) (rows : List Row) → Some name ≡ option_map f o
     → Some rows ≡ option_map (λ (p : Text × List Row). p.1) (option_map {U = Text × List Row} (λ b. (f b, g b)) o) → option_map {U = Text × List Row} (λ b. (f b, g b)) o ≡ Some (name, rows)

@@ -53,7 +53,7 @@ def read(path):
 
 
 def is_test(path):
-    return re.search(r"/crates/(?:\w+_tests|host_rows|rows|load|operations)/", path) is not None
+    return re.search(r"/crates/(?:\w+_tests|host_rows|rows|operations|stress)/", path) is not None
 
 
 def sources():

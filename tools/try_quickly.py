@@ -22,7 +22,7 @@ TEST = re.compile(r"^\s*#\[test\]", re.M)
 # The longest that one may take, its compilation included, and what a program or a test has of it.
 SECONDS, RUN_SECONDS = 1500, 900
 # What `rt try` does not end in time, and why: it compiles without optimizing, and with an address checker.
-LEFT_OUT = dict.fromkeys(("fault_trials", "hostile_images", "latency", "load", "operations", "trial_update"), "it tries more cases than end within ten minutes")
+LEFT_OUT = dict.fromkeys(("fault_trials", "hostile_images", "latency", "operations", "stress", "trial_update"), "it tries more cases than end within ten minutes")
 
 
 def text_of(path, missing=""):

@@ -75,7 +75,7 @@ def causes(texts):
         text = texts[f"{TOP}/{path}"]
         yield from re.findall(r'#\[error\("([^"]*)"\)\]', text)
         yield from re.findall(r'=> "([^"]*)"', text)
-    yield from added(texts[f"{TOP}/crates/job_messages/src/telling.rt"])
+    yield from added(texts[f"{TOP}/crates/job_messages/src/failure_messages.rt"])
 
 
 def added(text):

@@ -1,13 +1,13 @@
 //! The archive of all that stands in a tree of a flash, or in an image, and one that is put into an image.
 #![tactic(auto)]
 
+mod archive_messages;
 mod archiving;
 mod entries;
 mod interruption;
 mod printing;
 mod putting;
 mod room;
-mod telling;
 mod unarchived;
 mod unwritten;
 mod writing;

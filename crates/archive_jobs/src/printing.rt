@@ -3,9 +3,9 @@ ghost use Rattle.std.specs.Prelude.{◌≡◌, Ok, IfOk, IfErr};
 ghost use Rattle.inquiry_jobs.specs.Asking.{view_spelled, IsMisspelled};
 ghost use Rattle.archive_jobs.specs.Tars.{of_unarchived, of_unwritten, TarEnds};
 
+use crate::archive_messages::tell_unwritten;
 use crate::archiving::write_archive;
 use crate::interruption::Interruption;
-use crate::telling::tell_unwritten;
 use crate::unarchived::Unarchived;
 use crate::unwritten::Unwritten;
 use flash_model::Flash;

@@ -7,7 +7,7 @@ ghost use Rattle.put_lots.specs.Lots.{lots_of};
 ghost use Rattle.archives.specs.Things.{fits, things_below};
 ghost use Rattle.archive_jobs.specs.Untars.{of_fault, of_input, is_link, AreLots, ArePut, IsUnplaced, IsUnreadArchive, IsUnputArchive, UntarEnds};
 
-use crate::telling::{tell_left_out, tell_too_deep, tell_unread};
+use crate::archive_messages::{tell_left_out, tell_too_deep, tell_unread};
 use archives::{ArchiveEntry, ArchiveFault, lots_of, read_archive, things_below, too_deep};
 use fs_types::{Fault, Path};
 use host_files::ImageFiles;

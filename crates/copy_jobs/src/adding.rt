@@ -4,8 +4,8 @@ ghost use Rattle.flash_simulation.specs.declared.sim_flash.SimFlash.{SimFlash};
 ghost use Rattle.copy_jobs.specs.Adding.{HasOneAfter, HasRestAfter, StopsAdding};
 
 use crate::asked_sizes::of_sizes;
+use crate::copy_messages::tell_uncopied;
 use crate::failures::of_uncopied;
-use crate::telling::tell_uncopied;
 use copies::add_version;
 use flash_model::Flash;
 use flash_simulation::SimFlash;

@@ -10,9 +10,9 @@ ghost use Rattle.copy_jobs.specs.Copying.{CopyEnds, IsAskedCopy, IsMadeOf, Saves
 
 use crate::adding::with_rest;
 use crate::asked_sizes::{AskedSizes, limit_of, of_sizes, sizes_of};
+use crate::copy_messages::{tell_dropped, tell_uncopied, tell_unformatted, tell_unmounted};
 use crate::failures::of_uncopied;
 use crate::source::{Source, source_of};
-use crate::telling::{tell_dropped, tell_uncopied, tell_unformatted, tell_unmounted};
 use copies::copy_history;
 use flash_model::{Flash, Geometry};
 use flash_simulation::SimFlash;

@@ -3,11 +3,11 @@
 
 mod adding;
 mod asked_sizes;
+mod copy_messages;
 mod copying;
 mod failures;
 mod rests;
 mod source;
-mod telling;
 
 pub use asked_sizes::AskedSizes;
 pub use copying::copy_image;

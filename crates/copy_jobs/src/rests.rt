@@ -9,8 +9,8 @@ ghost use Rattle.copy_jobs.specs.Failures as spec;
 ghost use Rattle.copy_jobs.specs.Lefts.{HoldsRest, IsUnformed, LeadOn, StopsRest};
 
 use crate::asked_sizes::of_sizes;
+use crate::copy_messages::{tell_losses, tell_uncopied, tell_unformatted, tell_unmounted};
 use crate::failures::{of_uncopied, of_untold};
-use crate::telling::{tell_losses, tell_uncopied, tell_unformatted, tell_unmounted};
 use copies::make_alone;
 use flash_model::Geometry;
 use flash_simulation::SimFlash;

@@ -9,8 +9,8 @@ ghost use Rattle.copy_jobs.specs.Sources as spec;
 ghost use Rattle.copy_jobs.specs.Sources.{IsSourceOf, UnsalvagedCause};
 
 use crate::asked_sizes::{AskedSizes, sizes_of};
+use crate::copy_messages::{tell_all_lost, tell_lost, tell_unmounted};
 use crate::rests::{make_rest, rest_of};
-use crate::telling::{tell_all_lost, tell_lost, tell_unmounted};
 use flash_model::{Flash, Geometry};
 use flash_simulation::SimFlash;
 use fs_types::Fault;

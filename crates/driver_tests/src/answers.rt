@@ -1,9 +1,9 @@
 //! Each order is done, and each fails once, is cut once by two answers, and is left unanswered once.
 use crate::cuts::{wrong_answered, wrong_unanswered};
+use crate::driver_answers::{all_done, answered_by};
 use crate::outcomes::{Wrong, wrong_end, wrong_starts};
 use crate::part::order_count;
 use crate::sessions::{DONE, ORDERS, formatted_image, play};
-use crate::telling::{all_done, answered_by};
 use std::alloc::Global;
 use std::test::Fail;
 

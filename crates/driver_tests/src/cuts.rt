@@ -1,8 +1,8 @@
 //! Power goes in an order, by an answer or since there is none.
+use crate::driver_answers::{answered_by, answers_after};
 use crate::outcomes::{Wrong, wrong_end, wrong_starts};
 use crate::part::order_count;
 use crate::sessions::{CUT, Session, play};
-use crate::telling::{answered_by, answers_after};
 use std::alloc::Global;
 use std::test::Fail;
 

@@ -13,6 +13,8 @@ mod checklists;
 #[cfg(test)]
 mod cuts;
 #[cfg(test)]
+mod driver_answers;
+#[cfg(test)]
 mod files_in_want;
 #[cfg(test)]
 mod growths;
@@ -34,5 +36,3 @@ mod sessions;
 mod starts;
 #[cfg(test)]
 mod streams;
-#[cfg(test)]
-mod telling;

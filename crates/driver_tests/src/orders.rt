@@ -1,7 +1,7 @@
 //! Single operations: their orders, and how they end by what is answered.
 ghost use Rattle.std.specs.Prelude.{◌≡◌, [], IfSome};
 
-use crate::telling::{Full, Interrupted, erased_image, told};
+use crate::driver_answers::{Full, Interrupted, erased_image, told};
 use flash_model::{DevFault, Flash, PageState};
 use remote_flash::ToldFlash;
 use std::alloc::Global;

@@ -1,7 +1,7 @@
 //! What a session has to come to, and what the next start has to find.
+use crate::driver_answers::told;
 use crate::part::{LEFT, Leaves, replay};
 use crate::sessions::{DONE, Session, image_shown, replies};
-use crate::telling::told;
 use remote_flash::ToldFlash;
 use std::alloc::Global;
 use std::test::Fail;

@@ -1,7 +1,7 @@
 //! A script by the call of the program: on a part that is formatted first, and where the driver tells none.
+use crate::driver_answers::{all_done, erased_image, told};
 use crate::part::{Leaves, order_count, replay};
 use crate::sessions::{DONE, SCRIPT};
-use crate::telling::{all_done, erased_image, told};
 use flash_image::ImageFault;
 use fs_types::Fault;
 use remote_flash::{LONGEST_IMAGE, StartFault, ToldFlash};

@@ -1,7 +1,7 @@
 //! A session: a script over a driver that tells what its part holds, and answers its orders from a list.
 ghost use Rattle.std.specs.Prelude.{◌≡◌, [], IfSome};
 
-use crate::telling::told;
+use crate::driver_answers::told;
 use flash_image::encode;
 use flash_model::{Flash, Geometry, PageState};
 use flash_simulation::SimFlash;

@@ -1,5 +1,5 @@
 //! What a driver tells at the start, whole and not.
-use crate::telling::{erased_image, told};
+use crate::driver_answers::{erased_image, told};
 use flash_image::ImageFault;
 use flash_model::{Flash, Geometry};
 use remote_flash::{LONGEST_IMAGE, StartFault, ToldFlash};

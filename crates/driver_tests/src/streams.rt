@@ -1,9 +1,9 @@
 //! Streams that break at each byte.
 use crate::cuts::wrong_cut;
+use crate::driver_answers::{Broken, Full, all_done, answers_after, told};
 use crate::outcomes::{Wrong, wrong_end};
 use crate::part::order_count;
 use crate::sessions::{CUT, ORDERS, Session, formatted_image, play_over, run};
-use crate::telling::{Broken, Full, all_done, answers_after, told};
 use remote_flash::{StartFault, ToldFlash};
 use std::alloc::Global;
 use std::test::Fail;

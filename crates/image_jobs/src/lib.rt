@@ -6,7 +6,7 @@
 mod failure;
 mod image_bytes;
 mod images;
-mod laws;
+mod laws_of_reads;
 mod saved_bytes;
 mod source_fault;
 
@@ -16,6 +16,6 @@ pub use images::{
     check_image, flash_of, format_image, formatted_flash, load, look_at_image, run_image,
     save_changed, save_image,
 };
-pub use laws::image_laws;
+pub use laws_of_reads::image_laws;
 pub use saved_bytes::{save_bytes, spare};
 pub use source_fault::SourceFault;

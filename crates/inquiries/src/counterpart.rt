@@ -7,7 +7,7 @@ ghost use Rattle.inquiries.specs.Counterparts.{counterpart_of, is_missing, stat_
 ghost use Rattle.inquiries.specs.Readings.{shown, IsUnchanged, Meets};
 
 use crate::items::Item;
-use crate::reading::stat_at;
+use crate::reading_calls::stat_at;
 use flash_model::Flash;
 use fs_types::{Fault, Path, Stat, View};
 use undofs::Fs;

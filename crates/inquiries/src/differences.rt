@@ -22,7 +22,7 @@ use crate::items::Item;
 use crate::path_room::are_paths_short;
 use crate::printing::{Side, print_change, print_marked};
 use crate::pruned::differing_items;
-use crate::reading::{check_view, read_file, show_same, size_of_tree};
+use crate::reading_calls::{check_view, read_file, show_same, size_of_tree};
 use crate::tell_fault::{MAX_LINES, TellFault};
 use flash_model::Flash;
 use fs_types::{Bytes, Fault, Path, View};

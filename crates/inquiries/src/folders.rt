@@ -13,7 +13,7 @@ ghost use Rattle.inquiries.specs.declared.tell_fault.TheConstants.{MAX_LINES};
 
 use crate::items::{Item, add_items};
 use crate::path_room::are_paths_short;
-use crate::reading::size_of_tree;
+use crate::reading_calls::size_of_tree;
 use crate::tell_fault::{MAX_LINES, TellFault};
 use flash_model::Flash;
 use fs_types::{Fault, MAX_NAMES, Path, View};

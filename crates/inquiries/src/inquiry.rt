@@ -17,7 +17,7 @@ use crate::listed::tell_entries;
 use crate::path_history::tell_path_history;
 use crate::path_room::are_paths_short;
 use crate::printing::lines_of;
-use crate::reading::{read_file, size_of_tree};
+use crate::reading_calls::{read_file, size_of_tree};
 use crate::tell_fault::{MAX_LINES, TellFault};
 use flash_model::Flash;
 use fs_types::{Bytes, Fault, Path, View};

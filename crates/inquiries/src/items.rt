@@ -6,7 +6,7 @@ ghost use Rattle.history_machine.specs.Machine.{view_tree};
 ghost use Rattle.inquiries.specs.Items.{items_below, items_of, levels_below, IsDirectoryOf};
 ghost use Rattle.inquiries.specs.Readings.{shown, IsUnchanged, Fails, Meets};
 
-use crate::reading::{check_view, entries_at};
+use crate::reading_calls::{check_view, entries_at};
 use flash_model::Flash;
 use fs_types::{Fault, MAX_NAMES, Name, Path, Stat, View};
 use std::alloc::{AllocError, Global};

@@ -14,7 +14,7 @@ mod path_history;
 mod path_room;
 mod printing;
 mod pruned;
-mod reading;
+mod reading_calls;
 mod tell_fault;
 mod versions;
 
@@ -26,5 +26,5 @@ pub use items::Item;
 pub use listing::list;
 pub use printing::print_path;
 pub use pruned::list_differing;
-pub use reading::{read_file, stat_at};
+pub use reading_calls::{read_file, stat_at};
 pub use tell_fault::{MAX_LINES, MAX_PATH_BYTES, TellFault};

@@ -9,7 +9,7 @@ ghost use Rattle.inquiries.specs.Readings.{shown, IsUnchanged, Fails};
 use crate::folders::list_below;
 use crate::items::Item;
 use crate::printing::lines_of;
-use crate::reading::stat_at;
+use crate::reading_calls::stat_at;
 use flash_model::Flash;
 use fs_types::{Bytes, Fault, Path, Stat, View};
 use std::alloc::{AllocError, Global};

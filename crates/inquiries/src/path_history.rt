@@ -16,7 +16,7 @@ ghost use Rattle.inquiries.specs.declared.tell_fault.TheConstants.{MAX_LINES};
 use crate::counterpart::{Counterpart, counterpart_of, stat_if_there};
 use crate::differences::{differ_below, has_other_bytes};
 use crate::printing::{print_state, print_view};
-use crate::reading::{kept_trees, show_same, size_of_tree};
+use crate::reading_calls::{kept_trees, show_same, size_of_tree};
 use crate::tell_fault::{MAX_LINES, TellFault};
 use flash_model::Flash;
 use fs_types::{Bytes, CpName, Fault, Path, Stat, View};

@@ -10,7 +10,7 @@ ghost use Rattle.inquiries.specs.Readings.{shown, IsUnchanged, Meets};
 ghost use Rattle.inquiries.specs.declared.path_room.TheConstants.{SURE_ENTRIES};
 
 use crate::items::{child_of, levels_below};
-use crate::reading::entries_at;
+use crate::reading_calls::entries_at;
 use crate::tell_fault::MAX_PATH_BYTES;
 use flash_model::Flash;
 use fs_types::{Fault, MAX_NAMES, Name, Path, View};

@@ -10,7 +10,7 @@ ghost use Rattle.inquiries.specs.Readings.{shown, IsUnchanged, Meets};
 
 use crate::folders::check_small;
 use crate::items::Item;
-use crate::reading::stat_at;
+use crate::reading_calls::stat_at;
 use crate::tell_fault::TellFault;
 use flash_model::Flash;
 use fs_types::{Fault, Path, Sequence, View};

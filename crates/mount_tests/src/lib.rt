@@ -7,11 +7,11 @@ mod cleaned;
 #[cfg(test)]
 mod counted;
 #[cfg(test)]
+mod files_in_one_call;
+#[cfg(test)]
 mod flashes;
 #[cfg(test)]
 mod formats;
-#[cfg(test)]
-mod many_files;
 #[cfg(test)]
 mod nor_reads;
 #[cfg(test)]

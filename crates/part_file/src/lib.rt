@@ -6,15 +6,15 @@
 #![tactic(auto)]
 
 mod file_driver;
-mod laws;
+mod laws_of_parts;
+mod part_contents;
 mod part_file;
 mod part_flash;
 mod places;
-mod reading;
 mod spelling;
 
-pub use laws::round_trip_law;
+pub use laws_of_parts::round_trip_law;
+pub use part_contents::flash_of_part;
 pub use part_file::PartFault;
 pub use part_flash::{PartFlash, RefusedPart};
-pub use reading::flash_of_part;
 pub use spelling::spelled_part;

@@ -6,8 +6,8 @@ ghost use Rattle.part_file.specs.Parts.{backing_of, driven_part, sizes_driven, i
 ghost use Rattle.part_file.specs.Props.{held-prop};
 
 use crate::file_driver::FileDriver;
+use crate::part_contents::flash_of_part;
 use crate::part_file::{PartFault, PartFile};
-use crate::reading::flash_of_part;
 use flash_model::{DevFault, Flash, Geometry, PageState};
 use host_files::Backing;
 use mirrored_flash::Mirror;

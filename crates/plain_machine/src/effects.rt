@@ -12,8 +12,8 @@ ghost use Rattle.plain_machine.specs.Plain.{machine_of_tree, ftruncates, file_of
 ghost use Rattle.history_machine.specs.Machine.{machine_with};
 
 use crate::groups::{begin, end, working_tree};
-use crate::many_files::{files_change, write_files};
 use crate::replies::bytes_at;
+use crate::written_files::{files_change, write_files};
 use bitflags::Flags;
 use fs_types::{Bytes, Call, CpName, Fault, Group, OpenFlags, Path};
 use history::History;

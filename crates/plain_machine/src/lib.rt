@@ -5,12 +5,12 @@ mod effects;
 mod entries;
 mod groups;
 mod machine;
-mod many_files;
 mod needs;
 mod parts;
 mod refusals;
 mod replies;
 mod space;
+mod written_files;
 
 pub use machine::PlainMachine;
 pub use space::Space;

@@ -7,8 +7,8 @@ ghost use Rattle.history_machine.specs.Machine.{machine_with};
 ghost use Rattle.fs_types.specs.declared.call.Call.{Call};
 
 use crate::groups::working_tree;
-use crate::many_files::changed_bodies;
 use crate::replies::bytes_at;
+use crate::written_files::changed_bodies;
 use fs_types::{Call, Group, NODE_ENTRIES, Name, Path};
 use history::History;
 use memory_trees::Tree;

@@ -11,7 +11,7 @@ ghost use Rattle.plain_machine.specs.Plain.{machine_of_tree, machine_in, range_r
 ghost use Rattle.history_machine.specs.Machine.{machine_with};
 
 use crate::groups::{seen_tree, working_tree};
-use crate::many_files::write_files_refusal;
+use crate::written_files::write_files_refusal;
 use bitflags::Flags;
 use fs_types::{Bytes, Call, Fault, Group, MAX_FILE_BYTES, Name, OpenFlags, Path, View};
 use history::History;

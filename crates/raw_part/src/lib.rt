@@ -4,12 +4,12 @@
 //! tell which.
 #![tactic(auto)]
 
-mod laws;
+mod laws_of_raw_parts;
 mod part_layout;
-mod reading;
+mod raw_flash;
 mod spelling;
 
-pub use laws::{part_law, round_trip_law};
+pub use laws_of_raw_parts::{part_law, round_trip_law};
 pub use part_layout::PartLayout;
-pub use reading::flash_of_raw;
+pub use raw_flash::flash_of_raw;
 pub use spelling::raw_of;

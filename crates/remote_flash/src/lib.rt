@@ -7,10 +7,10 @@
 #![tactic(auto)]
 
 mod driver;
-mod laws;
+mod laws_of_orders;
 mod start;
 mod told_flash;
 
-pub use laws::order_laws;
+pub use laws_of_orders::order_laws;
 pub use start::{LONGEST_IMAGE, StartFault};
 pub use told_flash::ToldFlash;

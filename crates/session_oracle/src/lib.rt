@@ -6,7 +6,6 @@
 mod beginnings;
 mod causes;
 mod images;
-mod many_files;
 mod needs;
 mod oracles;
 mod replays;
@@ -14,6 +13,7 @@ mod scripts;
 mod shows;
 mod texts;
 mod trees;
+mod write_files_line;
 
 pub use beginnings::Beginning;
 pub use causes::Causes;

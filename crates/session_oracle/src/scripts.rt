@@ -1,5 +1,5 @@
 //! Scripts as files give them: a line of settings each, then lines after `> ` and replies after `< `.
-use crate::many_files::write_files_of;
+use crate::write_files_line::write_files_of;
 use flash_model::Geometry;
 use fs_types::{Event, Fault};
 use script::{DEFAULT_SIZES, DEFAULT_VERSIONS, Line, read_line};

@@ -4,7 +4,7 @@ ghost use Rattle.inquiries.specs.Readings.{shown, IsUnchanged};
 ghost use Rattle.updates.specs.Asked.{TellsUpdate, TellsSecond, SecondCause, UpdateCause};
 
 use crate::manner::Manner;
-use crate::telling::tell_update;
+use crate::update_scripts::tell_update;
 use flash_model::Flash;
 use fs_types::Bytes;
 use inquiries::{AskFault, TellFault};

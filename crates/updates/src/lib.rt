@@ -4,17 +4,17 @@
 mod asking;
 mod changes;
 mod edits;
-mod laws;
+mod laws_of_paths;
 mod lines;
 mod listed;
 mod manner;
 mod patches;
 mod pieces;
-mod telling;
+mod update_scripts;
 
 pub use asking::ask_update;
 pub use changes::list_changes;
-pub use laws::paths_law;
+pub use laws_of_paths::paths_law;
 pub use listed::list_changes_at;
 pub use manner::Manner;
-pub use telling::tell_update;
+pub use update_scripts::tell_update;

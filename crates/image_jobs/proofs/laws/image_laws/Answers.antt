@@ -1,5 +1,0 @@
-use Rattle.image_jobs.proofs.ImageLemmas.{image_read}
-use Rattle.image_jobs.proofs.laws.image_laws.Goals as goal
-
-pub returns : goal.returns
-returns c = image_read

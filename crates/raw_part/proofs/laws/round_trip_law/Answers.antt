@@ -1,5 +1,0 @@
-use Rattle.raw_part.proofs.RoundTrips.{round_trip}
-use Rattle.raw_part.proofs.laws.round_trip_law.Goals as goal
-
-pub returns : goal.returns
-returns c = round_trip

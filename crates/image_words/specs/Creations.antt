@@ -9,7 +9,7 @@ use Rattle.host_files.specs.Files.{Held, Readings, readings_of}
 use Rattle.host_files.specs.Sources.{Found}
 use Rattle.image_jobs.specs.Images.{IsUnclaimed, IsImageFile, Unsaved, FormatFailure}
 use Rattle.image_jobs.specs.declared.failure.Failure.{Failure}
-use Rattle.image_sizes.specs.Blocks.{blocks_for}
+use Rattle.image_sizes.specs.FolderSizes.{blocks_for}
 use Rattle.put_jobs.specs.Places.{AreOthers}
 use Rattle.put_jobs.specs.Puts.{PutsBy, PutCause, FoundCause, is_no_folder, left_in}
 use Rattle.script_runs.specs.Flashes.{IsMade}

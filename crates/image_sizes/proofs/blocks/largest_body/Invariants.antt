@@ -1,7 +1,0 @@
-use Rattle.std.proofs.Common.{◌≡◌, take, map}
-use Rattle.host_files.specs.Sources.{source_found}
-use Rattle.image_sizes.specs.Blocks as spec
-use Rattle.image_sizes.proofs.blocks.largest_body.Given as goal
-
-abbrev pub invariant-loop-source : goal.invariant-loop-source
-invariant-loop-source l = l.most ≡ spec.greatest (λ found. spec.body_of l.capacity found.kind) (map source_found (take l.source-index l.sources))

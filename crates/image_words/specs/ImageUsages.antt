@@ -12,11 +12,11 @@ use Rattle.image_jobs.specs.declared.failure.Failure.{Failure}
 use Rattle.inquiries.specs.Printed.{path_text}
 use Rattle.inquiry_jobs.specs.Asking.{IsMisspelled}
 use Rattle.script_runs.specs.declared.scripts.Refusal.{Refusal}
-use Rattle.space_usage.specs.declared.usage.Usage.{Usage}
-use Rattle.space_usage.specs.declared.usage_list.EntryUsage.{EntryUsage}
-use Rattle.space_usage.specs.declared.usage_list.UsageList.{UsageList}
-use Rattle.usage_reports.specs.Reports.{IsUsageReport, ReportCause}
-use Rattle.usage_reports.specs.declared.reports.ReportFault.{ReportFault}
+use Rattle.block_usage.specs.declared.usage.Usage.{Usage}
+use Rattle.block_usage.specs.declared.usage_list.EntryUsage.{EntryUsage}
+use Rattle.block_usage.specs.declared.usage_list.UsageList.{UsageList}
+use Rattle.block_usage.specs.UsageReports.{IsUsageReport, ReportCause}
+use Rattle.block_usage.specs.declared.usage_reports.ReportFault.{ReportFault}
 
 -- how many blocks are reached, and how many of these alone
 abbrev pub counts_text : Usage → List ℕ

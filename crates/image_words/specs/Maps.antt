@@ -3,11 +3,11 @@ use Rattle.std.specs.Prelude.{◌≡◌, ◌⊎◌, ℕ, false, Option, Result, 
 use Rattle.std.specs.Io.KnownBytes.{Appends}
 use Rattle.flash_simulation.specs.Simulation.{device_of}
 use Rattle.flash_simulation.specs.declared.sim_flash.SimFlash.{SimFlash}
-use Rattle.block_maps.specs.Maps.{IsMap, MapCause}
-use Rattle.block_maps.specs.HtmlPages.{map_page}
-use Rattle.block_maps.specs.Printed.{map_text}
-use Rattle.block_maps.specs.declared.block_kind.BlockKind.{BlockKind}
-use Rattle.block_maps.specs.declared.maps.MapFault.{MapFault}
+use Rattle.block_usage.specs.Maps.{IsMap, MapCause}
+use Rattle.block_usage.specs.HtmlPages.{map_page}
+use Rattle.block_usage.specs.MapTexts.{map_text}
+use Rattle.block_usage.specs.declared.block_kind.BlockKind.{BlockKind}
+use Rattle.block_usage.specs.declared.maps.MapFault.{MapFault}
 use Rattle.host_files.specs.Files.{Held, takes_away}
 use Rattle.image_jobs.specs.Failures.{of_system, of_refusal}
 use Rattle.image_jobs.specs.Images.{IsSpelledFlash, IsUnclaimed, LoadCause, Unsaved}

@@ -3,7 +3,7 @@ ghost use Rattle.std.specs.Prelude.{◌≡◌, IfOk, IfErr, OnOk};
 ghost use Rattle.host_files.specs.Files.{KeepsOthers};
 ghost use Rattle.image_words.specs.Maps.{AreKindsOf, IsMapPage, IsMapText, MapEnds, MapPageEnds, UnmappedCause, of_map};
 
-use block_maps::{BlockKind, MapFault, map_blocks, map_page, map_text};
+use block_usage::{BlockKind, MapFault, map_blocks, map_page, map_text};
 use host_files::ImageFiles;
 use image_jobs::{Failure, load, save_bytes, spare};
 use script::write_out;

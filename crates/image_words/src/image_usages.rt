@@ -4,16 +4,15 @@ ghost use Rattle.inquiry_jobs.specs.Asking.{place_spelled};
 ghost use Rattle.image_words.specs.ImageUsages.{AreUsagesIn, IsUsageText, UncountedCause, UsageEnds, UntoldCause, of_report};
 
 use crate::usage_lines::usage_text;
+use block_usage::{ReportFault, UsageList, report_usages};
 use fs_types::{Path, View};
 use host_files::ImageFiles;
 use image_jobs::{Failure, load};
 use inquiry_jobs::place_of_words;
 use script::write_out;
 use script_runs::Refusal;
-use space_usage::UsageList;
 use std::alloc::Global;
 use std::io::Write;
-use usage_reports::{ReportFault, report_usages};
 
 /// Writes how many blocks each entry of a directory of an image reaches, or a file, and how many of these no
 /// other version and no checkpoint reaches. Without a path it is the root; a word alone that begins with `@`

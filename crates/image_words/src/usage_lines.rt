@@ -3,9 +3,9 @@ ghost use Rattle.std.specs.Prelude.{◌≡◌, ◌++◌, codes, IfOk, OnOk};
 ghost use Rattle.std.specs.List.{flat_map};
 ghost use Rattle.image_words.specs.ImageUsages.{counts_text, usage_line, usage_text};
 
+use block_usage::{EntryUsage, Usage, UsageList};
 use inquiries::print_path;
 use script::print_number;
-use space_usage::{EntryUsage, Usage, UsageList};
 use std::alloc::{AllocError, Global};
 
 /// A line for each entry, and one for all together.

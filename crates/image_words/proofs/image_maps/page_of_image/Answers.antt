@@ -1,5 +1,5 @@
 use Rattle.std.proofs.Common.{inr, refl, ap, ◌∙◌}
-use Rattle.block_maps.specs.HtmlPages.{map_page}
+use Rattle.block_usage.specs.HtmlPages.{map_page}
 use Rattle.image_words.proofs.image_maps.page_of_image.Goals as goal
 
 pub returns-in-Ok-map_page-clause-ok : goal.returns-in-Ok-map_page-clause-ok

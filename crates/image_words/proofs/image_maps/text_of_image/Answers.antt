@@ -1,5 +1,5 @@
 use Rattle.std.proofs.Common.{inr, refl, ap, ◌∙◌}
-use Rattle.block_maps.specs.Printed.{map_text}
+use Rattle.block_usage.specs.MapTexts.{map_text}
 use Rattle.image_words.proofs.image_maps.text_of_image.Goals as goal
 
 pub returns-in-Ok-map_text-clause-ok : goal.returns-in-Ok-map_text-clause-ok

@@ -1,0 +1,11 @@
+pub mod KindLemmas
+pub mod NewestRecordLemmas
+pub mod MapLemmas
+pub mod ReportLemmas
+pub mod RootLemmas
+pub mod BodyBlocks
+pub mod UsageCauses
+pub mod Fronts
+pub mod UsageLists
+pub mod Marks
+pub mod Places

@@ -1,2 +1,0 @@
-pub mod OtherRoots
-pub mod Reports

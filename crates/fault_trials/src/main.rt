@@ -2,9 +2,24 @@
 //! `cuts/FILE` or `failures/FILE`. What goes wrong is told, and then the status is 1.
 #![tactic(auto)]
 
+mod cut_runs;
+mod failed_reads;
+mod failed_writes;
+mod failing_runs;
+mod newest;
+mod operation_failures;
+mod pairs;
+mod planned;
+mod power_cuts;
+mod replies;
+mod servers;
+mod sessions;
+mod sweeps;
+mod trials;
+
+use crate::operation_failures::fail_operations;
+use crate::power_cuts::cut_power;
 use anyhow::{Result, bail};
-use cuts::cut_power;
-use failures::fail_operations;
 use std::process::ExitCode;
 use std::rt::Files;
 

@@ -1,6 +1,6 @@
 //! Two programs are cut: one of a script, and one of a change and a sync after the restart.
+use crate::cut_runs::Run;
 use crate::planned::Cut;
-use crate::runs::Run;
 use crate::servers::Server;
 use crate::sweeps::Tally;
 use crate::trials::Trial;

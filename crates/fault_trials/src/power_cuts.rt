@@ -2,27 +2,15 @@
 //! cut are left out; a restart, and what is done from there, follow. The oracle of sessions judges
 //! each answer, and all that is shown after each restart. Two servers that are wrong on purpose have to
 //! be seen, too.
-#![tactic(auto)]
-
-mod newest;
-mod pairs;
-mod planned;
-mod replies;
-mod runs;
-mod servers;
-mod sessions;
-mod sweeps;
-mod trials;
-
+use crate::pairs::cut_twice;
+use crate::replies::count_wrong;
+use crate::servers::Server;
+use crate::sweeps::{Tally, cut_each};
+use crate::trials::Trial;
 use anyhow::{Context, Result};
-use pairs::cut_twice;
-use replies::count_wrong;
-use servers::Server;
 use session_oracle::Script;
 use std::fs;
 use std::rt::Files;
-use sweeps::{Tally, cut_each};
-use trials::Trial;
 
 /// Cuts the power in each device operation of the script of a file, and prints how many runs and cuts there
 /// were. A run that is none by the oracle is told, and so is a reply that is not the script's where no cut

@@ -1,5 +1,5 @@
 //! Each program and each erase of a script fails once.
-use crate::runs::{Failure, count, push_line, replies_with};
+use crate::failing_runs::{Failure, count, push_line, replies_with};
 use flash_model::FaultKind;
 use fs_types::Fault;
 use session_oracle::{Script, new_image};

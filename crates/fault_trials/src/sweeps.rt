@@ -1,6 +1,6 @@
 //! Each operation of a script is cut once in each way.
+use crate::cut_runs::Run;
 use crate::planned::{Cut, count_of};
-use crate::runs::Run;
 use crate::servers::Server;
 use crate::trials::Trial;
 use flash_model::{Counters, FaultKind};

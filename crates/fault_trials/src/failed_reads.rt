@@ -1,5 +1,5 @@
 //! Each read of a script fails once.
-use crate::runs::{Failure, count, push_line, replies_at_last, replies_with};
+use crate::failing_runs::{Failure, count, push_line, replies_at_last, replies_with};
 use flash_model::FaultKind;
 use fs_types::Fault;
 use session_oracle::{Script, new_image};

@@ -2,18 +2,12 @@
 //! script or `err EIO 23`, and then the same line once more as in the script; a mount that failed is
 //! asked again. Where a program or an erase fails, all is answered as if none had, but for the
 //! numbers of `df`; the faults of a script itself are left out there.
-#![tactic(auto)]
-
-mod reads;
-mod runs;
-mod writes;
-
+use crate::failed_reads::{ReadTally, fail_reads};
+use crate::failed_writes::{WriteTally, fail_writes};
 use anyhow::{Context, Result};
-use reads::{ReadTally, fail_reads};
 use session_oracle::Script;
 use std::fs;
 use std::rt::Files;
-use writes::{WriteTally, fail_writes};
 
 /// Fails each device operation of the script of a file once, and prints how many failed. A run that is
 /// answered otherwise is told. Answers how many runs went wrong.

@@ -4,7 +4,7 @@ use Rattle.std.specs.Prelude.{◌≢◌, All, find}
 use Rattle.std.proofs.lemmas.List.Elements.{All-nil, All-cons}
 use Rattle.std.specs.List.{flat_map}
 use Rattle.fs_types.specs.Names.{Path}
-use Rattle.host_files.specs.Files.{Held}
+use Rattle.host_interface.specs.Files.{Held}
 use Rattle.image_jobs.specs.declared.failure.Failure.{Failure}
 use Rattle.inquiry_jobs.specs.PathWords.{path_spelled}
 use Rattle.put_jobs.specs.Groups.{EventsEnd}

@@ -10,7 +10,7 @@ use crate::unarchived::Unarchived;
 use crate::unwritten::Unwritten;
 use flash_model::Flash;
 use fs_types::{Fault, View};
-use host_files::ImageFiles;
+use host_interface::ImageFiles;
 use image_jobs::{Failure, load};
 use inquiry_jobs::view_of_word;
 use job_messages::tell_refusal;

@@ -1,6 +1,6 @@
 //! An archive that is put into an image.
 ghost use Rattle.std.specs.Prelude.{◌≡◌, ◌≤◌, ℕ, Option, List, All, true, vec_len, IfOk, IfErr, OnOk};
-ghost use Rattle.host_files.specs.Files.{KeepsOthers, KeepsOrSyncs, ReadsClaimed};
+ghost use Rattle.host_interface.specs.Files.{KeepsOthers, KeepsOrSyncs, ReadsClaimed};
 ghost use Rattle.image_jobs.specs.Images.{host_at};
 ghost use Rattle.put_jobs.specs.Inputs.{IsWholeInput};
 ghost use Rattle.put_lots.specs.Lots.{lots_of};
@@ -10,7 +10,7 @@ ghost use Rattle.archive_jobs.specs.Untars.{of_fault, of_input, is_link, AreLots
 use crate::archive_messages::{tell_left_out, tell_too_deep, tell_unread};
 use archives::{ArchiveEntry, ArchiveFault, lots_of, read_archive, things_below, too_deep};
 use fs_types::{Fault, Path};
-use host_files::ImageFiles;
+use host_interface::ImageFiles;
 use image_jobs::{Failure, SourceFault};
 use put_jobs::{put_lots, read_input, told_path};
 use put_lots::Thing;

@@ -11,7 +11,7 @@ use Rattle.mounting.specs.Saved.{saved_on}
 use Rattle.copies.specs.Causes.{CopyCause}
 use Rattle.copies.specs.Copied.{IsCopied}
 use Rattle.copies.specs.declared.uncopied.Uncopied.{Uncopied}
-use Rattle.host_files.specs.Files.{Held, takes_away}
+use Rattle.host_interface.specs.Files.{Held, takes_away}
 use Rattle.script_runs.specs.Flashes.{IsMade}
 use Rattle.script_runs.specs.Scripts.{IsUnmounted}
 use Rattle.image_jobs.specs.Failures.{of_system}

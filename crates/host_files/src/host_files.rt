@@ -14,15 +14,14 @@ mod replaced;
 mod replacing;
 mod unwritten;
 
-use crate::channels::Channels;
-use crate::folders::Folders;
-use crate::image_files::{FileFault, ImageFiles, MOST_BYTES, UnreadCause, UnwrittenCause};
-use crate::parts::Parts;
-use crate::source::{Source, Sources};
 use claims::Claim;
 use file_replacement::Unreplaced;
 use gathered::Gathered;
 use gathering::gather;
+use host_interface::{
+    Channels, FileFault, Folders, ImageFiles, MOST_BYTES, Parts, Source, Sources, UnreadCause,
+    UnwrittenCause,
+};
 pub use host_part::HostPart;
 use identity::Identity;
 use new_folder::NewFolder;

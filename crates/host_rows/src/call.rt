@@ -1,6 +1,6 @@
 //! A call of the program, and what is wanted of it.
 use anyhow::{Result, bail};
-use host_files::{Channels, Folders, Parts, Sources};
+use host_interface::{Channels, Folders, Parts, Sources};
 use shell::tool;
 use std::alloc::{AllocError, Global};
 

@@ -13,7 +13,7 @@ use Rattle.flash_image.specs.Images.{image_of, IsFault}
 use Rattle.system.specs.Mounts.{IsMountOf}
 use Rattle.system.specs.declared.systems.System.{System}
 use Rattle.image_jobs.specs.Failures.{of_system}
-use Rattle.host_files.specs.Files.{Held, KeepsOrSyncs, AreBytesRead}
+use Rattle.host_interface.specs.Files.{Held, KeepsOrSyncs, AreBytesRead}
 use Rattle.script_runs.specs.Flashes.{IsNewFlash, AreLawful, IsDecoded, IsMade, IsUnformatted}
 use Rattle.image_jobs.specs.Images.{DecodeCause, IsUnclaimed, IsUnread, IsSpelledFlash, LoadCause, IsImageFile, Unsaved, SavesChange, ChangeUnsaved, FaultRead, FormatEnds, FormatFailure, PlaysBy, Plays, host_at, RunEnds, CheckEnds}
 use Rattle.script_runs.specs.Scripts.{streams_at}

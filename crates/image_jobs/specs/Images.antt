@@ -11,10 +11,10 @@ use Rattle.flash_image.specs.Images.{image_of, IsFault, IsFresh}
 use Rattle.system.specs.Mounts.{IsMountOf}
 use Rattle.system.specs.declared.systems.System.{System}
 use Rattle.image_jobs.specs.Failures.{of_script, of_system}
-use Rattle.host_files.specs.Files.{Held}
+use Rattle.host_interface.specs.Files.{Held}
 use Rattle.script_runs.specs.Flashes.{IsNewFlash, IsMade, IsUnformatted}
 use Rattle.script_runs.specs.Scripts.{Streams, streams_at, IsUnmounted, ScriptEnds}
-use Rattle.host_files.specs.declared.image_files.TheConstants.{MOST_BYTES}
+use Rattle.host_interface.specs.declared.image_files.TheConstants.{MOST_BYTES}
 use Rattle.image_jobs.specs.declared.failure.Failure.{Failure}
 use Rattle.script_runs.specs.declared.scripts.ScriptFault.{ScriptFault}
 use Rattle.script_runs.specs.declared.scripts.Stop.{Stop}

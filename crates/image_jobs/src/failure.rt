@@ -2,7 +2,7 @@
 use crate::source_fault::SourceFault;
 use flash_image::ImageFault;
 use fs_types::Fault;
-use host_files::UnreadCause;
+use host_interface::UnreadCause;
 use part_file::PartFault;
 use script_runs::{Refusal, ScriptFault, Stop};
 use std::error::Error;

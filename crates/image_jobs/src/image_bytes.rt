@@ -1,10 +1,10 @@
 //! The bytes of an image, claimed, read and written.
 ghost use Rattle.std.specs.Prelude.{◌≡◌, ◌⊎◌, IfOk, OnOk, IfErr, IfSome};
-ghost use Rattle.host_files.specs.Files.{KeepsOthers, AreBytesRead};
+ghost use Rattle.host_interface.specs.Files.{KeepsOthers, AreBytesRead};
 ghost use Rattle.image_jobs.specs.Images.{IsUnclaimed, IsUnread, Unsaved};
 
 use crate::failure::Failure;
-use host_files::{FileFault, ImageFiles};
+use host_interface::{FileFault, ImageFiles};
 use std::alloc::Global;
 
 /// Claims a name for reading and writing together.

@@ -1,11 +1,11 @@
 //! Bytes that become a file, beside others that have to stay.
 ghost use Rattle.std.specs.Prelude.{◌≡◌, ◌⊎◌, false, OnOk, IfErr, IfSome};
-ghost use Rattle.host_files.specs.Files.{KeepsOthers, takes_away};
+ghost use Rattle.host_interface.specs.Files.{KeepsOthers, takes_away};
 ghost use Rattle.image_jobs.specs.Images.{IsUnclaimed, Unsaved};
 
 use crate::failure::Failure;
 use crate::image_bytes::{claim, write_image};
-use host_files::{FileFault, ImageFiles, takes_away};
+use host_interface::{FileFault, ImageFiles, takes_away};
 use std::alloc::Global;
 
 /// Refused where to replace the file of a name takes the one of another name away.

@@ -4,8 +4,8 @@ use Rattle.std.proofs.lemmas.List.{map_more}
 use Rattle.std.proofs.lemmas.List.Recursion.{max_push}
 use Rattle.std.proofs.lemmas.List.Sums.{sum_by_push}
 use Rattle.std.specs.List.{sum_by}
-use Rattle.host_files.specs.Sources.{Found, source_found}
-use Rattle.host_files.specs.declared.source.Source.{Source}
+use Rattle.host_interface.specs.Sources.{Found, source_found}
+use Rattle.host_interface.specs.declared.source.Source.{Source}
 use Rattle.image_sizes.specs.FolderSizes.{greatest}
 
 found_more : (sources : List Source) (i : ℕ) (source : Source) → i < length sources → source ≡ get_or sources i source

@@ -7,8 +7,8 @@ use Rattle.fs_types.specs.declared.limits.TheConstants.{ANCHORS, NODE_ENTRIES}
 use Rattle.node_format.specs.Headers.{body_header}
 use Rattle.flash_model.specs.Geometry.{block_bytes}
 use Rattle.flash_model.specs.declared.geometry.Geometry.{Geometry}
-use Rattle.host_files.specs.Sources.{Found}
-use Rattle.host_files.specs.declared.source.SourceKind.{SourceKind}
+use Rattle.host_interface.specs.Sources.{Found}
+use Rattle.host_interface.specs.declared.source.SourceKind.{SourceKind}
 
 -- how many bytes of a file a node has room for; one where the sizes are not lawful
 abbrev pub capacity_of : Geometry → ℕ

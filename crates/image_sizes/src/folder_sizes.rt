@@ -3,12 +3,12 @@
 ghost use Rattle.std.specs.Prelude.{◌≡◌, ◌<◌, ◌≤◌, ◌==◌, ℕ, min, map, length, count_by};
 ghost use Rattle.std.specs.List.{sum_by};
 ghost use Rattle.flash_model.specs.Geometry.{IsGeometry};
-ghost use Rattle.host_files.specs.Sources.{source_found};
+ghost use Rattle.host_interface.specs.Sources.{source_found};
 ghost use Rattle.image_sizes.specs.FolderSizes as spec;
 
 use flash_model::Geometry;
 use fs_types::{ANCHORS, NODE_ENTRIES};
-use host_files::{Source, SourceKind};
+use host_interface::{Source, SourceKind};
 use node_format::BODY_HEADER;
 
 /// Bytes of the largest flash.

@@ -14,8 +14,8 @@ use Rattle.flash_model.specs.Device.{Device}
 use Rattle.flash_model.specs.declared.flash.Flash.{Ghosts}
 use Rattle.history_machine.specs.History.{view_refusal}
 use Rattle.history_machine.specs.Machine.{Machine, refusal, view_tree, stat_of}
-use Rattle.host_files.specs.Files.{Held, new_name}
-use Rattle.host_files.specs.Folders.{Made, KeepsOutside, KeepsBeside}
+use Rattle.host_interface.specs.Files.{Held, new_name}
+use Rattle.host_interface.specs.Folders.{Made, KeepsOutside, KeepsBeside}
 use Rattle.inquiries.specs.Folders.{Unlisted}
 use Rattle.inquiries.specs.Items.{IsDirectoryOf, IsFileOf}
 use Rattle.inquiries.specs.Readings.{IsUnchanged, Meets}

@@ -4,8 +4,8 @@ use Rattle.flash_simulation.specs.Simulation.{device_of}
 use Rattle.flash_simulation.specs.declared.sim_flash.SimFlash.{SimFlash}
 use Rattle.flash_image.specs.Images.{image_of}
 use Rattle.fs_types.specs.Names.{Path}
-use Rattle.host_files.specs.Files.{Held, readings_of}
-use Rattle.host_files.specs.Sources.{Found, source_found}
+use Rattle.host_interface.specs.Files.{Held, readings_of}
+use Rattle.host_interface.specs.Sources.{Found, source_found}
 use Rattle.image_jobs.specs.Images.{IsUnclaimed, IsImageFile, Unsaved, FormatFailure}
 use Rattle.image_jobs.specs.declared.failure.Failure.{Failure}
 use Rattle.put_jobs.specs.Batches.{IsBatch}

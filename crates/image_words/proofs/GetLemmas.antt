@@ -5,8 +5,8 @@ use Rattle.fs_types.specs.Names.{Path}
 use Rattle.fs_types.specs.declared.call.View.{View}
 use Rattle.flash_model.specs.Device.{Device}
 use Rattle.flash_simulation.specs.Simulation.{device_of}
-use Rattle.host_files.specs.Files.{Held, KeepsOthers}
-use Rattle.host_files.specs.Folders.{Made}
+use Rattle.host_interface.specs.Files.{Held, KeepsOthers}
+use Rattle.host_interface.specs.Folders.{Made}
 use Rattle.history_machine.specs.Machine.{Machine}
 use Rattle.working_state.specs.Seen.{machine_on}
 use Rattle.image_words.specs.PathCopies.{IsCopy, IsCopiedOut}

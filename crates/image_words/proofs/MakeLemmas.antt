@@ -11,8 +11,8 @@ use Rattle.plain_trees.specs.Trees.{Tree, bytes_of, bytes_of_file}
 use Rattle.flash_model.specs.Device.{Device}
 use Rattle.flash_model.specs.declared.flash.Flash.{Ghosts}
 use Rattle.history_machine.specs.Machine.{Machine, view_tree, stat_of}
-use Rattle.host_files.specs.Files.{Held, new_name}
-use Rattle.host_files.specs.Folders.{Made, KeepsOutside, KeepsBeside}
+use Rattle.host_interface.specs.Files.{Held, new_name}
+use Rattle.host_interface.specs.Folders.{Made, KeepsOutside, KeepsBeside}
 use Rattle.undofs.specs.declared.fs.Fs.{Fs}
 use Rattle.inquiries.specs.Items.{IsItemOf}
 use Rattle.inquiries.specs.Readings.{IsUnchanged, Meets}

@@ -1,6 +1,6 @@
 -- A page that is put into a file.
 use Rattle.std.proofs.Common.{◌≡◌, ◌⊎◌, ℕ, false, Result, Ok, Err, List, IfErr, IfSome, OnOk, inl, inr, sym, subst}
-use Rattle.host_files.specs.Files.{Held, takes_away}
+use Rattle.host_interface.specs.Files.{Held, takes_away}
 use Rattle.image_jobs.specs.Images.{IsUnclaimed, Unsaved}
 use Rattle.image_jobs.specs.declared.failure.Failure.{Failure}
 use Rattle.image_words.specs.Maps.{IsMapPage, MapPageEnds}

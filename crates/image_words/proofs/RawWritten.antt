@@ -2,7 +2,7 @@
 use Rattle.std.proofs.Common.{◌≡◌, ◌∙◌, ◌⊎◌, ℕ, Option, Some, None, Result, Ok, Err, List, length, take, IfErr, OnOk, IfSome, ap, inl, inr, refl, subst, sym}
 use Rattle.fs_types.specs.declared.fault.Fault.{Fault}
 use Rattle.flash_model.specs.Device.{Device}
-use Rattle.host_files.specs.declared.image_files.TheConstants.{MOST_BYTES}
+use Rattle.host_interface.specs.declared.image_files.TheConstants.{MOST_BYTES}
 use Rattle.image_jobs.specs.Failures.{of_system}
 use Rattle.image_jobs.specs.Images.{Unsaved}
 use Rattle.image_jobs.specs.declared.failure.Failure.{Failure}

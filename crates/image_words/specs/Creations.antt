@@ -5,8 +5,8 @@ use Rattle.flash_model.specs.declared.geometry.Geometry.{Geometry}
 use Rattle.flash_simulation.specs.declared.sim_flash.SimFlash.{SimFlash}
 use Rattle.flash_image.specs.Images.{image_of}
 use Rattle.fs_types.specs.Names.{Path}
-use Rattle.host_files.specs.Files.{Held, Readings, readings_of}
-use Rattle.host_files.specs.Sources.{Found}
+use Rattle.host_interface.specs.Files.{Held, Readings, readings_of}
+use Rattle.host_interface.specs.Sources.{Found}
 use Rattle.image_jobs.specs.Images.{IsUnclaimed, IsImageFile, Unsaved, FormatFailure}
 use Rattle.image_jobs.specs.declared.failure.Failure.{Failure}
 use Rattle.image_sizes.specs.FolderSizes.{blocks_for}

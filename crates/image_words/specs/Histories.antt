@@ -5,7 +5,7 @@ use Rattle.fs_types.specs.declared.limits.TheConstants.{MAX_VERSIONS}
 use Rattle.command_line.specs.declared.tasks.HistoryCall.{HistoryCall}
 use Rattle.script.specs.Lines.{line_of}
 use Rattle.script.specs.declared.line.Line.{Line}
-use Rattle.host_files.specs.Files.{Held}
+use Rattle.host_interface.specs.Files.{Held}
 use Rattle.script_runs.specs.declared.scripts.Refusal.{Refusal}
 use Rattle.image_jobs.specs.Failures.{of_refusal}
 use Rattle.image_jobs.specs.Images.{RunEnds, host_at}

@@ -6,8 +6,8 @@ use Rattle.fs_types.specs.declared.call.View.{View}
 use Rattle.flash_model.specs.Device.{Device}
 use Rattle.flash_simulation.specs.Simulation.{device_of}
 use Rattle.flash_simulation.specs.declared.sim_flash.SimFlash.{SimFlash}
-use Rattle.host_files.specs.Files.{Held, KeepsOthers, takes_away}
-use Rattle.host_files.specs.Folders.{Made}
+use Rattle.host_interface.specs.Files.{Held, KeepsOthers, takes_away}
+use Rattle.host_interface.specs.Folders.{Made}
 use Rattle.image_words.specs.PathCopies.{IsCopiedOut, CopyCause}
 use Rattle.image_words.specs.declared.path_copies.Copied.{Copied}
 use Rattle.image_jobs.specs.Images.{IsSpelledFlash, IsUnclaimed, LoadCause, Unsaved}

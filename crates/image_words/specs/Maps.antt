@@ -8,7 +8,7 @@ use Rattle.block_usage.specs.HtmlPages.{map_page}
 use Rattle.block_usage.specs.MapTexts.{map_text}
 use Rattle.block_usage.specs.declared.block_kind.BlockKind.{BlockKind}
 use Rattle.block_usage.specs.declared.maps.MapFault.{MapFault}
-use Rattle.host_files.specs.Files.{Held, takes_away}
+use Rattle.host_interface.specs.Files.{Held, takes_away}
 use Rattle.image_jobs.specs.Failures.{of_system, of_refusal}
 use Rattle.image_jobs.specs.Images.{IsSpelledFlash, IsUnclaimed, LoadCause, Unsaved}
 use Rattle.image_jobs.specs.declared.failure.Failure.{Failure}

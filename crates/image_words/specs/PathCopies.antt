@@ -16,8 +16,8 @@ use Rattle.working_state.specs.Seen.{machine_on}
 use Rattle.system.specs.Mounts.{IsMountOf}
 use Rattle.system.specs.declared.systems.System.{System}
 use Rattle.undofs.specs.Refusals.{RefusesMount}
-use Rattle.host_files.specs.Files.{Held, new_name}
-use Rattle.host_files.specs.Folders.{Made, HoldsMade, KeepsBeside, KeepsOutside}
+use Rattle.host_interface.specs.Files.{Held, new_name}
+use Rattle.host_interface.specs.Folders.{Made, HoldsMade, KeepsBeside, KeepsOutside}
 use Rattle.inquiries.specs.Folders.{IsSmall}
 use Rattle.inquiries.specs.Items.{items_below, IsDirectoryOf}
 use Rattle.inquiries.specs.Inquiries.{inquiry_refusal}

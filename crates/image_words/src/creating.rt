@@ -1,14 +1,14 @@
 //! An image is made of a folder of the host.
 ghost use Rattle.std.specs.Prelude.{OnOk, IfOk, IfErr, map};
-ghost use Rattle.host_files.specs.Files.{KeepsOthers, ReadsBeside, readings_of};
-ghost use Rattle.host_files.specs.Sources.{source_found};
+ghost use Rattle.host_interface.specs.Files.{KeepsOthers, ReadsBeside, readings_of};
+ghost use Rattle.host_interface.specs.Sources.{source_found};
 ghost use Rattle.image_words.specs.Creations.{CreateEnds, MakesEnd, IsFilled, UnfilledCause, sizes_of};
 
 use crate::creation::{Creation, NewImage, sizes_of};
 use flash_model::Geometry;
 use flash_simulation::SimFlash;
 use fs_types::Path;
-use host_files::{ImageFiles, Source, Sources};
+use host_interface::{ImageFiles, Source, Sources};
 use image_jobs::{Failure, claim, formatted_flash, save_image};
 use image_sizes::changes_with_room;
 use put_jobs::{Batch, Order, gather, put_on_flash};

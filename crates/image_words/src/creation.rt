@@ -1,10 +1,10 @@
 //! What an image is made of, and what it is to have.
 ghost use Rattle.std.specs.Prelude.{◌≡◌, map};
-ghost use Rattle.host_files.specs.Sources.{source_found};
+ghost use Rattle.host_interface.specs.Sources.{source_found};
 ghost use Rattle.image_words.specs.Creations as spec;
 
 use flash_model::Geometry;
-use host_files::Source;
+use host_interface::Source;
 use image_sizes::blocks_for;
 
 /// What a new image is to have.

@@ -1,11 +1,11 @@
 //! A call of the history on the file of an image, and a trim.
 ghost use Rattle.std.specs.Prelude.{◌≡◌, OnOk};
-ghost use Rattle.host_files.specs.Files.{KeepsOthers, KeepsOrSyncs, ReadsClaimed};
+ghost use Rattle.host_interface.specs.Files.{KeepsOthers, KeepsOrSyncs, ReadsClaimed};
 ghost use Rattle.image_words.specs.Histories.{HistoryEnds, RunsUnprinted, history_spelled, trim_script, unprinted};
 
 use crate::history_lines::history_script;
 use command_line::HistoryCall;
-use host_files::ImageFiles;
+use host_interface::ImageFiles;
 use image_jobs::{Failure, run_image};
 use std::alloc::Global;
 

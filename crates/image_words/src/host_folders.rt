@@ -5,8 +5,8 @@ ghost use Rattle.std.specs.FinMap.{get};
 ghost use Rattle.fs_types.specs.Names.{Name};
 ghost use Rattle.history_machine.specs.History.{view_refusal};
 ghost use Rattle.history_machine.specs.Machine.{view_tree};
-ghost use Rattle.host_files.specs.Files.{new_name};
-ghost use Rattle.host_files.specs.Folders.{Made, KeepsOutside};
+ghost use Rattle.host_interface.specs.Files.{new_name};
+ghost use Rattle.host_interface.specs.Folders.{Made, KeepsOutside};
 ghost use Rattle.plain_trees.specs.Trees.{bytes_of_file};
 ghost use Rattle.inquiries.specs.Items.{IsFileOf, IsItemOf};
 ghost use Rattle.inquiries.specs.Readings.{shown, IsUnchanged};
@@ -14,7 +14,7 @@ ghost use Rattle.image_words.specs.PathCopies.{way_of, made_of, Unmade, IsHostFa
 
 use flash_model::Flash;
 use fs_types::{Name, Path, Stat, View};
-use host_files::{FileFault, Folders};
+use host_interface::{FileFault, Folders};
 use image_jobs::Failure;
 use inquiries::{Item, read_file};
 use script_runs::Refusal;

@@ -6,7 +6,7 @@ ghost use Rattle.flash_simulation.specs.Simulation.{device_of};
 use crate::path_copies::{Copied, copy_out};
 use flash_simulation::SimFlash;
 use fs_types::{Path, View};
-use host_files::Folders;
+use host_interface::Folders;
 use image_jobs::{Failure, load, save_bytes, spare};
 use inquiry_jobs::{path_of_word, view_of_word};
 use std::alloc::Global;

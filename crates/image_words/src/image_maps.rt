@@ -1,10 +1,10 @@
 //! What is told of the blocks of an image.
 ghost use Rattle.std.specs.Prelude.{◌≡◌, IfOk, IfErr, OnOk};
-ghost use Rattle.host_files.specs.Files.{KeepsOthers};
+ghost use Rattle.host_interface.specs.Files.{KeepsOthers};
 ghost use Rattle.image_words.specs.Maps.{AreKindsOf, IsMapPage, IsMapText, MapEnds, MapPageEnds, UnmappedCause, of_map};
 
 use block_usage::{BlockKind, MapFault, map_blocks, map_page, map_text};
-use host_files::ImageFiles;
+use host_interface::ImageFiles;
 use image_jobs::{Failure, load, save_bytes, spare};
 use script::write_out;
 use script_runs::Refusal;

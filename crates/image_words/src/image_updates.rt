@@ -3,7 +3,7 @@ ghost use Rattle.std.specs.Prelude.{◌≡◌, IfOk, IfErr};
 ghost use Rattle.image_words.specs.ImageUpdates.{IsUpdateTold, UpdateEnds, UpdateUntold, manner_asked};
 
 use fs_types::Bytes;
-use host_files::ImageFiles;
+use host_interface::ImageFiles;
 use image_jobs::{Failure, load};
 use inquiry_jobs::of_ask;
 use script::write_out;

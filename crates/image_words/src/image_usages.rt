@@ -6,7 +6,7 @@ ghost use Rattle.image_words.specs.ImageUsages.{AreUsagesIn, IsUsageText, Uncoun
 use crate::usage_lines::usage_text;
 use block_usage::{ReportFault, UsageList, report_usages};
 use fs_types::{Path, View};
-use host_files::ImageFiles;
+use host_interface::ImageFiles;
 use image_jobs::{Failure, load};
 use inquiry_jobs::place_of_words;
 use script::write_out;

@@ -1,13 +1,13 @@
 //! Parts in flat files that are made, and images made of them.
 ghost use Rattle.std.specs.Prelude.{◌≡◌, false, OnOk};
 ghost use Rattle.flash_simulation.specs.Simulation.{device_of};
-ghost use Rattle.host_files.specs.Files.{KeepsOthers};
+ghost use Rattle.host_interface.specs.Files.{KeepsOthers};
 ghost use Rattle.image_words.specs.PartFiles.{WritesPart, WritesImage, FormatPartEnds, ToPartEnds, FromPartEnds};
 
 use crate::part_loads::load_part;
 use flash_model::Geometry;
 use flash_simulation::SimFlash;
-use host_files::{ImageFiles, Parts};
+use host_interface::{ImageFiles, Parts};
 use image_jobs::{Failure, claim, formatted_flash, load, save_image, spare, write_image};
 use part_file::spelled_part;
 use std::alloc::Global;

@@ -5,7 +5,7 @@ ghost use Rattle.part_file.specs.Reading.{IsPartFlash, IsPartFault};
 ghost use Rattle.image_words.specs.PartFlashes.{PartCause};
 
 use flash_simulation::SimFlash;
-use host_files::{FileFault, Parts};
+use host_interface::{FileFault, Parts};
 use image_jobs::Failure;
 use part_file::{PartFault, flash_of_part};
 use std::alloc::Global;

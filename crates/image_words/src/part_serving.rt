@@ -5,7 +5,7 @@ ghost use Rattle.image_jobs.specs.Images.{IsUnclaimed};
 ghost use Rattle.image_words.specs.PartServing.{ServePartEnds, of_session};
 
 use crate::part_sessions::serve_part;
-use host_files::{FileFault, Parts};
+use host_interface::{FileFault, Parts};
 use image_jobs::Failure;
 use part_file::PartFlash;
 use remote_sessions::SessionFault;

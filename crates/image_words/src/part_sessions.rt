@@ -5,7 +5,7 @@ ghost use Rattle.part_file.specs.Pages.{HoldsPart};
 ghost use Rattle.part_file.specs.Parts.{is_lost};
 ghost use Rattle.remote_sessions.specs.Sessions.{SessionEnds};
 
-use host_files::Backing;
+use host_interface::Backing;
 use part_file::PartFlash;
 use remote_sessions::{SessionFault, serve_on};
 use std::alloc::Global;

@@ -2,8 +2,8 @@
 ghost use Rattle.std.specs.Prelude.{◌≡◌, ℕ, List, [], IfOk, IfErr, OnOk};
 ghost use Rattle.fs_types.specs.declared.limits.TheConstants.{MAX_NAMES};
 ghost use Rattle.history_machine.specs.Machine.{view_tree};
-ghost use Rattle.host_files.specs.Files.{new_name};
-ghost use Rattle.host_files.specs.Folders.{Made, KeepsBeside, KeepsOutside, HoldsMade};
+ghost use Rattle.host_interface.specs.Files.{new_name};
+ghost use Rattle.host_interface.specs.Folders.{Made, KeepsBeside, KeepsOutside, HoldsMade};
 ghost use Rattle.inquiries.specs.Folders.{IsSmall};
 ghost use Rattle.inquiries.specs.Items.{items_below, IsDirectoryOf};
 ghost use Rattle.inquiries.specs.Readings.{shown, IsUnchanged};
@@ -12,7 +12,7 @@ ghost use Rattle.image_words.specs.PathCopies.{folder_made, of_list, IsHostFailu
 use crate::host_folders::{make_all, unmade};
 use flash_model::Flash;
 use fs_types::{Bytes, Fault, Path, Stat, View};
-use host_files::{FileFault, Folders};
+use host_interface::{FileFault, Folders};
 use image_jobs::Failure;
 use inquiries::{Item, TellFault, list_folder, read_file, stat_at};
 use script_runs::Refusal;

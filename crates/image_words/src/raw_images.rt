@@ -1,14 +1,14 @@
 //! Bytes of a serial NOR part that are made of an image, and images made of them.
 ghost use Rattle.std.specs.Prelude.{◌≡◌, IfOk, IfErr, OnOk};
 ghost use Rattle.flash_simulation.specs.Simulation.{device_of};
-ghost use Rattle.host_files.specs.Files.{KeepsOthers};
+ghost use Rattle.host_interface.specs.Files.{KeepsOthers};
 ghost use Rattle.raw_part.specs.Raws.{IsRawOf};
 ghost use Rattle.image_words.specs.RawImages.{RawCause, RawEnds, FromRawEnds, IsRawFile, RawFileCause, WritesImage};
 
 use crate::raw_sizes::{RawSizes, flash_of_taken, layout_asked};
 use flash_simulation::SimFlash;
 use fs_types::Fault;
-use host_files::{FileFault, ImageFiles};
+use host_interface::{FileFault, ImageFiles};
 use image_jobs::{Failure, claim, load, save_image, spare, write_image};
 use raw_part::raw_of;
 use std::alloc::Global;

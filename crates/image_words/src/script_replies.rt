@@ -7,7 +7,7 @@ ghost use Rattle.image_words.specs.ScriptReplies.{RepliesEnd};
 
 use crate::history_changes::unprinted;
 use flash_simulation::SimFlash;
-use host_files::ImageFiles;
+use host_interface::ImageFiles;
 use image_jobs::{Failure, load};
 use script::write_out;
 use script_runs::run_script_until;

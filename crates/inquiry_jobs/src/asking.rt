@@ -8,7 +8,7 @@ use crate::place_words::{history_inquiry, list_inquiry};
 use crate::planned::ask_as_planned;
 use crate::view_word::view_of_word;
 use fs_types::Bytes;
-use host_files::ImageFiles;
+use host_interface::ImageFiles;
 use image_jobs::{Failure, load};
 use inquiries::{AskFault, Inquiry};
 use script::write_out;

@@ -5,7 +5,7 @@ use crate::refused_words::tell_refused_words;
 use command_line::{Job, Task};
 use flash_model::{Flash, Geometry};
 use fs_types::{Fault, MAX_VERSIONS, MIN_BLOCK_BYTES, MIN_VERSIONS, Path};
-use host_files::{ImageFiles, Source, UnreadCause, takes_away};
+use host_interface::{ImageFiles, Source, UnreadCause, takes_away};
 use image_jobs::{Failure, SourceFault, explain_refusal, explain_unread, load};
 use image_sizes::recorded_sizes;
 use raw_part::PartLayout;

@@ -1,7 +1,7 @@
 //! What is told where what the words of a job name was refused.
 use command_line::{HistoryCall, Job, Task};
 use fs_types::Fault;
-use host_files::ImageFiles;
+use host_interface::ImageFiles;
 use image_jobs::{explain_refusal, look_at_image};
 use script_runs::Refusal;
 use std::alloc::{AllocError, Global};

@@ -6,7 +6,7 @@ use Rattle.std.proofs.lemmas.List.{drop-drop, drop-take, take-take}
 use Rattle.std.proofs.lemmas.Nat.{mul-le}
 use Rattle.flash_model.specs.declared.geometry.Geometry.{Geometry}
 use Rattle.flash_model.specs.Geometry.{page_count}
-use Rattle.host_files.specs.Steps.{writes, overwritten, Becomes, StaysOutside, KeepsOutside}
+use Rattle.host_interface.specs.Steps.{writes, overwritten, Becomes, StaysOutside, KeepsOutside}
 use Rattle.part_file.specs.Layout.{state_place, data_place, part_length}
 use Rattle.part_file.specs.Pages.{KeepsOthers, KeepsOtherPages}
 use Rattle.part_file.proofs.Keeping.{page_stays, block-apart}

@@ -5,7 +5,7 @@ use Rattle.std.proofs.lemmas.Bool.{true≢false}
 use Rattle.flash_model.specs.declared.flash.DevFault.{DevFault}
 use Rattle.flash_model.specs.declared.flash.DevFault.TheVariants.{PowerCut}
 use Rattle.flash_model.specs.Device.{Device}
-use Rattle.host_files.specs.Steps.{Step, Becomes}
+use Rattle.host_interface.specs.Steps.{Step, Becomes}
 use Rattle.part_file.specs.Pages.{HasPage, IsPart, KeepsPart, HoldsPart}
 use Rattle.part_file.proofs.Keeping.{part_of}
 

@@ -10,7 +10,7 @@ use Rattle.flash_model.specs.Geometry.{page_count}
 use Rattle.flash_model.specs.Device.{Device, Page, erased, bytes_of, unreadable, Programs, Erases}
 use Rattle.part_file.specs.Layout.{IsHead, state_place, data_place, program_steps, erase_steps, barrier_at}
 use Rattle.part_file.specs.Pages.{IsPart, HasPage, KeepsPart}
-use Rattle.host_files.specs.Steps.{Step, writes, overwritten, all_after, Becomes}
+use Rattle.host_interface.specs.Steps.{Step, writes, overwritten, all_after, Becomes}
 use Rattle.part_file.proofs.Overwriting.{overwritten-length, apart, within}
 use Rattle.part_file.proofs.Placing.{state-before, page-apart, page-inside}
 use Rattle.part_file.proofs.StepLemmas.{all_after-append, after-barrier}

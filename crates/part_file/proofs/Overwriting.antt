@@ -1,7 +1,7 @@
 -- What stands at a place of bytes that others were written over.
 use Rattle.std.proofs.Common.{◌≡◌, ◌⊎◌, ℕ, ◌+◌, ◌-◌, ◌≤◌, List, ◌++◌, length, take, drop, sym, ap, ◌∙◌, inl, inr, arith, append_assoc}
 use Rattle.std.proofs.lemmas.List.{length-append, length-take-le, length-drop, take-append-le, drop_at, drop-append-le, drop-drop, drop-take, take-take}
-use Rattle.host_files.specs.Steps.{overwritten}
+use Rattle.host_interface.specs.Steps.{overwritten}
 
 -- as many bytes as before
 pub overwritten-length : (a : ℕ) (ys xs : List ℕ) → a + length ys ≤ length xs → length (overwritten a ys xs) ≡ length xs

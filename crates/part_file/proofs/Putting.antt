@@ -9,7 +9,7 @@ use Rattle.flash_model.specs.Geometry.{page_count}
 use Rattle.flash_simulation.specs.Simulation.{device_of}
 use Rattle.flash_simulation.specs.WholePages.{whole_pages_of}
 use Rattle.flash_simulation.specs.declared.sim_flash.SimFlash.{SimFlash}
-use Rattle.host_files.specs.Steps.{overwritten}
+use Rattle.host_interface.specs.Steps.{overwritten}
 use Rattle.part_file.specs.Layout.{IsHead, state_place, data_place, part_length}
 use Rattle.part_file.specs.Pages.{IsPart, HasPage, page_put}
 use Rattle.part_file.proofs.Keeping.{part_of, page_stays, head_stays, at_place, program_part}

@@ -2,7 +2,7 @@
 use Rattle.std.proofs.Common.{◌≡◌, ℕ, Bool, true, false, List, [], ◌∷◌, ◌++◌, None, Some, Result, Ok, Err, refl, sym, ap, ◌∙◌, append_assoc, append-nil, if◌then◌else◌}
 use Rattle.std.specs.Prelude.{Option, OnOk}
 use Rattle.part_file.specs.Layout.{is_anchor, barrier_at}
-use Rattle.host_files.specs.Steps.{Step, barrier, Does, Becomes, bytes_after, all_after}
+use Rattle.host_interface.specs.Steps.{Step, barrier, Does, Becomes, bytes_after, all_after}
 
 pub Does-none : (a : Option (List Step)) → Does a [] a
 Does-none None = tt

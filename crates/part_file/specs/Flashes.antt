@@ -1,7 +1,7 @@
 -- A flash on a part in a flat file.
 use Rattle.std.specs.Prelude.{◌≡◌, ℕ, List, length}
 use Rattle.flash_model.specs.Device.{Device, bytes_of}
-use Rattle.host_files.specs.declared.backing.Backing.{Ghosts}
+use Rattle.host_interface.specs.declared.backing.Backing.{Ghosts}
 use Rattle.mirrored_flash.specs.Mirrors.{mirror_device, whole_mirrored_pages}
 use Rattle.part_file.specs.declared.file_driver.FileDriver.{FileDriver}
 use Rattle.part_file.specs.declared.part_flash.PartFlash.{PartFlash}

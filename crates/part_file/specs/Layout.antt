@@ -3,7 +3,7 @@ use Rattle.std.specs.Prelude.{◌≡◌, ℕ, ◌+◌, ◌-◌, ◌*◌, ◌/◌
 use Rattle.byteorder.specs.Endian.{little_from, little_bytes}
 use Rattle.flash_model.specs.declared.geometry.Geometry.{Geometry}
 use Rattle.flash_model.specs.Geometry.{IsGeometry, page_count}
-use Rattle.host_files.specs.Steps.{Step, writes, barrier}
+use Rattle.host_interface.specs.Steps.{Step, writes, barrier}
 
 -- the sizes in the first twenty bytes, after the magic, in four bytes each
 abbrev pub sizes_in : List ℕ → Geometry

@@ -5,7 +5,7 @@ use Rattle.flash_model.specs.declared.flash.PageState.{PageState}
 use Rattle.flash_model.specs.declared.flash.PageState.TheVariants.{Erased, Data, Unreadable}
 use Rattle.flash_model.specs.Geometry.{page_count}
 use Rattle.flash_model.specs.Device.{Device, Page, erased, bytes_of, unreadable}
-use Rattle.host_files.specs.Steps.{overwritten}
+use Rattle.host_interface.specs.Steps.{overwritten}
 use Rattle.part_file.specs.declared.part_file.PartFault.{PartFault}
 use Rattle.part_file.specs.Layout.{IsHead, state_place, data_place, part_length}
 

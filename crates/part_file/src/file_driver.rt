@@ -1,7 +1,7 @@
 //! What programs and erases a part in a flat file.
 use crate::part_file::PartFile;
 use flash_model::DevFault;
-use host_files::Backing;
+use host_interface::Backing;
 
 /// A part in a flat file, until an operation on it fails: from then on it has no power, and nothing is
 /// written any more, since what the file holds is not known.
@@ -38,7 +38,7 @@ impl<B: Backing> FileDriver<B> {
     ghost use Rattle.part_file.specs.Layout.{program_steps, erase_steps};
     ghost use Rattle.part_file.specs.Pages.{KeepsOtherPages};
     ghost use Rattle.part_file.specs.Parts.{sizes_of, backing_of, driven_part, is_lost};
-    ghost use Rattle.host_files.specs.Steps.{Does, Becomes};
+    ghost use Rattle.host_interface.specs.Steps.{Does, Becomes};
 
     /// Programs a page, which is erased.
     pub(crate) fn program(&mut self, page: u32, bytes: &[u8]) -> Result<(), DevFault>

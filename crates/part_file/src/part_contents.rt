@@ -13,7 +13,7 @@ use crate::places::{data_place, state_place};
 use fields::u32_at;
 use flash_model::{Geometry, PageState, PageView};
 use flash_simulation::SimFlash;
-use host_files::Backing;
+use host_interface::Backing;
 use std::alloc::Global;
 
 /// The flash of the part that stands in these bytes. Nothing is written.

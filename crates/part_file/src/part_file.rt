@@ -5,7 +5,7 @@ ghost use Rattle.flash_model.specs.Geometry.{IsGeometry};
 use crate::places::{data_place, state_place};
 use flash_model::Geometry;
 use fs_types::ANCHORS;
-use host_files::Backing;
+use host_interface::Backing;
 use std::io;
 use thiserror::Error;
 
@@ -82,7 +82,7 @@ impl<B: Backing> PartFile<B> {
     ghost use Rattle.flash_model.specs.Geometry.{page_count};
     ghost use Rattle.part_file.specs.Layout as spec;
     ghost use Rattle.part_file.specs.Parts.{sizes_of, backing_of};
-    ghost use Rattle.host_files.specs.Steps.{Does, Becomes};
+    ghost use Rattle.host_interface.specs.Steps.{Does, Becomes};
     ghost use Rattle.part_file.specs.Pages.{KeepsOtherPages};
 
     /// Programs a page, which is erased: its bytes, and then its state. On an anchor there is a barrier

@@ -9,7 +9,7 @@ use crate::file_driver::FileDriver;
 use crate::part_contents::flash_of_part;
 use crate::part_file::{PartFault, PartFile};
 use flash_model::{DevFault, Flash, Geometry, PageState};
-use host_files::Backing;
+use host_interface::Backing;
 use mirrored_flash::Mirror;
 use std::alloc::Global;
 
@@ -93,7 +93,7 @@ impl<B: Backing> Flash for PartFlash<B> {
     ghost use Rattle.part_file.specs.Layout.{program_steps, erase_steps};
     ghost use Rattle.part_file.specs.Pages.{KeepsPart, KeepsOtherPages};
     ghost use Rattle.part_file.specs.Parts.{is_lost};
-    ghost use Rattle.host_files.specs.Steps.{Does};
+    ghost use Rattle.host_interface.specs.Steps.{Does};
 
     ghost device = { part_device };
 

@@ -3,7 +3,7 @@ ghost use Rattle.std.specs.Prelude.{◌≡◌, ◌+◌, ◌≤◌, ◌<◌, ◌+
 ghost use Rattle.flash_model.specs.Contents.{IsWhole, shown_page};
 ghost use Rattle.flash_model.specs.Geometry.{IsGeometry, page_count};
 ghost use Rattle.flash_simulation.specs.Simulation.{device_of};
-ghost use Rattle.host_files.specs.Steps.{overwritten};
+ghost use Rattle.host_interface.specs.Steps.{overwritten};
 ghost use Rattle.part_file.specs.Layout as spec;
 ghost use Rattle.part_file.specs.Pages.{IsPart, page_put};
 

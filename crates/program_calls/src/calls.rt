@@ -1,5 +1,5 @@
 //! Calls of the program, as its `main` makes them, over any files.
-use host_files::{Channels, Folders, Parts, Sources};
+use host_interface::{Channels, Folders, Parts, Sources};
 use shell::tool;
 use std::alloc::{AllocError, Global};
 

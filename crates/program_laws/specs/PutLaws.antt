@@ -11,8 +11,8 @@ use Rattle.flash_simulation.specs.Simulation.{device_of}
 use Rattle.flash_model.specs.declared.geometry.Geometry.{Geometry}
 use Rattle.flash_simulation.specs.declared.sim_flash.SimFlash.{SimFlash}
 use Rattle.mounting.specs.Saved.{saved_trees}
-use Rattle.host_files.specs.Files.{Held, Readings, readings_of}
-use Rattle.host_files.specs.Sources.{Found}
+use Rattle.host_interface.specs.Files.{Held, Readings, readings_of}
+use Rattle.host_interface.specs.Sources.{Found}
 use Rattle.script_runs.specs.Flashes.{IsMade}
 use Rattle.image_jobs.specs.Images.{IsSpelledFlash}
 use Rattle.inquiries.specs.declared.items.Item.{Item}

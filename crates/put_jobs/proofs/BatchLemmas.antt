@@ -4,9 +4,9 @@ use Rattle.std.specs.List.{flat_map}
 use Rattle.std.proofs.lemmas.List.{map-append}
 use Rattle.std.proofs.lemmas.List.Concat.{flat_map-append}
 use Rattle.fs_types.specs.Names.{Path}
-use Rattle.host_files.specs.Files.{Held}
-use Rattle.host_files.specs.Sources.{Found, source_found}
-use Rattle.host_files.specs.declared.source.Source.{Source}
+use Rattle.host_interface.specs.Files.{Held}
+use Rattle.host_interface.specs.Sources.{Found, source_found}
+use Rattle.host_interface.specs.declared.source.Source.{Source}
 use Rattle.image_jobs.specs.declared.failure.Failure.{Failure}
 use Rattle.put_lots.specs.declared.kept.Kept.{Kept}
 use Rattle.put_jobs.specs.Batches.{IsBatch, kept_in}

@@ -3,9 +3,9 @@ use Rattle.std.proofs.Common.{◌≡◌, ℕ, List, [], ◌∷◌, inl, inr, sym
 use Rattle.fs_types.specs.Names.{Path}
 use Rattle.fs_types.specs.declared.event.Event.{Event}
 use Rattle.flash_simulation.specs.declared.sim_flash.SimFlash.{SimFlash}
-use Rattle.host_files.specs.Files.{Held, Readings, readings_of}
-use Rattle.host_files.specs.Sources.{Found}
-use Rattle.host_files.specs.declared.source.SourceKind.{SourceKind}
+use Rattle.host_interface.specs.Files.{Held, Readings, readings_of}
+use Rattle.host_interface.specs.Sources.{Found}
+use Rattle.host_interface.specs.declared.source.SourceKind.{SourceKind}
 use Rattle.image_jobs.specs.declared.failure.Failure.{Failure}
 use Rattle.put_jobs.specs.Places.{put_place}
 use Rattle.put_jobs.specs.Puts.{Is, IsNever, IsThingBy, AreThings, PutsBy, PutCause}

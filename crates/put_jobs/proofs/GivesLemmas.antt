@@ -14,9 +14,9 @@ use Rattle.flash_image.specs.Images.{image_of}
 use Rattle.system.specs.Mounts.{IsMountOf}
 use Rattle.system.specs.Systems.{IsSystem}
 use Rattle.system.specs.declared.systems.System.{System}
-use Rattle.host_files.specs.Files.{Held, Readings, readings_of, ReadsClaimed, ReadsBeside}
-use Rattle.host_files.specs.Sources.{Found, source_found}
-use Rattle.host_files.specs.declared.source.Source.{Source}
+use Rattle.host_interface.specs.Files.{Held, Readings, readings_of, ReadsClaimed, ReadsBeside}
+use Rattle.host_interface.specs.Sources.{Found, source_found}
+use Rattle.host_interface.specs.declared.source.Source.{Source}
 use Rattle.image_jobs.specs.Failures.{of_refusal}
 use Rattle.image_jobs.specs.Images.{DecodeCause, SavesChange, ChangeUnsaved}
 use Rattle.image_jobs.specs.declared.failure.Failure.{Failure}

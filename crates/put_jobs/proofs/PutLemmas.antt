@@ -18,11 +18,11 @@ use Rattle.system.specs.declared.systems.System.{System}
 use Rattle.undofs.specs.Runs.{World, Happens, Run}
 use Rattle.undofs.specs.Sessions.{Stands, world}
 use Rattle.undofs.proofs.SessionSteps.{mount_begins, serve_law}
-use Rattle.host_files.specs.Files.{Held, Readings, readings_of, AreBytesRead, takes_away}
+use Rattle.host_interface.specs.Files.{Held, Readings, readings_of, AreBytesRead, takes_away}
 use Rattle.put_jobs.specs.Puts.{group_start, group_end, mark_all, clean_all, Trims, is_due, stop_of, GoOn, StopLast, IsThingBy, IsThing, Carries, StopsWithin, StopsAtEnd, IsUnput, PutsBy, PutCause, FoundCause, GatherCause}
 use Rattle.inquiry_jobs.specs.PathWords.{SpellingCause, path_spelled}
 use Rattle.put_jobs.specs.Served.{Place, place, Turns, ServesAll, Halts, ServesPut, ClosesGroup, IsTrimmedWhere, EndsGroup}
-use Rattle.host_files.specs.Sources.{Found, source_found}
+use Rattle.host_interface.specs.Sources.{Found, source_found}
 use Rattle.put_jobs.specs.Places.{put_place, way_fault, kind_fault, either_fault, source_fault, Unplaced, AreOthers}
 use Rattle.script_runs.specs.Flashes.{IsDecoded}
 use Rattle.image_jobs.specs.Images.{DecodeCause, IsUnclaimed, IsUnread, IsSpelledFlash, LoadCause, SavesChange, ChangeUnsaved}
@@ -32,8 +32,8 @@ use Rattle.put_jobs.specs.Putting.{SourcesEnd}
 use Rattle.image_jobs.specs.declared.failure.Failure.{Failure}
 use Rattle.put_jobs.specs.declared.putting.Put.{Put}
 use Rattle.script_runs.specs.declared.scripts.Refusal.{Refusal}
-use Rattle.host_files.specs.declared.source.Source.{Source}
-use Rattle.host_files.specs.declared.source.SourceKind.{SourceKind}
+use Rattle.host_interface.specs.declared.source.Source.{Source}
+use Rattle.host_interface.specs.declared.source.SourceKind.{SourceKind}
 use Rattle.put_lots.specs.declared.thing.Thing.{Thing}
 use Rattle.image_jobs.proofs.ImageLemmas.{loaded_front, cause_front, cause_unread}
 use Rattle.put_jobs.proofs.FlashLemmas.{puts_as, cause_as, puts_given, cause_given}

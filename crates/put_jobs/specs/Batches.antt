@@ -1,7 +1,7 @@
 -- What is put into an image, of all that stands at a name of the host.
 use Rattle.std.specs.Prelude.{◌≡◌, Bool, false, Option, List, map, option_map, vec_items}
 use Rattle.fs_types.specs.Names.{Path}
-use Rattle.host_files.specs.Sources.{Found, source_found}
+use Rattle.host_interface.specs.Sources.{Found, source_found}
 use Rattle.put_lots.specs.declared.kept.Kept.{Kept}
 use Rattle.put_jobs.specs.Mirrors.{wants_folder, kept_asked}
 use Rattle.put_jobs.specs.Puts.{is_no_folder, left_in}

@@ -7,7 +7,7 @@ use Rattle.flash_image.specs.Images.{image_of}
 use Rattle.image_jobs.specs.Failures.{of_refusal}
 use Rattle.image_jobs.specs.Images.{IsSpelledFlash, IsUnclaimed, LoadCause, SavesChange, ChangeUnsaved}
 use Rattle.image_jobs.specs.declared.failure.Failure.{Failure}
-use Rattle.host_files.specs.Files.{Held}
+use Rattle.host_interface.specs.Files.{Held}
 use Rattle.script_runs.specs.declared.scripts.Refusal.{Refusal}
 use Rattle.put_jobs.specs.Puts.{Carries, Breaks, UnmountedBy}
 

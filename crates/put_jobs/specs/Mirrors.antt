@@ -6,14 +6,14 @@ use Rattle.fs_types.specs.declared.call.View.{View}
 use Rattle.fs_types.specs.declared.event.Event.{Event}
 use Rattle.flash_simulation.specs.Simulation.{device_of}
 use Rattle.flash_simulation.specs.declared.sim_flash.SimFlash.{SimFlash}
-use Rattle.host_files.specs.Sources.{Found}
+use Rattle.host_interface.specs.Sources.{Found}
 use Rattle.inquiries.specs.Asked.{Lists}
 use Rattle.inquiries.specs.declared.inquiry.Inquiry.{Inquiry}
 use Rattle.inquiries.specs.declared.items.Item.{Item}
 use Rattle.image_jobs.specs.declared.failure.Failure.{Failure}
 use Rattle.put_lots.specs.Removals.{is_removed, kept_found, removal}
 use Rattle.put_lots.specs.declared.kept.Kept.{Kept}
-use Rattle.host_files.specs.Files.{Readings}
+use Rattle.host_interface.specs.Files.{Readings}
 use Rattle.inquiry_jobs.specs.Asking.{UntoldBy}
 use Rattle.put_jobs.specs.Puts.{PutsBy, PutCause}
 

@@ -3,9 +3,9 @@ use Rattle.std.specs.Prelude.{◌≡◌, ◌⊎◌, ℕ, nat_lt, true, false, Op
 use Rattle.fs_types.specs.Names.{Path, path_refusal, components_of}
 use Rattle.fs_types.specs.declared.fault.Fault.{Fault}
 use Rattle.fs_types.specs.declared.limits.TheConstants.{MAX_FILE_BYTES, MAX_NAMES}
-use Rattle.host_files.specs.Files.{takes_away}
-use Rattle.host_files.specs.Sources.{Found}
-use Rattle.host_files.specs.declared.source.SourceKind.{SourceKind}
+use Rattle.host_interface.specs.Files.{takes_away}
+use Rattle.host_interface.specs.Sources.{Found}
+use Rattle.host_interface.specs.declared.source.SourceKind.{SourceKind}
 use Rattle.image_jobs.specs.declared.failure.Failure.{Failure}
 use Rattle.image_jobs.specs.declared.source_fault.SourceFault.{SourceFault}
 

@@ -4,9 +4,9 @@ use Rattle.fs_types.specs.Names.{Path}
 use Rattle.flash_simulation.specs.Simulation.{device_of}
 use Rattle.flash_simulation.specs.declared.sim_flash.SimFlash.{SimFlash}
 use Rattle.image_jobs.specs.Failures.{of_system, of_refusal}
-use Rattle.host_files.specs.Files.{Held, Readings, AreBytesRead}
+use Rattle.host_interface.specs.Files.{Held, Readings, AreBytesRead}
 use Rattle.script_runs.specs.Scripts.{IsUnmounted}
-use Rattle.host_files.specs.Sources.{Found}
+use Rattle.host_interface.specs.Sources.{Found}
 use Rattle.put_jobs.specs.Places.{put_place, source_fault, IsMisplaced}
 use Rattle.image_jobs.specs.declared.failure.Failure.{Failure}
 use Rattle.std.specs.List.{flat_map}
@@ -24,7 +24,7 @@ use Rattle.undofs.specs.Runs.{World, Run}
 use Rattle.undofs.specs.Sessions.{Session}
 use Rattle.script_runs.specs.declared.scripts.Refusal.{Refusal}
 use Rattle.image_jobs.specs.declared.source_fault.SourceFault.{SourceFault}
-use Rattle.host_files.specs.declared.source.SourceKind.{SourceKind}
+use Rattle.host_interface.specs.declared.source.SourceKind.{SourceKind}
 use Rattle.put_lots.specs.Lots.{lots_of}
 use Rattle.put_lots.specs.Things.{thing_events}
 use Rattle.put_lots.specs.declared.thing.Thing.{Thing}

@@ -5,11 +5,11 @@ use Rattle.flash_simulation.specs.Simulation.{device_of}
 use Rattle.flash_simulation.specs.declared.sim_flash.SimFlash.{SimFlash}
 use Rattle.flash_image.specs.Images.{image_of}
 use Rattle.image_jobs.specs.Images.{IsSpelledFlash, LoadCause, IsUnclaimed, SavesChange, ChangeUnsaved}
-use Rattle.host_files.specs.Files.{Held, readings_of}
+use Rattle.host_interface.specs.Files.{Held, readings_of}
 use Rattle.put_jobs.specs.Mirrors.{wants_folder, kept_asked, PutsOver, OverCause}
 use Rattle.put_jobs.specs.Puts.{IsAsked, GatherCause, is_no_folder, left_in}
 use Rattle.put_lots.specs.declared.kept.Kept.{Kept}
-use Rattle.host_files.specs.Sources.{Found}
+use Rattle.host_interface.specs.Sources.{Found}
 use Rattle.put_jobs.specs.Places.{AreOthers}
 use Rattle.image_jobs.specs.declared.failure.Failure.{Failure}
 

@@ -1,6 +1,6 @@
 //! What is put into an image, of all that stands at a name of the host.
 ghost use Rattle.std.specs.Prelude.{◌≡◌, ◌⊎◌, ◌++◌, ◌∷◌, [], true, IfOk, IfErr, OnOk, map, option_map, vec_items};
-ghost use Rattle.host_files.specs.Sources.{source_found};
+ghost use Rattle.host_interface.specs.Sources.{source_found};
 ghost use Rattle.put_jobs.specs.Batches.{IsBatch};
 ghost use Rattle.put_jobs.specs.Mirrors.{wants_folder, kept_asked};
 ghost use Rattle.put_jobs.specs.Puts as spec;
@@ -8,7 +8,7 @@ ghost use Rattle.put_jobs.specs.Puts.{left_in};
 
 use crate::put::Order;
 use fs_types::Path;
-use host_files::{Source, SourceKind};
+use host_interface::{Source, SourceKind};
 use image_jobs::Failure;
 use job_messages::tell_left_out;
 use put_lots::{Kept, kept_of};

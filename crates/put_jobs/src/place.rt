@@ -1,11 +1,11 @@
 //! Where what stands at a name of the host is put in an image.
 ghost use Rattle.std.specs.Prelude.{◌≡◌, true, ◌++◌, ◌+◌, ◌≤◌, IfOk, OnOk, IfErr, None, length};
 ghost use Rattle.fs_types.specs.Names.{is_path};
-ghost use Rattle.host_files.specs.Sources.{source_found};
+ghost use Rattle.host_interface.specs.Sources.{source_found};
 ghost use Rattle.put_jobs.specs.Places.{put_place, kind_fault, source_fault, Unplaced, unparsed};
 
 use fs_types::{Fault, MAX_FILE_BYTES, MAX_NAMES, Name, Path};
-use host_files::{Source, SourceKind};
+use host_interface::{Source, SourceKind};
 use image_jobs::{Failure, SourceFault};
 use std::alloc::{AllocError, Global};
 

@@ -1,6 +1,6 @@
 //! The input is put into an image, as a file.
 ghost use Rattle.std.specs.Prelude.{◌≡◌, ◌≤◌, ℕ, Option, Some, List, [], vec_len, length, refl, IfOk, IfErr, OnOk};
-ghost use Rattle.host_files.specs.Files.{KeepsOthers, KeepsOrSyncs, ReadsClaimed};
+ghost use Rattle.host_interface.specs.Files.{KeepsOthers, KeepsOrSyncs, ReadsClaimed};
 ghost use Rattle.image_jobs.specs.Images.{host_at};
 ghost use Rattle.put_jobs.specs.Gives.{GivesKnown};
 ghost use Rattle.put_jobs.specs.Inputs.{writes_left, InputEnds, IsWholeInput, IsUnreadInput};
@@ -12,7 +12,7 @@ use crate::putting::put_into;
 use crate::things::{Things, next_events};
 use flash_model::Geometry;
 use fs_types::{Bytes, Event, MAX_FILE_BYTES, Path};
-use host_files::ImageFiles;
+use host_interface::ImageFiles;
 use image_jobs::Failure;
 use job_messages::{tell_fault, tell_refused};
 use put_lots::Thing;

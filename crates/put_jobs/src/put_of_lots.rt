@@ -1,7 +1,7 @@
 //! Lots of things that are known, put into an image.
 ghost use Rattle.std.specs.Prelude.{◌≡◌, [], OnOk, refl, length, reverse};
 ghost use Rattle.std.specs.List.{flat_map};
-ghost use Rattle.host_files.specs.Files.{KeepsOthers, KeepsOrSyncs, ReadsClaimed};
+ghost use Rattle.host_interface.specs.Files.{KeepsOthers, KeepsOrSyncs, ReadsClaimed};
 ghost use Rattle.put_lots.specs.Things.{thing_events};
 ghost use Rattle.put_jobs.specs.Gives.{GivesKnown};
 ghost use Rattle.put_jobs.specs.Groups.{EventsEnd};
@@ -9,7 +9,7 @@ ghost use Rattle.put_jobs.specs.Groups.{EventsEnd};
 use crate::putting::put_into;
 use crate::things::{Things, next_events};
 use fs_types::Event;
-use host_files::ImageFiles;
+use host_interface::ImageFiles;
 use image_jobs::Failure;
 use put_lots::Thing;
 use std::alloc::Global;

@@ -2,7 +2,7 @@
 ghost use Rattle.std.specs.Prelude.{◌≡◌, ◌++◌, [], IfOk, IfErr, IfSome, OnOk};
 ghost use Rattle.flash_simulation.specs.Simulation.{device_of};
 ghost use Rattle.system.specs.Systems.{IsSystem};
-ghost use Rattle.host_files.specs.Files.{KeepsOthers, KeepsOrSyncs};
+ghost use Rattle.host_interface.specs.Files.{KeepsOthers, KeepsOrSyncs};
 ghost use Rattle.put_jobs.specs.Gives.{PutsAfter, PutsGroup, PutsOn, UnputOn, PutsIn, UnputIn, ThingsEnd};
 ghost use Rattle.put_jobs.specs.Puts.{group_start};
 ghost use Rattle.put_jobs.specs.Served.{place, Asks};
@@ -12,7 +12,7 @@ use crate::things::Things;
 use flash_model::Flash;
 use flash_simulation::SimFlash;
 use fs_types::Event;
-use host_files::ImageFiles;
+use host_interface::ImageFiles;
 use image_jobs::{Failure, flash_of, save_changed, take_image};
 use script_runs::mount_as_planned;
 use std::alloc::Global;

@@ -1,8 +1,8 @@
 //! Sources of the host, which are put as what is read of them: files that may go together at once.
 ghost use Rattle.std.specs.Prelude.{◌≡◌, ◌+◌, ◌*◌, IfOk, IfErr, [], map, length, option_map, refl, vec_items};
 ghost use Rattle.std.specs.List.{flat_map};
-ghost use Rattle.host_files.specs.Files.{readings_of};
-ghost use Rattle.host_files.specs.Sources.{source_found};
+ghost use Rattle.host_interface.specs.Files.{readings_of};
+ghost use Rattle.host_interface.specs.Sources.{source_found};
 ghost use Rattle.image_jobs.specs.Images.{DecodeCause};
 ghost use Rattle.put_jobs.specs.Batches.{kept_in};
 ghost use Rattle.put_jobs.specs.Gives.{GivesSources};
@@ -18,7 +18,7 @@ use crate::thing::thing_of;
 use crate::things::{Things, next_events};
 use flash_model::Geometry;
 use fs_types::{Event, Path};
-use host_files::{ImageFiles, Source};
+use host_interface::{ImageFiles, Source};
 use image_jobs::Failure;
 use image_sizes::tree_blocks;
 use job_messages::tell_misplaced;

@@ -1,12 +1,12 @@
 //! What is put at a path of an image.
 ghost use Rattle.std.specs.Prelude.{IfOk, IfErr};
 ghost use Rattle.put_jobs.specs.Puts.{IsThing, IsUnput};
-ghost use Rattle.host_files.specs.Files.{readings_of};
-ghost use Rattle.host_files.specs.Sources.{source_found};
+ghost use Rattle.host_interface.specs.Files.{readings_of};
+ghost use Rattle.host_interface.specs.Sources.{source_found};
 
 use crate::place::place_of;
 use fs_types::{Bytes, Path};
-use host_files::{FileFault, ImageFiles, Source, SourceKind};
+use host_interface::{FileFault, ImageFiles, Source, SourceKind};
 use image_jobs::{Failure, SourceFault};
 use put_lots::Thing;
 use std::alloc::Global;

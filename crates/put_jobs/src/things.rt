@@ -4,7 +4,7 @@ ghost use Rattle.put_lots.specs.Things.{thing_events};
 
 use flash_model::Geometry;
 use fs_types::Event;
-use host_files::ImageFiles;
+use host_interface::ImageFiles;
 use image_jobs::Failure;
 use job_messages::tell_refusal;
 use put_lots::{Thing, events_of};

@@ -3,8 +3,8 @@ use Rattle.std.proofs.Common.{◌≡◌, ◌<◌, ◌≤◌, ◌+◌, ◌++◌, 
 use Rattle.std.specs.List.{flat_map}
 use Rattle.std.proofs.lemmas.List.{map_more}
 use Rattle.std.proofs.lemmas.List.Concat.{flat_map-append}
-use Rattle.host_files.specs.Sources.{Found, source_found}
-use Rattle.host_files.specs.declared.source.Source.{Source}
+use Rattle.host_interface.specs.Sources.{Found, source_found}
+use Rattle.host_interface.specs.declared.source.Source.{Source}
 use Rattle.put_lots.specs.Removals.{kept_found}
 use Rattle.put_lots.specs.declared.kept.Kept.{Kept}
 

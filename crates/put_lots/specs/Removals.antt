@@ -6,8 +6,8 @@ use Rattle.fs_types.specs.declared.call.Call.{Call}
 use Rattle.fs_types.specs.declared.call.Stat.{Stat}
 use Rattle.fs_types.specs.declared.event.Event.{Event}
 use Rattle.fs_types.specs.declared.fault.Fault.{Fault}
-use Rattle.host_files.specs.Sources.{Found}
-use Rattle.host_files.specs.declared.source.SourceKind.{SourceKind}
+use Rattle.host_interface.specs.Sources.{Found}
+use Rattle.host_interface.specs.declared.source.SourceKind.{SourceKind}
 use Rattle.put_lots.specs.declared.kept.Kept.{Kept}
 
 -- what a source accounts for; nothing where its way is no path

@@ -1,11 +1,11 @@
 //! What a put leaves where it stands.
 ghost use Rattle.std.specs.Prelude.{◌≡◌, ◌++◌, map, IfOk, OnOk};
 ghost use Rattle.std.specs.List.{flat_map};
-ghost use Rattle.host_files.specs.Sources.{source_found};
+ghost use Rattle.host_interface.specs.Sources.{source_found};
 ghost use Rattle.put_lots.specs.Removals.{kept_found};
 
 use fs_types::{Fault, Name, Path, Stat};
-use host_files::{Source, SourceKind};
+use host_interface::{Source, SourceKind};
 use std::alloc::{AllocError, Global};
 
 /// What stands on the host at a way from the folder that is put.

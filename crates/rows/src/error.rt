@@ -2,7 +2,7 @@
 use flash_image::ImageFault;
 use fs_types::Fault;
 use hex::FromHexError;
-use host_files::FileFault;
+use host_interface::FileFault;
 use std::alloc::{AllocError, AllocFailed};
 use thiserror::Error;
 

@@ -7,7 +7,7 @@ use crate::tool_calls::append_given;
 use flash_image::decode;
 use flash_simulation::SimFlash;
 use fs_types::{Answer, Fault, Reply};
-use host_files::{Channels, Folders, ImageFiles, Parts, Sources};
+use host_interface::{Channels, Folders, ImageFiles, Parts, Sources};
 use plain_machine::{PlainMachine, Space};
 use script::{Line, LineAnswer, print_answer, read_line};
 use script_runs::run_script;

@@ -1,7 +1,7 @@
 -- What stands at a path of an image, for a file or a folder of the host or for the output.
 use Rattle.std.proofs.Common.{◌≡◌, ◌∙◌, ℕ, Bool, true, false, Option, Result, List, refl, ap, subst}
-use Rattle.host_files.specs.Files.{Held}
-use Rattle.host_files.specs.Folders.{Made}
+use Rattle.host_interface.specs.Files.{Held}
+use Rattle.host_interface.specs.Folders.{Made}
 use Rattle.image_words.specs.ImageGets.{GetEnds}
 use Rattle.image_words.proofs.GetLemmas.{got_by}
 use Rattle.image_jobs.specs.Images.{host_at}

@@ -1,7 +1,7 @@
 -- What is put of a file of the host, or of the input.
 use Rattle.std.proofs.Common.{◌≡◌, ℕ, Bool, true, false, Option, Result, List, refl, subst}
-use Rattle.host_files.specs.Files.{Held, KeepsOthers}
-use Rattle.host_files.specs.Sources.{Found}
+use Rattle.host_interface.specs.Files.{Held, KeepsOthers}
+use Rattle.host_interface.specs.Sources.{Found}
 use Rattle.image_jobs.specs.declared.failure.Failure.{Failure}
 use Rattle.put_jobs.specs.Mirrors.{wants_folder}
 use Rattle.image_jobs.specs.Images.{Host, host_at}

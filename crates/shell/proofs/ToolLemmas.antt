@@ -11,7 +11,7 @@ use Rattle.command_line.specs.Jobs.{SaysJob, given, has_no_image}
 use Rattle.command_line.specs.declared.tasks.Job.{Job}
 use Rattle.command_line.specs.declared.tasks.Task.{Task}
 use Rattle.image_jobs.specs.Failures.{of_script, failure_status, job_status, fault_status}
-use Rattle.host_files.specs.Files.{Held}
+use Rattle.host_interface.specs.Files.{Held}
 use Rattle.script_runs.specs.Scripts.{streams_at}
 use Rattle.image_jobs.specs.Images.{Host, streams_of}
 use Rattle.shell.specs.Tools.{Known, EndsAlone, EndsFor, MemoryEnds, MemoryBy, ToolEnds, refused_status, is_memory}

@@ -18,13 +18,13 @@ use Rattle.flash_image.specs.Images.{image_of, IsFresh}
 use Rattle.flash_model.specs.Device.{Device}
 use Rattle.image_jobs.specs.Failures.{of_image, of_script, job_status, status_of}
 use Rattle.image_jobs.specs.Images.{FormatEnds, Host, streams_of, RunEnds, CheckEnds}
-use Rattle.host_files.specs.Files.{Held, KeepsOthers}
+use Rattle.host_interface.specs.Files.{Held, KeepsOthers}
 use Rattle.script_runs.specs.Memory.{memory_sizes, EndsInMemory}
 use Rattle.put_jobs.specs.Inputs.{InputEnds}
 use Rattle.put_jobs.specs.Mirrors.{wants_folder}
 use Rattle.script_runs.specs.Scripts.{Streams}
-use Rattle.host_files.specs.Sources.{Found, Gathered}
-use Rattle.host_files.specs.Streams.{Written}
+use Rattle.host_interface.specs.Sources.{Found, Gathered}
+use Rattle.host_interface.specs.Streams.{Written}
 use Rattle.image_words.specs.Histories.{HistoryEnds, RunsUnprinted, history_spelled, trim_script}
 use Rattle.image_words.specs.ScriptReplies.{RepliesEnd}
 use Rattle.image_words.specs.Maps.{MapEnds, MapPageEnds}

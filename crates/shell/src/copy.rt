@@ -1,13 +1,13 @@
 //! The history of an image is copied to a new one, as a job asks for it.
 ghost use Rattle.std.specs.Prelude.{◌≡◌};
-ghost use Rattle.host_files.specs.Files.{KeepsOthers};
+ghost use Rattle.host_interface.specs.Files.{KeepsOthers};
 ghost use Rattle.copy_jobs.specs.Copying.{CopyEnds};
 ghost use Rattle.shell.specs.Tools.{number_given, sizes_asked, word_given};
 
 use crate::program::word_given;
 use command_line::Job;
 use copy_jobs::{AskedSizes, copy_image};
-use host_files::ImageFiles;
+use host_interface::ImageFiles;
 use image_jobs::Failure;
 use std::alloc::Global;
 use std::io::Write;

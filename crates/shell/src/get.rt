@@ -5,7 +5,7 @@ ghost use Rattle.shell.specs.Tools.{GetsTo, is_stream, word_given};
 
 use crate::program::word_given;
 use command_line::Job;
-use host_files::Folders;
+use host_interface::Folders;
 use image_jobs::Failure;
 use image_words::get_out;
 use inquiry_jobs::tell_file;

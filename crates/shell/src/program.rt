@@ -1,7 +1,7 @@
 //! What the program `uffs` does with its words.
 ghost use Rattle.std.specs.Prelude.{◌≡◌, IsTrue, map, string_bytes};
 ghost use Rattle.clap.specs.Words.{kind_of};
-ghost use Rattle.host_files.specs.Files.{ReadsClaimed, ReadsBeside};
+ghost use Rattle.host_interface.specs.Files.{ReadsClaimed, ReadsBeside};
 ghost use Rattle.script_runs.specs.Scripts.{streams_at};
 ghost use Rattle.image_jobs.specs.Images.{host_at};
 ghost use Rattle.shell.specs.Tools.{known_by, image_asked, EndsAlone, EndsOn, JobEnds, MemoryEnds, ToolEnds, MemoryBy, history_word, raw_asked, sizes_of, word_given, refused_status, is_memory};
@@ -18,7 +18,7 @@ use clap::Error;
 use clap::error::ErrorKind;
 use command_line::{HistoryCall, Job, Task, job};
 use flash_model::Geometry;
-use host_files::{Channels, Folders, ImageFiles, Parts, Sources};
+use host_interface::{Channels, Folders, ImageFiles, Parts, Sources};
 use image_jobs::{Failure, check_image, format_image, run_image};
 use image_words::{
     Creation, NewImage, RawSizes, change_history, create_image, format_part, image_to_part,

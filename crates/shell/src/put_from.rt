@@ -1,12 +1,12 @@
 //! Files of the host, or the input, for an image.
 ghost use Rattle.std.specs.Prelude.{◌≡◌, ℕ, Option, List};
-ghost use Rattle.host_files.specs.Files.{ReadsClaimed, ReadsBeside};
+ghost use Rattle.host_interface.specs.Files.{ReadsClaimed, ReadsBeside};
 ghost use Rattle.image_jobs.specs.Images.{host_at};
 ghost use Rattle.put_jobs.specs.Mirrors.{wants_folder};
 ghost use Rattle.shell.specs.Tools.{PutsFrom, StreamEnds, is_stream};
 
 use crate::get::is_stream;
-use host_files::{ImageFiles, Sources};
+use host_interface::{ImageFiles, Sources};
 use image_jobs::Failure;
 use put_jobs::{Order, put_input, put_into_image, wants_folder};
 use std::alloc::Global;

@@ -5,7 +5,7 @@ ghost use Rattle.shell.specs.Tools.{ServeEnds, IsUnreached, of_start, history_gi
 
 use crate::program::word_given;
 use command_line::Job;
-use host_files::{Channels, FileFault};
+use host_interface::{Channels, FileFault};
 use image_jobs::Failure;
 use image_words::of_session;
 use remote_flash::{StartFault, ToldFlash};

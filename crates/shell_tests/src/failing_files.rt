@@ -1,6 +1,8 @@
 //! The program on files that fail in ways in which those of the host seldom do.
 use crate::flat_part::FlatPart;
-use host_files::{Channels, FileFault, Folders, ImageFiles, Parts, Source, SourceKind, Sources};
+use host_interface::{
+    Channels, FileFault, Folders, ImageFiles, Parts, Source, SourceKind, Sources,
+};
 use program_calls::{Wanted, first_other, fresh_image};
 use std::alloc::{AllocError, Global};
 use std::process::Abort;

@@ -1,7 +1,7 @@
 //! A part in memory.
 ghost use Rattle.std.specs.Prelude.{◌≡◌, ◌≤◌, ◌+◌, IfOk};
 
-use host_files::Backing;
+use host_interface::Backing;
 use std::io;
 use std::io::ErrorKind;
 

@@ -1,5 +1,6 @@
 //! What stands in a folder of the host.
-use host_files::{HostFiles, SourceKind, Sources};
+use host_files::HostFiles;
+use host_interface::{SourceKind, Sources};
 use std::test::Fail;
 use std::{env, fs, process};
 

@@ -1,6 +1,6 @@
 //! A file of the host that is written in place.
 use super::claims::Claim;
-use crate::backing::Backing;
+use host_interface::Backing;
 use std::alloc::Global;
 use std::fs::File;
 use std::io;

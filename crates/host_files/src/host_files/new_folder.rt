@@ -1,7 +1,7 @@
 //! A folder of the host that is made whole.
 use super::folder_tree::FolderTree;
 use super::replacing::folder_of;
-use crate::names::new_name;
+use host_interface::new_name;
 use std::alloc::Global;
 use std::fs::{File, OpenOptions};
 use std::io::{ErrorKind, Write};

@@ -1,7 +1,7 @@
 //! What is taken away where a file of the host is replaced.
 use super::claims::past_links;
 use super::identity::Identity;
-use crate::names::new_name;
+use host_interface::new_name;
 use std::alloc::Global;
 use std::rt::Files;
 use std::{fs, io};

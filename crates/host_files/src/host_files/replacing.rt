@@ -1,8 +1,8 @@
 //! A file of the host that is replaced whole.
 use super::claims::{Claim, MOST_TURNS, leads_to, open_left};
 use super::new_folder::refuse_standing;
-use crate::names::new_name;
 use file_replacement::{FolderCalls, Unreplaced, replace};
+use host_interface::new_name;
 use std::alloc::Global;
 use std::fs::{File, OpenOptions, TryLockError};
 use std::io::{ErrorKind, Write};

@@ -2,8 +2,7 @@
 use super::claims::past_links;
 use super::opening::open_looked;
 use super::replacing::folder_of;
-use crate::image_files::UnwrittenCause;
-use crate::names::new_name;
+use host_interface::{UnwrittenCause, new_name};
 use std::alloc::Global;
 use std::fs::{File, TryLockError};
 use std::io::ErrorKind;

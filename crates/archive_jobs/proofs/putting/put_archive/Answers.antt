@@ -1,5 +1,5 @@
 use Rattle.std.proofs.Common.{inl, inr, refl, sym, vec_len}
-use Rattle.host_files.specs.Files.{ReadsClaimed}
+use Rattle.host_interface.specs.Files.{ReadsClaimed}
 use Rattle.archive_jobs.proofs.UntarLemmas.{archive_put}
 use Rattle.archive_jobs.proofs.putting.put_archive.Goals as goal
 

@@ -1,5 +1,5 @@
 use Rattle.std.proofs.Common.{inl, inr, refl, subst}
-use Rattle.host_files.specs.Files.{Held}
+use Rattle.host_interface.specs.Files.{Held}
 use Rattle.copy_jobs.specs.Copying.{SavesCopy}
 use Rattle.copy_jobs.proofs.copying.copy_image.Goals as goal
 

@@ -1,5 +1,5 @@
 use Rattle.std.proofs.Common.{ap}
-use Rattle.host_files.specs.declared.image_files.TheConstants.{MOST_BYTES}
+use Rattle.host_interface.specs.declared.image_files.TheConstants.{MOST_BYTES}
 use Rattle.host_files.proofs.Fronts.{front_read}
 use Rattle.host_files.proofs.host_files.read_front.Goals as goal
 

@@ -1,5 +1,5 @@
 use Rattle.std.proofs.Common.{◌∙◌, sym, subst}
-use Rattle.host_files.specs.Files.{ReadsClaimed}
+use Rattle.host_interface.specs.Files.{ReadsClaimed}
 use Rattle.image_jobs.proofs.ImageLemmas.{front_same, run_saved, run_broken, run_untaken, synced_since}
 use Rattle.image_jobs.proofs.images.run_image.Goals as goal
 

@@ -1,5 +1,5 @@
 use Rattle.std.proofs.Common.{◌≡◌, ◌+◌, ◌-◌, ◌*◌, ◌^◌, ◌≤◌, ℕ, max, min, map, ap, ◌∙◌, arith}
-use Rattle.host_files.specs.Sources.{source_found}
+use Rattle.host_interface.specs.Sources.{source_found}
 use Rattle.image_sizes.specs.FolderSizes as spec
 use Rattle.image_sizes.proofs.FolderSteps.{capped_times}
 use Rattle.image_sizes.proofs.folder_sizes.blocks_wanted.Goals as goal

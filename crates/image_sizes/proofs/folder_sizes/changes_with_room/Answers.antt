@@ -1,6 +1,6 @@
 use Rattle.std.proofs.Common.{◌≡◌, ◌+◌, ◌-◌, ◌*◌, ◌/◌, ◌^◌, ◌<◌, ◌≤◌, ℕ, max, min, map, ap, sym, ◌∙◌, inl, inr, arith}
 use Rattle.std.proofs.Math.Nat.{div-eq_of_lt, eq-or-lt_of_le}
-use Rattle.host_files.specs.Sources.{source_found}
+use Rattle.host_interface.specs.Sources.{source_found}
 use Rattle.image_sizes.specs.FolderSizes as spec
 use Rattle.image_sizes.proofs.folder_sizes.changes_with_room.Goals as goal
 

@@ -1,5 +1,5 @@
 use Rattle.std.proofs.Common.{◌==◌, ℕ, List, max, map, take, count_by, sym, ap, ◌∙◌}
-use Rattle.host_files.specs.Sources.{source_found}
+use Rattle.host_interface.specs.Sources.{source_found}
 use Rattle.image_sizes.specs.FolderSizes as spec
 use Rattle.image_sizes.proofs.FolderSteps.{greatest_more}
 use Rattle.image_sizes.proofs.folder_sizes.longest_way.Goals as goal

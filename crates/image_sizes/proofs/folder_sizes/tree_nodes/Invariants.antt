@@ -1,6 +1,6 @@
 use Rattle.std.proofs.Common.{◌≡◌, ◌-◌, ◌^◌, take, map, min}
 use Rattle.std.specs.List.{sum_by}
-use Rattle.host_files.specs.Sources.{source_found}
+use Rattle.host_interface.specs.Sources.{source_found}
 use Rattle.image_sizes.specs.FolderSizes as spec
 use Rattle.image_sizes.proofs.folder_sizes.tree_nodes.Given as goal
 

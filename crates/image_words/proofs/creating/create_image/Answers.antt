@@ -1,5 +1,5 @@
 use Rattle.std.proofs.Common.{inl, inr, refl}
-use Rattle.host_files.specs.Files.{ReadsBeside}
+use Rattle.host_interface.specs.Files.{ReadsBeside}
 use Rattle.image_words.proofs.CreationLemmas.{ungathered, created}
 use Rattle.image_words.proofs.creating.create_image.Goals as goal
 

@@ -1,9 +1,9 @@
 use Rattle.std.proofs.Common.{◌≡◌, ◌∙◌, List, [], map, ap, inl, subst}
 use Rattle.flash_model.specs.declared.geometry.Geometry.{Geometry}
-use Rattle.host_files.specs.declared.source.Source.{Source}
+use Rattle.host_interface.specs.declared.source.Source.{Source}
 use Rattle.std.proofs.lemmas.Result.{IfOk-weaker, IfErr-weaker}
-use Rattle.host_files.specs.Files.{readings_of}
-use Rattle.host_files.specs.Sources.{source_found}
+use Rattle.host_interface.specs.Files.{readings_of}
+use Rattle.host_interface.specs.Sources.{source_found}
 use Rattle.image_jobs.specs.Images.{FormatFailure}
 use Rattle.put_jobs.proofs.FlashLemmas.{puts_on, cause_on}
 use Rattle.script_runs.specs.Flashes.{IsMade}

@@ -1,6 +1,6 @@
 use Rattle.std.proofs.Common.{ℕ, List, map}
-use Rattle.host_files.specs.Files.{ReadsBeside}
-use Rattle.host_files.specs.Sources.{source_found}
+use Rattle.host_interface.specs.Files.{ReadsBeside}
+use Rattle.host_interface.specs.Sources.{source_found}
 use Rattle.image_words.proofs.CreationLemmas.{made, unmade}
 use Rattle.image_words.proofs.creating.make_image.Goals as goal
 

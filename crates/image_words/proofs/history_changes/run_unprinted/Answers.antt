@@ -1,5 +1,5 @@
 use Rattle.std.proofs.Common.{ℕ, true, Some, Ok, Err, List, ap, refl, subst}
-use Rattle.host_files.specs.Files.{ReadsClaimed}
+use Rattle.host_interface.specs.Files.{ReadsClaimed}
 use Rattle.image_jobs.specs.Images.{RunEnds, host_at}
 use Rattle.image_words.proofs.history_changes.run_unprinted.Goals as goal
 

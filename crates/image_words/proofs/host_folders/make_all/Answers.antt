@@ -2,8 +2,8 @@ use Rattle.std.proofs.Common.{◌≡◌, ◌∙◌, ◌+◌, ◌++◌, List, [],
 use Rattle.std.proofs.lemmas.List.{take_more, take_all}
 use Rattle.history_machine.specs.History.{view_refusal}
 use Rattle.history_machine.specs.Machine.{Machine, view_tree}
-use Rattle.host_files.specs.Files.{new_name}
-use Rattle.host_files.specs.Folders.{Made}
+use Rattle.host_interface.specs.Files.{new_name}
+use Rattle.host_interface.specs.Folders.{Made}
 use Rattle.inquiries.specs.Items.{IsItemOf}
 use Rattle.inquiries.specs.Readings.{shown}
 use Rattle.inquiries.specs.declared.items.Item.{Item}

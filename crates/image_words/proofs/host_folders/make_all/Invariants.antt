@@ -1,7 +1,7 @@
 use Rattle.std.proofs.Common.{List, ◌++◌, map, take}
 use Rattle.history_machine.specs.Machine.{view_tree}
-use Rattle.host_files.specs.Files.{new_name}
-use Rattle.host_files.specs.Folders.{Made, KeepsOutside}
+use Rattle.host_interface.specs.Files.{new_name}
+use Rattle.host_interface.specs.Folders.{Made, KeepsOutside}
 use Rattle.inquiries.specs.Readings.{shown, IsUnchanged}
 use Rattle.image_words.specs.PathCopies.{made_of}
 use Rattle.image_words.proofs.host_folders.make_all.Given as goal

@@ -2,7 +2,7 @@ use Rattle.std.proofs.Common.{◌≡◌, ◌∙◌, List, [], ◌∷◌, ◌++�
 use Rattle.std.specs.Prelude.{string_bytes}
 use Rattle.plain_trees.specs.Trees.{bytes_of_file}
 use Rattle.history_machine.specs.Machine.{view_tree}
-use Rattle.host_files.specs.Folders.{Made}
+use Rattle.host_interface.specs.Folders.{Made}
 use Rattle.inquiries.specs.Readings.{shown}
 use Rattle.inquiries.proofs.Readings.{unchanged-refl}
 use Rattle.image_words.specs.PathCopies.{made_of}

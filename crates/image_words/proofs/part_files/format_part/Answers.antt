@@ -1,6 +1,6 @@
 use Rattle.std.proofs.Common.{inr, subst}
 use Rattle.flash_simulation.specs.Simulation.{device_of}
-use Rattle.host_files.specs.Files.{Held, KeepsOthers}
+use Rattle.host_interface.specs.Files.{Held, KeepsOthers}
 use Rattle.image_words.specs.PartFiles.{WritesPart}
 use Rattle.image_words.proofs.part_files.format_part.Goals as goal
 

@@ -1,6 +1,6 @@
 use Rattle.std.proofs.Common.{◌≡◌, inl, inr, None, refl, sym, subst}
 use Rattle.fs_types.specs.declared.call.Call.{Call}
-use Rattle.host_files.specs.Folders.{HoldsMade}
+use Rattle.host_interface.specs.Folders.{HoldsMade}
 use Rattle.plain_trees.specs.Trees.{bytes_of_file}
 use Rattle.history_machine.specs.Machine.{Machine, refusal, view_tree}
 use Rattle.inquiries.specs.Folders.{IsSmall}

@@ -1,7 +1,7 @@
 use Rattle.std.proofs.Common.{OnOk, sym, subst}
 use Rattle.std.proofs.lemmas.Result.{IfErr-weaker}
 use Rattle.history_machine.specs.Machine.{Machine, view_tree}
-use Rattle.host_files.specs.Folders.{HoldsMade}
+use Rattle.host_interface.specs.Folders.{HoldsMade}
 use Rattle.inquiries.specs.Items.{IsDirectoryOf}
 use Rattle.inquiries.specs.Readings.{shown}
 use Rattle.image_words.specs.PathCopies.{folder_made, Unfilled}

@@ -4,7 +4,7 @@ use Rattle.fs_types.specs.Names.{Path}
 use Rattle.fs_types.specs.declared.call.View.{View}
 use Rattle.flash_model.specs.Device.{Device}
 use Rattle.flash_model.specs.Reading.{OnlyReads}
-use Rattle.host_files.specs.Files.{Held}
+use Rattle.host_interface.specs.Files.{Held}
 use Rattle.working_state.specs.Seen.{machine_on}
 use Rattle.system.specs.Mounts.{IsMountOf}
 use Rattle.system.specs.declared.systems.System.{System}

@@ -3,7 +3,7 @@ use Rattle.std.proofs.lemmas.Result.{IfErr-weaker}
 use Rattle.std.specs.Prelude.{All}
 use Rattle.fs_types.specs.declared.limits.TheConstants.{MAX_NAMES}
 use Rattle.history_machine.specs.Machine.{view_tree}
-use Rattle.host_files.specs.Folders.{Made, HoldsMade}
+use Rattle.host_interface.specs.Folders.{Made, HoldsMade}
 use Rattle.fs_types.specs.Names.{Path}
 use Rattle.plain_trees.specs.Trees.{Tree}
 use Rattle.inquiries.specs.Items.{IsItemOf, items_below}

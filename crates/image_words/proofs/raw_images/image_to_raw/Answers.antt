@@ -1,6 +1,6 @@
 use Rattle.std.proofs.Common.{inl, inr, refl, subst}
 use Rattle.flash_simulation.specs.Simulation.{device_of}
-use Rattle.host_files.specs.Files.{Held}
+use Rattle.host_interface.specs.Files.{Held}
 use Rattle.image_words.specs.RawImages.{WritesRaw}
 use Rattle.image_words.proofs.RawWritten.{raw_written}
 use Rattle.image_words.proofs.raw_images.image_to_raw.Goals as goal

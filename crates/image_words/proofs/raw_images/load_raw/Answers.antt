@@ -1,7 +1,7 @@
 use Rattle.std.proofs.Common.{◌≡◌, List, ℕ, IfSome, take, sym, subst}
 use Rattle.std.proofs.lemmas.Result.{IfOk-weaker, IfErr-weaker}
 use Rattle.flash_simulation.specs.Simulation.{device_of}
-use Rattle.host_files.specs.declared.image_files.TheConstants.{MOST_BYTES}
+use Rattle.host_interface.specs.declared.image_files.TheConstants.{MOST_BYTES}
 use Rattle.image_words.proofs.RawWritten.{raw_known, unread_raw}
 use Rattle.image_words.proofs.raw_images.load_raw.Goals as goal
 

@@ -1,6 +1,6 @@
 use Rattle.std.proofs.Common.{inr, subst}
 use Rattle.flash_simulation.specs.Simulation.{device_of}
-use Rattle.host_files.specs.Files.{Held}
+use Rattle.host_interface.specs.Files.{Held}
 use Rattle.image_words.specs.RawImages.{WritesImage}
 use Rattle.image_words.proofs.raw_images.raw_to_image.Goals as goal
 

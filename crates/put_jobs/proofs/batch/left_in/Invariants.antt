@@ -1,5 +1,5 @@
 use Rattle.std.proofs.Common.{◌≡◌, map}
-use Rattle.host_files.specs.Sources.{source_found}
+use Rattle.host_interface.specs.Sources.{source_found}
 use Rattle.put_jobs.specs.Puts.{left_in}
 use Rattle.put_jobs.proofs.batch.left_in.Given as goal
 

@@ -1,5 +1,5 @@
 use Rattle.std.proofs.Common.{◌≤◌, length, arith}
-use Rattle.host_files.specs.Sources.{source_found}
+use Rattle.host_interface.specs.Sources.{source_found}
 use Rattle.put_jobs.proofs.PutLemmas.{among, others_next, others_all}
 use Rattle.put_jobs.proofs.put.check_places.Goals as goal
 

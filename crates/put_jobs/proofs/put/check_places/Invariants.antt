@@ -1,5 +1,5 @@
 use Rattle.std.proofs.Common.{map, take}
-use Rattle.host_files.specs.Sources.{source_found}
+use Rattle.host_interface.specs.Sources.{source_found}
 use Rattle.put_jobs.specs.Places.{AreOthers}
 use Rattle.put_jobs.proofs.put.check_places.Given as goal
 

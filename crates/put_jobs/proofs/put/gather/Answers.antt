@@ -1,7 +1,7 @@
 use Rattle.std.proofs.Common.{List, map, subst}
-use Rattle.host_files.specs.Sources.{source_found}
+use Rattle.host_interface.specs.Sources.{source_found}
 use Rattle.put_jobs.specs.Places.{AreOthers}
-use Rattle.host_files.specs.declared.source.Source.{Source}
+use Rattle.host_interface.specs.declared.source.Source.{Source}
 use Rattle.put_jobs.proofs.BatchLemmas.{batch_refused, batch_misplaced}
 use Rattle.put_jobs.proofs.put.gather.Goals as goal
 

@@ -1,5 +1,5 @@
 use Rattle.std.proofs.Common.{inl, inr, refl, subst}
-use Rattle.host_files.specs.Files.{ReadsClaimed, ReadsBeside}
+use Rattle.host_interface.specs.Files.{ReadsClaimed, ReadsBeside}
 use Rattle.put_jobs.proofs.BatchLemmas.{asked_ends}
 use Rattle.put_jobs.proofs.GivesLemmas.{batch_ends}
 use Rattle.put_jobs.proofs.PutLemmas.{unspelled, unplaced}

@@ -1,5 +1,5 @@
 use Rattle.std.proofs.lemmas.Result.{IfOk-weaker, IfErr-weaker}
-use Rattle.host_files.specs.Files.{readings_of}
+use Rattle.host_interface.specs.Files.{readings_of}
 use Rattle.put_jobs.proofs.GivesLemmas.{batch_put, batch_unput}
 use Rattle.put_jobs.proofs.put.put_on_flash.Goals as goal
 

@@ -1,7 +1,7 @@
 use Rattle.std.proofs.Common.{◌≡◌, ◌∙◌, List, inl, inr, refl, sym, ap, subst, vec_len}
 use Rattle.fs_types.specs.Names.{Path}
 use Rattle.fs_types.specs.declared.event.Event.{Event}
-use Rattle.host_files.specs.Files.{ReadsClaimed}
+use Rattle.host_interface.specs.Files.{ReadsClaimed}
 use Rattle.put_jobs.specs.Groups.{EventsEnd}
 use Rattle.put_jobs.specs.Inputs.{written, writes_left}
 use Rattle.put_jobs.proofs.GivesLemmas.{known_ends}

@@ -1,8 +1,8 @@
 use Rattle.std.proofs.Common.{◌≡◌, List, ℕ, string_bytes, subst, sym}
 use Rattle.fs_types.specs.Names.{Path}
-use Rattle.host_files.specs.Files.{AreBytesRead, readings_of}
+use Rattle.host_interface.specs.Files.{AreBytesRead, readings_of}
 use Rattle.put_jobs.specs.Puts.{IsThing}
-use Rattle.host_files.specs.Sources.{source_found}
+use Rattle.host_interface.specs.Sources.{source_found}
 use Rattle.put_lots.specs.declared.thing.Thing.{Thing}
 use Rattle.put_jobs.proofs.PutLemmas.{file_thing, folder_thing}
 use Rattle.put_jobs.proofs.thing.thing_of.Goals as goal

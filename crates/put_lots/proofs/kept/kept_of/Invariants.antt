@@ -1,6 +1,6 @@
 use Rattle.std.proofs.Common.{◌≡◌, map, take}
 use Rattle.std.specs.List.{flat_map}
-use Rattle.host_files.specs.Sources.{source_found}
+use Rattle.host_interface.specs.Sources.{source_found}
 use Rattle.put_lots.specs.Removals.{kept_found}
 use Rattle.put_lots.proofs.kept.kept_of.Given as goal
 

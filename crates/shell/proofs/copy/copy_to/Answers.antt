@@ -1,5 +1,5 @@
 use Rattle.std.proofs.Common.{List, ℕ, subst}
-use Rattle.host_files.specs.Files.{KeepsOthers}
+use Rattle.host_interface.specs.Files.{KeepsOthers}
 use Rattle.copy_jobs.specs.Copying.{CopyEnds}
 use Rattle.copy_jobs.specs.declared.asked_sizes.AskedSizes.{AskedSizes}
 use Rattle.shell.specs.Tools.{word_given}

@@ -1,7 +1,7 @@
 use Rattle.std.proofs.Common.{◌≡◌, List, ℕ, Option, refl, subst}
 use Rattle.flash_model.specs.declared.geometry.Geometry.{Geometry}
 use Rattle.script_runs.specs.Scripts.{streams_at}
-use Rattle.host_files.specs.Files.{KeepsOthers}
+use Rattle.host_interface.specs.Files.{KeepsOthers}
 use Rattle.image_words.specs.PartFiles.{FormatPartEnds}
 use Rattle.image_words.specs.PartServing.{ServePartEnds}
 use Rattle.shell.specs.Explained.{ExplainEnds}

@@ -1,5 +1,5 @@
 use Rattle.std.proofs.Common.{Bool, ◌≡◌, List, ℕ, Result, refl, sym, subst}
-use Rattle.host_files.specs.Files.{KeepsOthers, ReadsClaimed, ReadsBeside}
+use Rattle.host_interface.specs.Files.{KeepsOthers, ReadsClaimed, ReadsBeside}
 use Rattle.image_jobs.specs.Images.{Host, host_at}
 use Rattle.image_jobs.specs.declared.failure.Failure.{Failure}
 use Rattle.command_line.specs.declared.tasks.Job.{Job}

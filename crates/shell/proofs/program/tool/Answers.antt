@@ -3,7 +3,7 @@ use Rattle.clap.specs.Words.{fault_of}
 use Rattle.command_words.specs.Grammar.{uffs}
 use Rattle.command_line.specs.Jobs.{AsksFor}
 use Rattle.command_line.specs.declared.tasks.Job.{Job}
-use Rattle.host_files.specs.Files.{ReadsClaimed, ReadsBeside}
+use Rattle.host_interface.specs.Files.{ReadsClaimed, ReadsBeside}
 use Rattle.image_jobs.specs.Images.{host_at}
 use Rattle.shell.specs.Tools.{known_by}
 use Rattle.shell.proofs.ToolLemmas.{refused_why, memory_ends}

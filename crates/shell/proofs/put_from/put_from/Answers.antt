@@ -1,5 +1,5 @@
 use Rattle.std.proofs.Common.{◌∙◌, sym}
-use Rattle.host_files.specs.Files.{ReadsClaimed, ReadsBeside}
+use Rattle.host_interface.specs.Files.{ReadsClaimed, ReadsBeside}
 use Rattle.image_jobs.specs.Images.{host_at}
 use Rattle.shell.specs.Tools.{is_stream}
 use Rattle.shell.proofs.PutFromLemmas.{put_files, put_streamed}

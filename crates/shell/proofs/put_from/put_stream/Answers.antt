@@ -1,5 +1,5 @@
 use Rattle.std.proofs.Common.{◌∙◌, Bool, Err, refl, sym, subst}
-use Rattle.host_files.specs.Files.{ReadsClaimed}
+use Rattle.host_interface.specs.Files.{ReadsClaimed}
 use Rattle.image_jobs.specs.Images.{host_at}
 use Rattle.image_jobs.specs.declared.failure.Failure.{Failure}
 use Rattle.shell.specs.Tools.{StreamEnds}

@@ -1,7 +1,7 @@
 use Rattle.std.proofs.Common.{◌≡◌, ℕ, List, ◌*◌, ◌/◌, [], ◌∷◌, ◌++◌, length, take, replicate, refl, subst, arith}
 use Rattle.std.proofs.lemmas.List.{take-replicate, length-replicate}
 use Rattle.part_file.specs.Layout.{state_place, barrier_at}
-use Rattle.host_files.specs.Steps.{writes, Does, Becomes, KeepsOutside}
+use Rattle.host_interface.specs.Steps.{writes, Does, Becomes, KeepsOutside}
 use Rattle.part_file.proofs.Failing.{states_fail, states_written, fails_none, fails_then, on_err_always}
 use Rattle.part_file.proofs.Sizes.{pages-most}
 use Rattle.part_file.proofs.StepLemmas.{Does-then, Becomes-then, Becomes-barrier, on_ok, on_ok_always}

@@ -1,6 +1,6 @@
 use Rattle.std.proofs.Common.{◌≡◌, ℕ, [], ◌∷◌, ◌++◌, ◌/◌, length, subst}
 use Rattle.part_file.specs.Layout.{data_place, state_place, barrier_at}
-use Rattle.host_files.specs.Steps.{writes, Does, Becomes, KeepsOutside}
+use Rattle.host_interface.specs.Steps.{writes, Does, Becomes, KeepsOutside}
 use Rattle.part_file.proofs.Failing.{data_fails, data_written, state_fails, state_written, fails_none, fails_then, on_err_always}
 use Rattle.part_file.proofs.StepLemmas.{Does-then, Becomes-then, Becomes-barrier, on_ok, on_ok_always}
 use Rattle.part_file.proofs.part_file.PartFile.program.Goals as goal

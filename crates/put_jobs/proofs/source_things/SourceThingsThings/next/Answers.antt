@@ -1,8 +1,8 @@
 use Rattle.std.proofs.Common.{List, Option, Some, ◌+◌, ◌*◌, ◌<◌, length, map, inl, refl, sym, subst, vec_items}
 use Rattle.std.proofs.lemmas.Result.{IfOk-weaker, IfErr-weaker}
 use Rattle.fs_types.specs.declared.event.Event.{Event}
-use Rattle.host_files.specs.Files.{readings_of}
-use Rattle.host_files.specs.Sources.{source_found}
+use Rattle.host_interface.specs.Files.{readings_of}
+use Rattle.host_interface.specs.Sources.{source_found}
 use Rattle.put_lots.specs.Lots.{listed}
 use Rattle.put_jobs.specs.Gives.{GivesNext, GivesSources}
 use Rattle.put_jobs.proofs.GivesLemmas.{sources_taken, sources_last, source_broken, fewer_sources, fewer_last, if_some}

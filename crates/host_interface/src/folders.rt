@@ -6,8 +6,8 @@ use std::alloc::Global;
 /// under its name with `.new` after it, until it is finished.
 pub trait Folders: ImageFiles {
     ghost use Rattle.std.specs.Prelude.{◌≡◌, [], ◌∷◌, ◌++◌, List, ℕ, OnOk, IfErr};
-    ghost use Rattle.host_files.specs.Files.{new_name};
-    ghost use Rattle.host_files.specs.Folders.{Made, KeepsOutside, KeepsBeside, HoldsMade, LeavesFolder};
+    ghost use Rattle.host_interface.specs.Files.{new_name};
+    ghost use Rattle.host_interface.specs.Folders.{Made, KeepsOutside, KeepsBeside, HoldsMade, LeavesFolder};
 
     // This was made in the folder of a name, in that order.
     ghost made: { Self → List ℕ → List Made → Type 0 } = { λ _ _ _. Unit {0} };

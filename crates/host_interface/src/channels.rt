@@ -6,7 +6,7 @@ use std::io::{Read, Write};
 /// Streams that join the program to another one, by their names: fifos, or `/dev/fd/N` of pipes.
 pub trait Channels {
     ghost use Rattle.std.specs.Prelude.{◌≡◌, None, Some, IfSome, IfOk, []};
-    ghost use Rattle.host_files.specs.Streams.{Written};
+    ghost use Rattle.host_interface.specs.Streams.{Written};
 
     /// What another program writes to.
     type Incoming: Read + Drop;

@@ -1,11 +1,11 @@
 //! The names that belong to a file which is replaced.
 ghost use Rattle.std.specs.Prelude.{◌≡◌, IfOk, string_bytes};
-ghost use Rattle.host_files.specs.Files.{new_name, takes_away};
+ghost use Rattle.host_interface.specs.Files.{new_name, takes_away};
 
 use std::alloc::{AllocError, Global};
 
 /// The name of the new file that is written beside one.
-pub(crate) fn new_name(alloc: Global, name: &str) -> Result<String, AllocError>
+pub fn new_name(alloc: Global, name: &str) -> Result<String, AllocError>
     ensures { IfOk result (λ beside. string_bytes beside ≡ new_name name.now) }
 {
     let mut beside = String::from_str(alloc, name)?;

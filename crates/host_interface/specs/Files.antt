@@ -1,8 +1,8 @@
 -- Files by their names.
 use Rattle.std.specs.Prelude.{◌≡◌, ◌≢◌, ◌⊎◌, ◌||◌, ℕ, Bool, Option, IfSome, List, ◌++◌, take, codes}
 use Rattle.std.specs.Str.{bytes_eq}
-use Rattle.host_files.specs.declared.image_files.FileFault.{FileFault}
-use Rattle.host_files.specs.declared.image_files.TheConstants.{MOST_BYTES}
+use Rattle.host_interface.specs.declared.image_files.FileFault.{FileFault}
+use Rattle.host_interface.specs.declared.image_files.TheConstants.{MOST_BYTES}
 
 -- the bytes of each file by its name, where they are known
 abbrev pub Held : Type 0

@@ -34,7 +34,7 @@ pub struct Source {
 /// What stands at names of the host.
 pub trait Sources {
     ghost use Rattle.std.specs.Prelude.{◌≡◌, None, IfSome, IfOk, map};
-    ghost use Rattle.host_files.specs.Sources.{Gathered, source_found};
+    ghost use Rattle.host_interface.specs.Sources.{Gathered, source_found};
 
     // What stands at a name and below it for an image, where it is known.
     ghost gathered: { Self → Gathered } = { λ _ _ _. None };

@@ -1,7 +1,7 @@
 -- Folders of the host that are made whole.
 use Rattle.std.specs.Prelude.{◌≡◌, ◌⊎◌, ℕ, IfSome, List, All, ◌++◌, codes, ⊤}
-use Rattle.host_files.specs.Files.{Held, new_name}
-use Rattle.host_files.specs.declared.image_files.FileFault.{FileFault}
+use Rattle.host_interface.specs.Files.{Held, new_name}
+use Rattle.host_interface.specs.declared.image_files.FileFault.{FileFault}
 
 -- what is made in a folder: a folder, or a file of bytes, each with the way that leads to it from the folder, as `/a/b`
 pub data Made : Type 0 where

@@ -75,8 +75,8 @@ pub enum UnwrittenCause {
 /// Files, by their names.
 pub trait ImageFiles {
     ghost use Rattle.std.specs.Prelude.{◌≡◌, ◌⊎◌, None, List, ℕ, take, IfSome, IfOk, IfErr, OnOk};
-    ghost use Rattle.host_files.specs.Files.{Held, KeepsOthers, LeavesFile};
-    ghost use Rattle.host_files.specs.declared.image_files.FileFault.{FileFault};
+    ghost use Rattle.host_interface.specs.Files.{Held, KeepsOthers, LeavesFile};
+    ghost use Rattle.host_interface.specs.declared.image_files.FileFault.{FileFault};
 
     // The bytes of the file of a name, where they are known.
     ghost held: { Self → Held } = { λ _ _. None };

@@ -6,7 +6,7 @@ use std::alloc::Global;
 /// Files that are written in place, by their names.
 pub trait Parts {
     ghost use Rattle.std.specs.Prelude.{◌≡◌, None, Some, IfSome, IfOk};
-    ghost use Rattle.host_files.specs.Files.{Held};
+    ghost use Rattle.host_interface.specs.Files.{Held};
 
     /// A file that is open in place, and claimed until it is dropped.
     type Part: Backing + Drop;

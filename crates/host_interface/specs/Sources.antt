@@ -1,7 +1,7 @@
 -- What stands at a name of the host and below it.
 use Rattle.std.specs.Prelude.{ℕ, Option, List, string_bytes}
-use Rattle.host_files.specs.declared.source.Source.{Source}
-use Rattle.host_files.specs.declared.source.SourceKind.{SourceKind}
+use Rattle.host_interface.specs.declared.source.Source.{Source}
+use Rattle.host_interface.specs.declared.source.SourceKind.{SourceKind}
 
 -- a name of the host, the path to it from the name that was asked for, and what stands there
 pub record Found : Type 0 where

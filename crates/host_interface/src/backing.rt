@@ -1,6 +1,6 @@
 //! Bytes that are read and written in place.
 ghost use Rattle.std.specs.Prelude.{◌≡◌, ℕ, List, [], ◌∷◌, Option, IfSome, OnOk, OnErr, length, take, drop};
-ghost use Rattle.host_files.specs.Steps.{Step, writes, barrier, Does, Becomes, KeepsOutside};
+ghost use Rattle.host_interface.specs.Steps.{Step, writes, barrier, Does, Becomes, KeepsOutside};
 
 use std::io;
 

@@ -1,8 +1,8 @@
 -- What is left where a file was to be replaced.
 use Rattle.std.specs.Prelude.{◌≡◌, ◌⊎◌, ℕ, true, List, [], ◌∷◌, ◌++◌, All, None, Some, Result, Ok, Err}
 use Rattle.file_replacement.specs.Folder.{Folder, Left, Exactly, grown}
-use Rattle.file_replacement.specs.declared.replacing.Unreplaced.{Unreplaced}
-use Rattle.file_replacement.specs.declared.replacing.Unreplaced.TheVariants.{Unmade, Failed, Unsynced}
+use Rattle.file_replacement.specs.declared.replacement.Unreplaced.{Unreplaced}
+use Rattle.file_replacement.specs.declared.replacement.Unreplaced.TheVariants.{Unmade, Failed, Unsynced}
 
 -- nothing changed but the new file, at whose end these bytes are
 abbrev pub HasWritten : List ℕ → Folder → Folder → Type 0

@@ -1,21 +1,17 @@
 //! The files of the host.
 ghost use Rattle.std.specs.Prelude.{◌≡◌, take, IfSome, IfOk};
 
-mod claims;
 mod folder_tree;
 mod gathered;
 mod gathering;
 mod host_part;
-mod identity;
 mod new_folder;
 mod opened_folder;
-mod opening;
-mod replaced;
-mod replacing;
-mod unwritten;
 
-use claims::Claim;
-use file_replacement::Unreplaced;
+use file_replacement::{
+    Claim, Failed, Identity, Opened, Replaced, Unreplaced, open_looked, refuse_special,
+    replace_file, unwritten_cause,
+};
 use gathered::Gathered;
 use gathering::gather;
 use host_interface::{
@@ -23,18 +19,13 @@ use host_interface::{
     UnwrittenCause,
 };
 pub use host_part::HostPart;
-use identity::Identity;
 use new_folder::NewFolder;
-use opening::{Opened, open_looked, refuse_special};
-use replaced::Replaced;
-use replacing::replace_file;
 use std::alloc::{AllocError, Global};
 use std::cell::{Cell, RefCell};
 use std::fs::{File, OpenOptions};
 use std::io::{BufWriter, ErrorKind, Read};
 use std::rt::Files;
 use std::{fs, io};
-use unwritten::{Failed, unwritten_cause};
 
 /// The files of the host, of whose bytes no contract speaks.
 ///

@@ -1,6 +1,6 @@
 //! How what was gathered is read.
 use super::folder_tree::FolderTree;
-use super::opening::open_unlinked;
+use file_replacement::open_unlinked;
 use std::alloc::Global;
 use std::fs::File;
 use std::io;

@@ -1,9 +1,7 @@
 //! What stands at a name of the host and below it.
 use super::folder_tree::FolderTree;
 use super::gathered::Gathered;
-use super::identity::Identity;
-use super::opening::open_unlinked;
-use super::replaced::Replaced;
+use file_replacement::{Identity, Replaced, open_unlinked};
 use fs_types::{MAX_ENTRIES, MAX_NAMES};
 use host_interface::{Source, SourceKind};
 use std::alloc::{AllocError, Global};

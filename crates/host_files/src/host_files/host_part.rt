@@ -1,5 +1,5 @@
 //! A file of the host that is written in place.
-use super::claims::Claim;
+use file_replacement::Claim;
 use host_interface::Backing;
 use std::alloc::Global;
 use std::fs::File;

@@ -1,6 +1,6 @@
 //! A folder of the host that is made whole.
 use super::folder_tree::FolderTree;
-use super::replacing::folder_of;
+use file_replacement::{folder_of, refuse_standing};
 use host_interface::new_name;
 use std::alloc::Global;
 use std::fs::{File, OpenOptions};
@@ -124,14 +124,5 @@ fn make_tree<R: Files<File = File>>(rt: &R, alloc: Global, path: &str) -> io::Re
             let _ = fs::remove_dir(rt, path);
             Err(error)
         }
-    }
-}
-
-/// Refused where anything stands at a name.
-pub(super) fn refuse_standing<R: Files>(rt: &R, path: &str) -> io::Result<()> {
-    match fs::symlink_metadata(rt, path) {
-        Ok(_) => Err(io::Error::from(ErrorKind::AlreadyExists)),
-        Err(error) if error.kind() == ErrorKind::NotFound => Ok(()),
-        Err(error) => Err(error),
     }
 }

@@ -1,5 +1,5 @@
 //! Folders of the host that are open.
-use super::identity::{Identity, refuse_another};
+use file_replacement::{Identity, refuse_another};
 use fs_types::MAX_ENTRIES;
 use std::alloc::Global;
 use std::fs::File;

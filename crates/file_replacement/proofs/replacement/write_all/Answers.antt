@@ -3,7 +3,7 @@ use Rattle.file_replacement.specs.Folder.{Writes}
 use Rattle.file_replacement.specs.Outcomes.{HasWritten}
 use Rattle.file_replacement.proofs.Joins.{join}
 use Rattle.file_replacement.proofs.Filling.{written_more, rest_more}
-use Rattle.file_replacement.proofs.replacing.write_all.Goals as goal
+use Rattle.file_replacement.proofs.replacement.write_all.Goals as goal
 
 pub loop-rest-preserved : goal.loop-rest-preserved
 loop-rest-preserved g c =

@@ -8,13 +8,13 @@ use std::os::unix::fs::MetadataExt;
 
 /// The device of a file and its number there: two names that lead to one file have it in common.
 #[derive(Clone, Copy, Debug, PartialEq, Eq)]
-pub(super) struct Identity {
+pub struct Identity {
     device: u64,
     number: u64,
 }
 
 impl Identity {
-    pub(super) fn of(found: &Metadata) -> Identity {
+    pub fn of(found: &Metadata) -> Identity {
         Identity {
             device: found.dev(),
             number: found.ino(),
@@ -23,7 +23,7 @@ impl Identity {
 }
 
 /// What was opened, where it is what was looked at before: the host follows a link that stands there by then.
-pub(super) fn refuse_another<T: Drop>(opened: T, found: Identity, looked: Identity) -> io::Result<T>
+pub fn refuse_another<T: Drop>(opened: T, found: Identity, looked: Identity) -> io::Result<T>
     ensures same { OnOk result (found ≡ looked) }
     ensures ok { found ≡ looked → IsOk result }
     ensures value { IfOk result (λ it. it ≡ opened) }

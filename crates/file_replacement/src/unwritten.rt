@@ -1,7 +1,7 @@
 //! Why a name of the host was not written.
-use super::claims::past_links;
-use super::opening::open_looked;
-use super::replacing::folder_of;
+use crate::claims::past_links;
+use crate::opening::open_looked;
+use crate::replaced_files::folder_of;
 use host_interface::{UnwrittenCause, new_name};
 use std::alloc::Global;
 use std::fs::{File, TryLockError};
@@ -11,14 +11,14 @@ use std::{fs, io};
 
 /// How a call of the host failed that was to write.
 #[derive(Clone, Copy)]
-pub(super) struct Failed {
-    pub(super) kind: ErrorKind,
+pub struct Failed {
+    pub kind: ErrorKind,
     /// Whether a folder was to be made, and no file replaced.
-    pub(super) is_folder: bool,
+    pub is_folder: bool,
 }
 
 /// Why a name was not written, as a look tells, or else as the call tells that failed.
-pub(super) fn unwritten_cause<R: Files<File = File>>(
+pub fn unwritten_cause<R: Files<File = File>>(
     rt: &R,
     alloc: Global,
     name: &str,

@@ -1,7 +1,7 @@
 //! A file of the host that is replaced whole.
-use super::claims::{Claim, MOST_TURNS, leads_to, open_left};
-use super::new_folder::refuse_standing;
-use file_replacement::{FolderCalls, Unreplaced, replace};
+use crate::calls::FolderCalls;
+use crate::claims::{Claim, MOST_TURNS, leads_to, open_left};
+use crate::replacement::{Unreplaced, replace};
 use host_interface::new_name;
 use std::alloc::Global;
 use std::fs::{File, OpenOptions, TryLockError};
@@ -20,7 +20,7 @@ const PRIVATE_MODE: u32 = 0o600;
 /// Puts a file of these bytes in the place of a claimed one, and brings both to the disk. Refused where it
 /// may not be written. Where something was removed that stood at the name of the new file, its name is left
 /// in `removed`.
-pub(super) fn replace_file<R: Files<File = File>>(
+pub fn replace_file<R: Files<File = File>>(
     rt: &R,
     alloc: Global,
     claim: &Claim,
@@ -136,7 +136,7 @@ impl<R: Files<File = File>> FolderCalls for Replacing<'_, R> {
 }
 
 /// The name of the folder that a file stands in.
-pub(super) fn folder_of(path: &str) -> &str {
+pub fn folder_of(path: &str) -> &str {
     match Path::new(path).parent() {
         Some(folder) if !folder.as_str().is_empty() => folder.as_str(),
         _ => ".",
@@ -211,6 +211,15 @@ fn remove_left<R: Files<File = File>>(rt: &R, path: &str) -> io::Result<bool> {
     match fs::remove_file(rt, path) {
         Ok(()) => Ok(true),
         Err(error) if error.kind() == ErrorKind::NotFound => Ok(false),
+        Err(error) => Err(error),
+    }
+}
+
+/// Refused where anything stands at a name.
+pub fn refuse_standing<R: Files>(rt: &R, path: &str) -> io::Result<()> {
+    match fs::symlink_metadata(rt, path) {
+        Ok(_) => Err(io::Error::from(ErrorKind::AlreadyExists)),
+        Err(error) if error.kind() == ErrorKind::NotFound => Ok(()),
         Err(error) => Err(error),
     }
 }

@@ -1,6 +1,6 @@
 //! A name of the host that one program has to itself.
-use super::identity::Identity;
-use super::opening::{Opened, open_looked, refuse_special};
+use crate::identity::Identity;
+use crate::opening::{Opened, open_looked, refuse_special};
 use std::alloc::Global;
 use std::fs::File;
 use std::io::ErrorKind;
@@ -10,7 +10,7 @@ use std::{fs, io};
 
 /// So often a name is looked up, each time with another file found under it by then, before it
 /// counts as in use.
-pub(super) const MOST_TURNS: u32 = 100;
+pub(crate) const MOST_TURNS: u32 = 100;
 
 /// So many links are followed from a name, as by the host.
 const MOST_LINKS: u32 = 40;
@@ -18,7 +18,7 @@ const MOST_LINKS: u32 = 40;
 /// A claimed name: the file that it leads to is open and locked, until this is dropped. A name that no
 /// file has, or one whose file may not be opened, is claimed with no file.
 #[derive(Drop)]
-pub(super) struct Claim {
+pub struct Claim {
     name: String,
     path: String,
     file: Option<Opened>,
@@ -26,11 +26,7 @@ pub(super) struct Claim {
 
 impl Claim {
     /// Claims a name. Refused where what it leads to is no plain file, or another program has it.
-    pub(super) fn of<R: Files<File = File>>(
-        rt: &R,
-        alloc: Global,
-        name: &str,
-    ) -> io::Result<Claim> {
+    pub fn of<R: Files<File = File>>(rt: &R, alloc: Global, name: &str) -> io::Result<Claim> {
         for _ in 0..MOST_TURNS {
             if let Some(claim) = try_claim(rt, alloc, name)? {
                 return Ok(claim);
@@ -40,23 +36,23 @@ impl Claim {
     }
 
     /// The name, as it was given.
-    pub(super) fn name(&self) -> &str {
+    pub fn name(&self) -> &str {
         self.name.as_str()
     }
 
     /// The name of the file itself, past all links.
-    pub(super) fn path(&self) -> &str {
+    pub fn path(&self) -> &str {
         self.path.as_str()
     }
 
     /// The file.
-    pub(super) fn file(&self) -> Option<&File> {
+    pub fn file(&self) -> Option<&File> {
         self.file.as_ref().map(|opened| &opened.file)
     }
 
     /// Refused where a file is claimed that may not be written: it did not open for that, or its mode
     /// lets nobody write.
-    pub(super) fn refuse_unwritable(&self) -> io::Result<()> {
+    pub fn refuse_unwritable(&self) -> io::Result<()> {
         match &self.file {
             Some(opened) => refuse_unwritable(opened),
             None => Ok(()),
@@ -91,7 +87,7 @@ fn try_claim<R: Files<File = File>>(
 }
 
 /// The name of the file that a name leads to: each link is followed, also where it leads to no file.
-pub(super) fn past_links<R: Files>(rt: &R, alloc: Global, name: &str) -> io::Result<String> {
+pub(crate) fn past_links<R: Files>(rt: &R, alloc: Global, name: &str) -> io::Result<String> {
     let mut path = String::from_str(alloc, name)?;
     for _ in 0..MOST_LINKS {
         match fs::symlink_metadata(rt, path.as_str()) {
@@ -133,7 +129,7 @@ fn is_missing(error: &io::Error) -> bool {
 }
 
 /// Opens what is left of a plain file at a name, if it can be.
-pub(super) fn open_left<R: Files<File = File>>(rt: &R, path: &str) -> Option<File> {
+pub(crate) fn open_left<R: Files<File = File>>(rt: &R, path: &str) -> Option<File> {
     match open_plain(rt, path) {
         Ok(Some(opened)) => Some(opened.file),
         _ => None,
@@ -141,7 +137,7 @@ pub(super) fn open_left<R: Files<File = File>>(rt: &R, path: &str) -> Option<Fil
 }
 
 /// Whether a name leads to an open file.
-pub(super) fn leads_to<R: Files<File = File>>(rt: &R, name: &str, file: &File) -> io::Result<bool> {
+pub(crate) fn leads_to<R: Files<File = File>>(rt: &R, name: &str, file: &File) -> io::Result<bool> {
     let own = Identity::of(&file.metadata()?);
     match fs::metadata(rt, name) {
         Ok(named) => Ok(Identity::of(&named) == own),

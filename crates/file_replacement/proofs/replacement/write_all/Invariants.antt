@@ -1,7 +1,7 @@
 use Rattle.std.proofs.Common.{◌≡◌, ℕ, List, ◌++◌, length}
 use Rattle.file_replacement.specs.Folder.{Leads}
 use Rattle.file_replacement.specs.Outcomes.{HasWritten}
-use Rattle.file_replacement.proofs.replacing.write_all.Given as goal
+use Rattle.file_replacement.proofs.replacement.write_all.Given as goal
 
 -- so many of the bytes are written, and the others are left
 abbrev pub invariant-loop-rest : goal.invariant-loop-rest

@@ -1,6 +1,6 @@
 //! What is taken away where a file of the host is replaced.
-use super::claims::past_links;
-use super::identity::Identity;
+use crate::claims::past_links;
+use crate::identity::Identity;
 use host_interface::new_name;
 use std::alloc::Global;
 use std::rt::Files;
@@ -8,14 +8,14 @@ use std::{fs, io};
 
 /// The file that a name leads to, and what stands where its new file is made, as far as they are there.
 #[derive(Clone, Copy)]
-pub(super) struct Replaced {
+pub struct Replaced {
     file: Option<Identity>,
     beside: Option<Identity>,
 }
 
 impl Replaced {
     /// What a file in the place of the one of a name takes away.
-    pub(super) fn of<R: Files>(rt: &R, alloc: Global, name: &str) -> io::Result<Replaced> {
+    pub fn of<R: Files>(rt: &R, alloc: Global, name: &str) -> io::Result<Replaced> {
         let path = past_links(rt, alloc, name)?;
         let beside = new_name(alloc, path.as_str())?;
         Ok(Replaced {
@@ -25,7 +25,7 @@ impl Replaced {
     }
 
     /// Nothing.
-    pub(super) fn none() -> Replaced {
+    pub fn none() -> Replaced {
         Replaced {
             file: None,
             beside: None,
@@ -33,7 +33,7 @@ impl Replaced {
     }
 
     /// Whether a file is among what is taken away.
-    pub(super) fn has(&self, identity: Identity) -> bool {
+    pub fn has(&self, identity: Identity) -> bool {
         self.file == Some(identity) || self.beside == Some(identity)
     }
 }

@@ -1,5 +1,5 @@
 //! Plain files that are opened.
-use super::identity::{Identity, refuse_another};
+use crate::identity::{Identity, refuse_another};
 use std::fs::{File, Metadata, OpenOptions};
 use std::io::ErrorKind;
 use std::rt::Files;
@@ -7,16 +7,16 @@ use std::{fs, io};
 
 /// A plain file that is open.
 #[derive(Drop)]
-pub(super) struct Opened {
-    pub(super) file: File,
+pub struct Opened {
+    pub file: File,
     /// Whether it is open for writing too.
-    pub(super) is_written: bool,
+    pub(crate) is_written: bool,
 }
 
 /// Opens what a name leads to, which was looked at and was a plain file. It is opened for writing too where
 /// that is allowed, since the host then waits for no fifo that took its place. One that may only be read is
 /// looked at once more, and opened for reading. Refused where it is no plain file by now.
-pub(super) fn open_looked<R: Files<File = File>>(rt: &R, path: &str) -> io::Result<Opened> {
+pub fn open_looked<R: Files<File = File>>(rt: &R, path: &str) -> io::Result<Opened> {
     let opened = match OpenOptions::new().read(true).write(true).open(rt, path) {
         Ok(file) => Opened {
             file,
@@ -37,7 +37,7 @@ pub(super) fn open_looked<R: Files<File = File>>(rt: &R, path: &str) -> io::Resu
 
 /// Opens the plain file of a name that is no link. The host opens a link too, so what was opened has to be
 /// the file that was looked at before.
-pub(super) fn open_unlinked<R: Files<File = File>>(rt: &R, path: &str) -> io::Result<File> {
+pub fn open_unlinked<R: Files<File = File>>(rt: &R, path: &str) -> io::Result<File> {
     let looked = fs::symlink_metadata(rt, path)?;
     refuse_special(&looked)?;
     let Opened { file, .. } = open_looked(rt, path)?;
@@ -54,7 +54,7 @@ fn is_for_readers(error: &io::Error) -> bool {
 }
 
 /// Refused where it is no plain file.
-pub(super) fn refuse_special(found: &Metadata) -> io::Result<()> {
+pub fn refuse_special(found: &Metadata) -> io::Result<()> {
     if found.is_file() {
         return Ok(());
     }

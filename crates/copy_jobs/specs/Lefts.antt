@@ -14,7 +14,7 @@ use Rattle.record_format.specs.declared.record.Record.{Record}
 use Rattle.commit_pair.specs.Newest.{committed_on}
 use Rattle.mounting.specs.Records.{knows_plain_only}
 use Rattle.tree_updates.specs.Laws.{Brings}
-use Rattle.salvages.specs.Rests.{rest_of}
+use Rattle.known_nodes.specs.Rests.{rest_of}
 use Rattle.salvages.specs.Told.{rest_root}
 use Rattle.salvages.specs.Wholes.{IsWhole}
 use Rattle.salvages.specs.declared.making.Rest.{Rest}

@@ -14,7 +14,7 @@ use Rattle.node_format.specs.declared.place.Place.TheVariants.{Dir, File}
 use Rattle.block_trees.specs.Bodies.{Blocks}
 use Rattle.block_trees.specs.Chains.{link_of, most_after}
 use Rattle.salvages.specs.Lefts.{left, left_item, left_in, next_left, left_from, left_of}
-use Rattle.salvages.specs.Rests.{items_from, items_left, leads_left}
+use Rattle.known_nodes.specs.Rests.{items_from, items_left, leads_left}
 use Rattle.salvages.specs.declared.lefts.Left.{Left}
 use Rattle.salvages.proofs.LossLaws.{in_none, head_in, later_in, one_is, first_or, in_left, in_right, brought, brings_in, length_more, longer, items_are, item_leads, goes_over}
 

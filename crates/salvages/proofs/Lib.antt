@@ -5,14 +5,11 @@ pub mod Looking
 pub mod LostRoots
 pub mod Saving
 pub mod SureFlashes
-pub mod WholeFileLaws
 pub mod Adding
-pub mod TableLaws
 pub mod Levels
 pub mod LossLaws
 pub mod Telling
 pub mod LeftLaws
 pub mod RestMaking
-pub mod FileBytes
 pub mod RestRoots
 pub mod Listing

@@ -13,7 +13,7 @@ use Rattle.node_format.specs.Items.{Item}
 use Rattle.node_format.specs.Links.{Link}
 use Rattle.block_trees.specs.Bodies.{Blocks}
 use Rattle.salvages.specs.Lefts.{left_from, left_item, made_at, next_left}
-use Rattle.salvages.specs.Rests.{link_after, items_from}
+use Rattle.known_nodes.specs.Rests.{link_after, items_from}
 use Rattle.salvages.specs.declared.lefts.Left.{Left}
 
 -- ---- the nodes of a directory

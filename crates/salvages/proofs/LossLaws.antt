@@ -21,8 +21,8 @@ use Rattle.block_trees.specs.Chains.{link_of, most_after, is_later}
 use Rattle.reclaim.specs.Looks.{last_name, are_after, may_follow}
 use Rattle.salvages.specs.LossLaws.{path_bytes, IsLostAt, LossLaw}
 use Rattle.salvages.specs.Losses.{path_to, loss, way, lost_at, lost_item, ways_at, ways_item, lost_entries, lost_of_link, lost_in, ways_of_link, ways_in, lost_under, lost_from, lost_of}
-use Rattle.salvages.specs.Rests.{following, link_after, items_from, is_cut_from, items_left, child_left, leads_left}
-use Rattle.salvages.specs.WholeFiles.{is_file}
+use Rattle.known_nodes.specs.Rests.{following, link_after, items_from, is_cut_from, items_left, child_left, leads_left}
+use Rattle.known_nodes.specs.WholeFiles.{is_file}
 use Rattle.salvages.specs.declared.found.Way.{Way}
 use Rattle.salvages.specs.declared.losses.Loss.{Loss}
 use Rattle.salvages.specs.declared.losses.LossKind.{LossKind}

@@ -24,7 +24,7 @@ use Rattle.tree_updates.proofs.Assigned.{assigned, all_assigned, all_have, all_m
 use Rattle.tree_updates.proofs.Leading.{within, Leads, leads-refl, leads-trans, accepted-parts, after-append, mkdir_leads, write_leads}
 use Rattle.salvages.specs.Lefts.{left, left_of, made_at, made_of, rest_calls}
 use Rattle.salvages.specs.Remade.{Makes}
-use Rattle.salvages.specs.Rests.{entry_left, leads_left, rest_in}
+use Rattle.known_nodes.specs.Rests.{entry_left, leads_left, rest_in}
 use Rattle.salvages.specs.declared.lefts.Left.{Left}
 use Rattle.salvages.proofs.LeftLaws.{in_map, left_all, left_right}
 use Rattle.salvages.proofs.LossLaws.{head_in, later_in}

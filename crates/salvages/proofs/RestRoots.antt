@@ -16,7 +16,7 @@ use Rattle.salvages.specs.Lefts.{rest_bytes}
 use Rattle.salvages.specs.Losses.{cost_of, lost_of}
 use Rattle.salvages.specs.Overfull.{Unmade}
 use Rattle.salvages.specs.Remade.{IsBeside, IsRestAt, Makes, UnmadeCause}
-use Rattle.salvages.specs.Rests.{rest_in}
+use Rattle.known_nodes.specs.Rests.{rest_in}
 use Rattle.salvages.specs.Salvages.{SalvageCause}
 use Rattle.salvages.specs.declared.found.TheConstants.{MAX_COST}
 use Rattle.salvages.specs.declared.losses.LossFault.{LossFault}

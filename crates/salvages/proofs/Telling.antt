@@ -16,7 +16,7 @@ use Rattle.salvages.proofs.Saving.{cause_back}
 use Rattle.salvages.specs.Lefts.{rest_bytes}
 use Rattle.salvages.specs.Losses.{lost_of, cost_of}
 use Rattle.salvages.specs.Remade.{Makes, IsRest, IsRestAt, UnmadeCause}
-use Rattle.salvages.specs.Rests.{rest_in}
+use Rattle.known_nodes.specs.Rests.{rest_in}
 use Rattle.salvages.specs.Told.{rest_root, lost_on, UntoldCause}
 use Rattle.salvages.specs.declared.found.TheConstants.{MAX_COST}
 use Rattle.salvages.specs.declared.losses.LossFault.{LossFault}

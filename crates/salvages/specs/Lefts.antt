@@ -9,8 +9,8 @@ use Rattle.node_format.specs.Items.{Item}
 use Rattle.node_format.specs.declared.place.Place.{Place}
 use Rattle.node_format.specs.declared.place.Place.TheVariants.{Dir, File}
 use Rattle.block_trees.specs.Bodies.{Blocks}
-use Rattle.salvages.specs.Rests.{items_left, entry_left}
-use Rattle.salvages.specs.WholeFiles.{is_file}
+use Rattle.known_nodes.specs.Rests.{items_left, entry_left}
+use Rattle.known_nodes.specs.WholeFiles.{is_file}
 use Rattle.salvages.specs.declared.lefts.Left.{Left}
 
 abbrev pub left : Path → Place → Left

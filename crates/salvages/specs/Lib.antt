@@ -5,14 +5,9 @@ pub mod Kept
 pub mod Placing
 pub mod Wholes
 pub mod Salvages
-pub mod Tables
-pub mod WholeFiles
-pub mod Known
-pub mod Rests
 pub mod Losses
 pub mod Told
 pub mod LossLaws
 pub mod Lefts
-pub mod FileBytes
 pub mod Overfull
 pub mod Remade

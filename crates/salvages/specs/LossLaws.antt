@@ -8,8 +8,8 @@ use Rattle.node_format.specs.declared.place.Place.TheVariants.{Dir, File}
 use Rattle.block_trees.specs.Bodies.{Blocks}
 use Rattle.block_trees.specs.Chains.{link_of, most_after}
 use Rattle.salvages.specs.Losses.{lost_of}
-use Rattle.salvages.specs.Rests.{leads_left, is_cut_from}
-use Rattle.salvages.specs.WholeFiles.{is_file}
+use Rattle.known_nodes.specs.Rests.{leads_left, is_cut_from}
+use Rattle.known_nodes.specs.WholeFiles.{is_file}
 use Rattle.salvages.specs.declared.losses.Loss.{Loss}
 use Rattle.salvages.specs.declared.losses.LossKind.{LossKind}
 

@@ -10,8 +10,8 @@ use Rattle.node_format.specs.declared.place.Place.{Place}
 use Rattle.node_format.specs.declared.place.Place.TheVariants.{Dir, File}
 use Rattle.block_trees.specs.Bodies.{Blocks}
 use Rattle.block_trees.specs.Chains.{link_of, most_after}
-use Rattle.salvages.specs.Rests.{items_from, is_cut_from}
-use Rattle.salvages.specs.WholeFiles.{is_file}
+use Rattle.known_nodes.specs.Rests.{items_from, is_cut_from}
+use Rattle.known_nodes.specs.WholeFiles.{is_file}
 use Rattle.salvages.specs.declared.found.Found.{Found}
 use Rattle.salvages.specs.declared.found.TheConstants.{ENTRY_COST, MAX_COST}
 use Rattle.salvages.specs.declared.found.Way.{Way}

@@ -14,7 +14,7 @@ use Rattle.tree_updates.specs.Laws.{Brings}
 use Rattle.working_state.specs.Seen.{capacity_of}
 use Rattle.salvages.specs.Lefts.{rest_bytes}
 use Rattle.salvages.specs.Losses.{lost_of, cost_of}
-use Rattle.salvages.specs.Rests.{rest_of}
+use Rattle.known_nodes.specs.Rests.{rest_of}
 use Rattle.salvages.specs.Salvages.{SalvageCause}
 use Rattle.salvages.specs.Told.{rest_root}
 use Rattle.salvages.specs.Wholes.{IsWhole}

@@ -3,11 +3,11 @@ ghost use Rattle.std.specs.Prelude.{◌≡◌, ◌<◌, [], ◌∷◌, ◌++◌,
 ghost use Rattle.std.specs.List.{flat_map};
 ghost use Rattle.node_format.specs.declared.place.Place.TheVariants.{Dir};
 ghost use Rattle.salvages.specs.Lefts as spec;
-ghost use Rattle.salvages.specs.Rests as rests;
-ghost use Rattle.salvages.specs.Tables.{blocks_in};
+ghost use Rattle.known_nodes.specs.Rests as rests;
+ghost use Rattle.known_nodes.specs.Tables.{blocks_in};
 
-use crate::known_nodes::KnownNodes;
 use fs_types::{CHAIN_NODES, MAX_NAMES, Name, Path};
+use known_nodes::KnownNodes;
 use node_format::{Entries, Entry, EntryList, Place};
 use std::alloc::{AllocError, Global};
 

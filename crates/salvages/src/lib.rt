@@ -1,22 +1,18 @@
 //! What can be read of a damaged flash, saved on a new one.
 #![tactic(auto)]
 
-mod bodies;
 mod copies;
 mod found;
 mod kept_records;
-mod known_nodes;
 mod lefts;
 mod looks;
 mod losses;
 mod making;
-mod node_table;
 mod record_pages;
 mod rests;
 mod salvaged;
 mod tellings;
 mod walk;
-mod whole_files;
 
 pub use found::{ENTRY_COST, MAX_COST};
 pub use looks::is_whole;
@@ -26,4 +22,3 @@ pub use rests::find_rest;
 pub use salvaged::{Salvaged, salvage};
 pub use tellings::find_losses;
 pub use walk::loss_law;
-pub use whole_files::whole_file_law;

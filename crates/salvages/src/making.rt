@@ -4,13 +4,13 @@ ghost use Rattle.std.specs.List.{flat_map};
 ghost use Rattle.node_format.specs.declared.place.Place.TheVariants.{Dir, File};
 ghost use Rattle.salvages.specs.Lefts as spec;
 ghost use Rattle.salvages.specs.Overfull.{Overfull};
-ghost use Rattle.salvages.specs.Rests.{entry_left};
-ghost use Rattle.salvages.specs.Tables.{blocks_in};
+ghost use Rattle.known_nodes.specs.Rests.{entry_left};
+ghost use Rattle.known_nodes.specs.Tables.{blocks_in};
 
-use crate::known_nodes::KnownNodes;
 use crate::lefts::{Left, list_left};
 use crate::losses::{Loss, LossFault};
 use fs_types::{Call, CpName, Path};
+use known_nodes::KnownNodes;
 use node_format::Place;
 use std::alloc::{AllocError, Global};
 

@@ -9,12 +9,11 @@ ghost use Rattle.salvages.specs.Lefts.{rest_bytes};
 ghost use Rattle.salvages.specs.Losses.{lost_of, cost_of};
 ghost use Rattle.salvages.specs.Overfull.{Unmade};
 ghost use Rattle.salvages.specs.Remade.{Makes, IsBeside, IsRestAt, IsRestOf, UnmadeCause};
-ghost use Rattle.salvages.specs.Rests.{rest_in};
-ghost use Rattle.salvages.specs.Tables.{blocks_in};
+ghost use Rattle.known_nodes.specs.Rests.{rest_in};
+ghost use Rattle.known_nodes.specs.Tables.{blocks_in};
 ghost use Rattle.salvages.specs.Told as told;
 
 use crate::kept_records::{list_names, list_serials};
-use crate::known_nodes::KnownNodes;
 use crate::looks::is_whole;
 use crate::losses::LossFault;
 use crate::making::{Rest, list_calls};
@@ -22,6 +21,7 @@ use crate::salvaged::read_newest;
 use crate::tellings::{know_nodes, present_of, rest_root};
 use crate::walk::list_losses;
 use flash_model::Flash;
+use known_nodes::KnownNodes;
 use record_format::{OLD_FORMAT, Record};
 use std::alloc::Global;
 

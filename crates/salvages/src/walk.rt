@@ -5,12 +5,12 @@ ghost use Rattle.salvages.specs.declared.found.TheConstants.{MAX_COST};
 ghost use Rattle.salvages.specs.LossLaws.{LossLaw};
 ghost use Rattle.salvages.specs.Losses as spec;
 ghost use Rattle.salvages.specs.Losses.{Adds, Uncounted};
-ghost use Rattle.salvages.specs.Tables.{blocks_in};
+ghost use Rattle.known_nodes.specs.Tables.{blocks_in};
 
 use crate::found::{ENTRY_COST, Found, Way, path_of};
-use crate::known_nodes::KnownNodes;
 use crate::losses::{Loss, LossFault, LossKind};
 use fs_types::{Bytes, CHAIN_NODES, MAX_NAMES};
+use known_nodes::KnownNodes;
 use node_format::{Entries, Entry, EntryList, Place};
 use std::alloc::Global;
 use std::mem;

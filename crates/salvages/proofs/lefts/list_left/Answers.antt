@@ -1,7 +1,7 @@
 use Rattle.std.proofs.Common.{◌≡◌, ◌+◌, ◌-◌, ◌∙◌, suc, ap, arith}
 use Rattle.std.specs.List.{flat_map}
 use Rattle.salvages.specs.Lefts.{left_of, next_left}
-use Rattle.salvages.specs.Tables.{blocks_in}
+use Rattle.known_nodes.specs.Tables.{blocks_in}
 use Rattle.salvages.proofs.Listing.{last_left, level_left}
 use Rattle.salvages.proofs.lefts.list_left.Goals as goal
 

@@ -1,7 +1,7 @@
 use Rattle.std.proofs.Common.{◌≡◌, ◌-◌, ◌++◌}
 use Rattle.fs_types.specs.declared.limits.TheConstants.{MAX_NAMES}
 use Rattle.salvages.specs.Lefts.{left_from, left_of}
-use Rattle.salvages.specs.Tables.{blocks_in}
+use Rattle.known_nodes.specs.Tables.{blocks_in}
 use Rattle.salvages.proofs.lefts.list_left.Given as goal
 
 -- what the levels that are left bring is left

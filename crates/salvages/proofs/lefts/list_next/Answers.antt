@@ -1,6 +1,6 @@
 use Rattle.std.proofs.Common.{[]}
 use Rattle.salvages.specs.Lefts.{next_left}
-use Rattle.salvages.specs.Tables.{blocks_in}
+use Rattle.known_nodes.specs.Tables.{blocks_in}
 use Rattle.salvages.proofs.Listing.{brings_more}
 use Rattle.salvages.proofs.lefts.list_next.Goals as goal
 

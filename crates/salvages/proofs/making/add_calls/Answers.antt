@@ -1,5 +1,5 @@
 use Rattle.salvages.specs.Lefts.{made_of}
-use Rattle.salvages.specs.Tables.{blocks_in}
+use Rattle.known_nodes.specs.Tables.{blocks_in}
 use Rattle.salvages.proofs.Listing.{brings_more}
 use Rattle.salvages.proofs.making.add_calls.Goals as goal
 

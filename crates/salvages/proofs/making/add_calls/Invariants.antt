@@ -1,7 +1,7 @@
 use Rattle.std.proofs.Common.{◌≡◌, ◌++◌, take}
 use Rattle.std.specs.List.{flat_map}
 use Rattle.salvages.specs.Lefts.{made_of}
-use Rattle.salvages.specs.Tables.{blocks_in}
+use Rattle.known_nodes.specs.Tables.{blocks_in}
 use Rattle.salvages.proofs.making.add_calls.Given as goal
 
 abbrev pub invariant-loop-left : goal.invariant-loop-left

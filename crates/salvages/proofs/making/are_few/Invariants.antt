@@ -1,7 +1,7 @@
 use Rattle.std.proofs.Common.{◌≡◌, ◌+◌, ◌≤◌, take}
 use Rattle.std.specs.Prelude.{sum_by}
 use Rattle.salvages.specs.Lefts.{size_of}
-use Rattle.salvages.specs.Tables.{blocks_in}
+use Rattle.known_nodes.specs.Tables.{blocks_in}
 use Rattle.salvages.specs.declared.making.TheConstants.{MAX_BYTES}
 use Rattle.salvages.proofs.making.are_few.Given as goal
 

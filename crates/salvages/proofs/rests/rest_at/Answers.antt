@@ -1,8 +1,8 @@
 use Rattle.std.proofs.Common.{◌≡◌, List, sym, subst}
 use Rattle.fs_types.specs.declared.call.Call.{Call}
 use Rattle.salvages.specs.Remade.{Makes}
-use Rattle.salvages.specs.Rests.{rest_in}
-use Rattle.salvages.specs.Tables.{blocks_in}
+use Rattle.known_nodes.specs.Rests.{rest_in}
+use Rattle.known_nodes.specs.Tables.{blocks_in}
 use Rattle.salvages.proofs.RestMaking.{begun_made}
 use Rattle.salvages.proofs.rests.rest_at.Goals as goal
 

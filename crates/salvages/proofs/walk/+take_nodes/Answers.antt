@@ -1,7 +1,7 @@
 use Rattle.std.proofs.Common.{◌≡◌, ◌-◌, ℕ, suc, inl, inr, not, sym, ap, arith}
 use Rattle.std.specs.Prelude.{◌==◌}
 use Rattle.std.proofs.lemmas.Result.{err_from_is_err_and, on_ok_weaker, IfErr-weaker}
-use Rattle.salvages.specs.Tables.{blocks_in}
+use Rattle.known_nodes.specs.Tables.{blocks_in}
 use Rattle.salvages.proofs.Adding.{end_adds, end_much, more_adds, more_much, first_much}
 use Rattle.salvages.proofs.walk.+take_nodes.Goals as goal
 

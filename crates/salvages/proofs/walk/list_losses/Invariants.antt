@@ -1,7 +1,7 @@
 use Rattle.std.proofs.Common.{◌≡◌, ◌+◌, ◌-◌, ◌≤◌, ◌++◌}
 use Rattle.fs_types.specs.declared.limits.TheConstants.{MAX_NAMES}
 use Rattle.salvages.specs.Losses.{lost_from, lost_of, cost_from, cost_of}
-use Rattle.salvages.specs.Tables.{blocks_in}
+use Rattle.known_nodes.specs.Tables.{blocks_in}
 use Rattle.salvages.specs.declared.found.TheConstants.{MAX_COST}
 use Rattle.salvages.proofs.walk.list_losses.Given as goal
 

@@ -1,5 +1,5 @@
 use Rattle.std.proofs.lemmas.Result.{on_ok_weaker, IfErr-weaker}
-use Rattle.salvages.specs.Tables.{blocks_in}
+use Rattle.known_nodes.specs.Tables.{blocks_in}
 use Rattle.salvages.proofs.Adding.{directory_adds, directory_much}
 use Rattle.salvages.proofs.walk.take_directory.Goals as goal
 

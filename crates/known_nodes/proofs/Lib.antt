@@ -1,0 +1,3 @@
+pub mod FileBytes
+pub mod TableLaws
+pub mod WholeFileLaws

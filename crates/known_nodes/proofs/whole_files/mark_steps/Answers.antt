@@ -1,0 +1,11 @@
+use Rattle.std.proofs.Common.{arith}
+use Rattle.known_nodes.specs.Tables.{blocks_in}
+use Rattle.known_nodes.specs.WholeFiles.{is_step}
+use Rattle.known_nodes.proofs.TableLaws.{marks_all, no_step}
+use Rattle.known_nodes.proofs.whole_files.mark_steps.Goals as goal
+
+pub returns : goal.returns
+returns c =
+    let f = blocks_in c.args.table.now in
+    marks_all c.loop-block.marks.items (is_step c.args.capacity f) c.loop-block.block c.loop-block.invariant.all c.loop-block.invariant.marks
+    (λ b past. no_step c.args.capacity f b (c.requires b (let test = c.loop-block-test.false in omega (arith, test, past))))

@@ -1,9 +1,0 @@
-use Rattle.std.proofs.Common.{◌≡◌, ℕ, ◌<◌, true}
-use Rattle.block_trees.specs.Bodies.{pointer_of}
-use Rattle.salvages.specs.Tables.{blocks_in}
-use Rattle.salvages.specs.WholeFiles.{is_stepped}
-use Rattle.salvages.proofs.whole_files.are_stepped.Given as goal
-
--- each slot so far is stepped
-abbrev pub invariant-loop-slot : goal.invariant-loop-slot
-invariant-loop-slot l = (x : ℕ) → x < l.slot → is_stepped (blocks_in l.table) (pointer_of (blocks_in l.table l.block)) l.index x ≡ true

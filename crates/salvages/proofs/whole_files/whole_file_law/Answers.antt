@@ -1,5 +1,0 @@
-use Rattle.salvages.proofs.WholeFileLaws.{whole_files}
-use Rattle.salvages.proofs.whole_files.whole_file_law.Goals as goal
-
-pub returns : goal.returns
-returns c = whole_files

@@ -9,7 +9,7 @@ ghost use Rattle.node_store.specs.Storage as parts;
 ghost use Rattle.node_store.specs.Stores.{IsSoundStore, Follows};
 ghost use Rattle.block_trees.specs.Reached.{Reached};
 ghost use Rattle.reclaim.specs.Verified.{AreRoots, HasCost, all_reads};
-ghost use Rattle.space_counts.specs.FirstRoots.{AreFirstRoots};
+ghost use Rattle.tree_counts.specs.FirstRoots.{AreFirstRoots};
 ghost use Rattle.working_state.specs.Leaves.{HasLooked};
 ghost use Rattle.working_state.specs.Seen.{seen_of};
 ghost use Rattle.working_state.specs.Worked.{ReadCause};
@@ -21,8 +21,8 @@ use flash_model::Flash;
 use fs_types::Fault;
 use node_store::{Nodes, Storage, Store};
 use reclaim::{Pass, verify};
-use space_counts::find_first_roots;
 use std::alloc::Global;
+use tree_counts::find_first_roots;
 
 /// The blocks that roots reach, each of which has a tree; where they are to be plain, one whose
 /// directories are nodes that stand alone.

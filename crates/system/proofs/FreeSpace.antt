@@ -15,7 +15,7 @@ use Rattle.allocator.specs.Ring.{data_blocks}
 use Rattle.node_store.specs.NodePages.{node_of}
 use Rattle.block_trees.specs.Reached.{Reached}
 use Rattle.reclaim.proofs.MoreRoots.{reached_more}
-use Rattle.space_counts.specs.Counts.{CountsFree}
+use Rattle.tree_counts.specs.Counts.{CountsFree}
 use Rattle.working_state.specs.Mounted.{IsMounted}
 use Rattle.working_state.specs.Seen.{seen_on, tree_on}
 use Rattle.working_state.specs.Worked.{ReadCause}

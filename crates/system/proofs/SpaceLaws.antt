@@ -27,7 +27,7 @@ use Rattle.allocator.specs.Ring.{data_blocks}
 use Rattle.node_store.specs.NodePages.{node_of}
 use Rattle.block_trees.specs.Bodies.{Blocks}
 use Rattle.block_trees.specs.Reached.{Reached}
-use Rattle.space_counts.specs.Counts.{IsAlone}
+use Rattle.tree_counts.specs.Counts.{IsAlone}
 use Rattle.working_state.specs.Roots.{IsSpace}
 use Rattle.working_state.specs.Seen.{tree_on}
 use Rattle.working_state.specs.declared.state.State.{State}

@@ -16,7 +16,7 @@ use Rattle.node_store.specs.NodePages.{node_of}
 use Rattle.node_store.specs.ReadingLaws.{OnlyReads_nodes}
 use Rattle.block_trees.specs.Bodies.{Blocks}
 use Rattle.block_trees.specs.Reached.{Reached}
-use Rattle.space_counts.specs.Counts.{CountsAlone}
+use Rattle.tree_counts.specs.Counts.{CountsAlone}
 use Rattle.working_state.specs.Roots.{HasRoot, IsReached}
 use Rattle.working_state.specs.declared.state.State.{State}
 use Rattle.mounting.specs.Records.{roots_of, group_roots, working_roots}

@@ -17,9 +17,9 @@ use Rattle.node_store.specs.NodePages.{node_of}
 use Rattle.node_store.specs.ReadingLaws.{OnlyReads_nodes}
 use Rattle.block_trees.specs.Bodies.{Blocks}
 use Rattle.reclaim.specs.Passes.{AreReached}
-use Rattle.space_counts.specs.Counts.{CountsFree, CountsFreed}
-use Rattle.space_counts.specs.FirstRoots.{AreFirstRoots, is_free}
-use Rattle.space_counts.proofs.Counted.{counts_free}
+use Rattle.tree_counts.specs.Counts.{CountsFree, CountsFreed}
+use Rattle.tree_counts.specs.FirstRoots.{AreFirstRoots, is_free}
+use Rattle.tree_counts.proofs.Counted.{counts_free}
 use Rattle.working_state.specs.Moments.{Moment, moment, seen_at}
 use Rattle.working_state.specs.Seen.{Seen, seen_on}
 use Rattle.working_state.specs.Steps.{LeadsTo, is_cut_answer}

@@ -7,8 +7,8 @@ use Rattle.fs_types.specs.declared.fault.Fault.TheVariants.{PowerCut}
 use Rattle.flash_model.specs.Device.{Device}
 use Rattle.node_store.specs.NodePages.{node_of}
 use Rattle.reclaim.specs.Passes.{AreReached}
-use Rattle.space_counts.specs.Counts.{CountsAlone}
-use Rattle.space_counts.specs.FirstRoots.{AreFirstRoots}
+use Rattle.tree_counts.specs.Counts.{CountsAlone}
+use Rattle.tree_counts.specs.FirstRoots.{AreFirstRoots}
 use Rattle.working_state.specs.Seen.{seen_on}
 use Rattle.working_state.specs.Steps.{replied}
 use Rattle.working_state.specs.Worked.{ReadCause}

@@ -9,7 +9,7 @@ ghost use Rattle.mounting.specs.Records.{working_roots};
 ghost use Rattle.working_state.specs.Moments.{moment};
 ghost use Rattle.working_state.specs.Mounted.{IsMounted};
 ghost use Rattle.working_state.specs.Worked.{IsLooked};
-ghost use Rattle.space_counts.specs.FirstRoots.{AreFirstRoots};
+ghost use Rattle.tree_counts.specs.FirstRoots.{AreFirstRoots};
 ghost use Rattle.system.specs.HistorySpace.{FreeAfter, Finds, FindsIn, ForgetsUntil, Looks, df_answer};
 ghost use Rattle.system.specs.Steps.{SystemStep};
 ghost use Rattle.system.specs.Systems.{IsSystem};
@@ -18,8 +18,8 @@ use crate::systems::System;
 use flash_model::Flash;
 use fs_types::{Fault, Request};
 use mounting::{first_roots_on, list_working};
-use space_counts::count_free;
 use std::alloc::{AllocError, Global};
+use tree_counts::count_free;
 use working_state::State;
 
 impl System {

@@ -6,7 +6,7 @@ ghost use Rattle.flash_model.specs.Device.{Device};
 ghost use Rattle.node_store.specs.NodePages.{node_of};
 ghost use Rattle.mounting.specs.Costs.{AsksEach};
 ghost use Rattle.mounting.specs.Records.{working_roots};
-ghost use Rattle.space_counts.specs.FirstRoots.{AreFirstRoots};
+ghost use Rattle.tree_counts.specs.FirstRoots.{AreFirstRoots};
 ghost use Rattle.working_state.specs.Moments.{moment};
 ghost use Rattle.working_state.specs.Mounted.{IsMounted};
 ghost use Rattle.working_state.specs.Seen.{seen_on};
@@ -22,8 +22,8 @@ use crate::systems::System;
 use flash_model::Flash;
 use fs_types::{Fault, Sequence};
 use mounting::{first_roots_on, list_working};
-use space_counts::{count_alone, count_freed};
 use std::alloc::{AllocError, Global};
+use tree_counts::{count_alone, count_freed};
 use working_state::State;
 
 /// What a version keeps, in blocks that are not bad.

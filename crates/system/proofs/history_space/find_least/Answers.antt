@@ -3,7 +3,7 @@ use Rattle.std.specs.Prelude.{Contains}
 use Rattle.block_trees.specs.Bodies.{Blocks}
 use Rattle.node_store.specs.NodePages.{node_of}
 use Rattle.node_store.specs.ReadingLaws.{OnlyReads_nodes}
-use Rattle.space_counts.specs.FirstRoots.{AreFirstRoots}
+use Rattle.tree_counts.specs.FirstRoots.{AreFirstRoots}
 use Rattle.working_state.specs.Moments.{Moment, moment}
 use Rattle.working_state.proofs.Standing.{looked_at, looked_worked, worked_mounted}
 use Rattle.mounting.specs.Costs.{AsksEach}

@@ -1,7 +1,7 @@
 use Rattle.std.proofs.Common.{◌≡◌, ℕ, ◌-◌, length, take, reverse, sym, ap, subst, ◌∙◌, arith}
 use Rattle.std.proofs.lemmas.List.{length-reverse}
 use Rattle.node_store.specs.NodePages.{node_of}
-use Rattle.space_counts.specs.Counts.{CountsFree}
+use Rattle.tree_counts.specs.Counts.{CountsFree}
 use Rattle.mounting.specs.Records.{working_roots}
 use Rattle.system.specs.HistorySpace.{FreeAfter}
 use Rattle.system.proofs.FreeSpace.{free_after, cursor_within}

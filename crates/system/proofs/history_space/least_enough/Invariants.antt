@@ -1,7 +1,7 @@
 use Rattle.std.proofs.Common.{ℕ, ◌<◌, reverse}
 use Rattle.flash_model.specs.Device.{Device}
 use Rattle.node_store.specs.NodePages.{node_of}
-use Rattle.space_counts.specs.FirstRoots.{AreFirstRoots}
+use Rattle.tree_counts.specs.FirstRoots.{AreFirstRoots}
 use Rattle.working_state.specs.Mounted.{IsMounted}
 use Rattle.mounting.specs.Records.{working_roots}
 use Rattle.system.specs.HistorySpace.{FreeAfter}

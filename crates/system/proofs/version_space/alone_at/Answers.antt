@@ -1,7 +1,7 @@
 use Rattle.std.proofs.Common.{◌≡◌, ℕ, List, reverse, sym, subst, ◌∙◌}
 use Rattle.node_store.specs.NodePages.{node_of}
-use Rattle.space_counts.specs.Counts.{CountsAlone}
-use Rattle.space_counts.specs.FirstRoots.{AreFirstRoots}
+use Rattle.tree_counts.specs.Counts.{CountsAlone}
+use Rattle.tree_counts.specs.FirstRoots.{AreFirstRoots}
 use Rattle.mounting.specs.Records.{working_roots}
 use Rattle.system.specs.VersionSpace.{KeepsAlone}
 use Rattle.system.proofs.version_space.alone_at.Goals as goal

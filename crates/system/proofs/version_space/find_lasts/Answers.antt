@@ -1,7 +1,7 @@
 use Rattle.std.proofs.Common.{ℕ, List, reverse, subst, ◌∙◌}
 use Rattle.std.specs.Prelude.{Contains, IfOk}
 use Rattle.node_store.specs.NodePages.{node_of}
-use Rattle.space_counts.specs.FirstRoots.{AreFirstRoots}
+use Rattle.tree_counts.specs.FirstRoots.{AreFirstRoots}
 use Rattle.mounting.proofs.Asking.{asks_none}
 use Rattle.mounting.specs.Costs.{AsksEach}
 use Rattle.mounting.specs.Records.{working_roots}

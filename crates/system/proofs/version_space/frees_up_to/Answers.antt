@@ -1,8 +1,8 @@
 use Rattle.std.proofs.Common.{◌≡◌, ℕ, List, ◌+◌, ◌-◌, length, reverse, sym, ap, subst, ◌∙◌, arith}
 use Rattle.std.proofs.lemmas.List.{length-reverse}
 use Rattle.node_store.specs.NodePages.{node_of}
-use Rattle.space_counts.specs.Counts.{CountsFreed}
-use Rattle.space_counts.specs.FirstRoots.{AreFirstRoots}
+use Rattle.tree_counts.specs.Counts.{CountsFreed}
+use Rattle.tree_counts.specs.FirstRoots.{AreFirstRoots}
 use Rattle.mounting.specs.Records.{working_roots}
 use Rattle.system.specs.VersionSpace.{Frees}
 use Rattle.system.proofs.VersionSpaces.{freed_counts}

@@ -1,7 +1,7 @@
 use Rattle.std.proofs.Common.{◌≡◌, ◌+◌, take}
 use Rattle.nodes.specs.Frames.{OnlyLooks}
-use Rattle.space_counts.specs.Walks.{IsWalked}
-use Rattle.space_counts.proofs.first_roots.find_first_roots.Given as goal
+use Rattle.tree_counts.specs.RootWalks.{IsWalked}
+use Rattle.tree_counts.proofs.first_roots.find_first_roots.Given as goal
 
 -- the first roots were walked from
 abbrev pub invariant-loop-place : goal.invariant-loop-place

@@ -3,7 +3,7 @@ use Rattle.std.specs.Prelude.{◌≡◌, ℕ, ◌+◌, ◌≤◌, List, length}
 use Rattle.block_trees.specs.Bodies.{Blocks}
 use Rattle.reclaim.specs.Kinds.{Knows}
 use Rattle.reclaim.specs.Passes.{Pass, AreReached, IsPass, IsFinished}
-use Rattle.space_counts.specs.FirstRoots.{AreFirstRoots}
+use Rattle.tree_counts.specs.FirstRoots.{AreFirstRoots}
 
 -- all that the roots of a marking reach was read, and the first root that reaches each block is known
 pub record IsWalked (limit : ℕ) (f : Blocks) (p : Pass) (firsts : List ℕ) : Type 0 where

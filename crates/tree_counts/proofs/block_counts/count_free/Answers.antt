@@ -1,7 +1,7 @@
 use Rattle.std.proofs.Common.{ℕ, take, subst, sym}
-use Rattle.space_counts.specs.Counts.{CountsFree}
-use Rattle.space_counts.proofs.Counted.{counts_free}
-use Rattle.space_counts.proofs.block_counts.count_free.Goals as goal
+use Rattle.tree_counts.specs.Counts.{CountsFree}
+use Rattle.tree_counts.proofs.Counted.{counts_free}
+use Rattle.tree_counts.proofs.block_counts.count_free.Goals as goal
 
 pub returns : goal.returns
 returns c f roots are few =

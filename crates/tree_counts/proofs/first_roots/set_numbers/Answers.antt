@@ -2,8 +2,8 @@ use Rattle.std.proofs.Common.{ℕ, ◌<◌, List, length, get_or, subst, sym, ar
 use Rattle.std.proofs.lemmas.List.{take_all}
 use Rattle.std.proofs.lemmas.List.Elements.{Contains-get_or}
 use Rattle.std.specs.Prelude.{Contains}
-use Rattle.space_counts.proofs.Numbers.{given_more, others_more}
-use Rattle.space_counts.proofs.first_roots.set_numbers.Goals as goal
+use Rattle.tree_counts.proofs.Numbers.{given_more, others_more}
+use Rattle.tree_counts.proofs.first_roots.set_numbers.Goals as goal
 
 pub bounds-numbers-block : goal.bounds-numbers-block
 bounds-numbers-block c = omega (arith, c.requires (get_or c.args.blocks.now c.loop-block.block-index 0) (Contains-get_or c.args.blocks.now c.loop-block.block-index 0 c.loop-block-test.true))

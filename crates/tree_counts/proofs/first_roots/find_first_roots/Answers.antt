@@ -4,11 +4,11 @@ use Rattle.std.proofs.lemmas.List.Elements.{Contains-get_or}
 use Rattle.std.proofs.lemmas.Result.{err_from_is_err_and}
 use Rattle.std.specs.Prelude.{Contains}
 use Rattle.block_trees.specs.Bodies.{Blocks}
-use Rattle.space_counts.specs.FirstRoots.{AreFirstRoots}
+use Rattle.tree_counts.specs.FirstRoots.{AreFirstRoots}
 use Rattle.reclaim.specs.Passes.{IsPass}
-use Rattle.space_counts.specs.Walks.{IsWalked, ReadsOn}
-use Rattle.space_counts.proofs.Walks.{walk_begins, same_root, first_among_all, reads_all, reads_so_far, given_back}
-use Rattle.space_counts.proofs.first_roots.find_first_roots.Goals as goal
+use Rattle.tree_counts.specs.RootWalks.{IsWalked, ReadsOn}
+use Rattle.tree_counts.proofs.Walks.{walk_begins, same_root, first_among_all, reads_all, reads_so_far, given_back}
+use Rattle.tree_counts.proofs.first_roots.find_first_roots.Goals as goal
 
 pub loop-place-init : goal.loop-place-init
 loop-place-init g c =

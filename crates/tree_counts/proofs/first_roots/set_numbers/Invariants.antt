@@ -1,6 +1,6 @@
 use Rattle.std.proofs.Common.{◌≡◌, ℕ, take}
 use Rattle.std.specs.Prelude.{slice_index, Contains}
-use Rattle.space_counts.proofs.first_roots.set_numbers.Given as goal
+use Rattle.tree_counts.proofs.first_roots.set_numbers.Given as goal
 
 -- the first blocks of the list have the number, and all others are as they were
 abbrev pub invariant-loop-block : goal.invariant-loop-block

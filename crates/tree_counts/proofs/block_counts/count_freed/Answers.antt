@@ -1,7 +1,7 @@
 use Rattle.std.proofs.Common.{ℕ, subst, sym}
-use Rattle.space_counts.specs.Counts.{CountsFreed}
-use Rattle.space_counts.proofs.Counted.{counts_freed}
-use Rattle.space_counts.proofs.block_counts.count_freed.Goals as goal
+use Rattle.tree_counts.specs.Counts.{CountsFreed}
+use Rattle.tree_counts.proofs.Counted.{counts_freed}
+use Rattle.tree_counts.proofs.block_counts.count_freed.Goals as goal
 
 pub returns : goal.returns
 returns c f roots are few =

@@ -5,8 +5,8 @@ ghost use Rattle.node_format.specs.Headers.{body_header};
 ghost use Rattle.nodes.specs.Faults.{IsLookFault};
 ghost use Rattle.nodes.specs.Frames.{OnlyLooks};
 ghost use Rattle.reclaim.specs.Verified.{AreRoots};
-ghost use Rattle.space_counts.specs.FirstRoots.{AreFirstRoots};
-ghost use Rattle.space_counts.specs.Walks.{IsWalked, ReadsOn};
+ghost use Rattle.tree_counts.specs.FirstRoots.{AreFirstRoots};
+ghost use Rattle.tree_counts.specs.RootWalks.{IsWalked, ReadsOn};
 
 use fs_types::Fault;
 use nodes::Nodes;

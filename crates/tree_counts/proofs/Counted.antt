@@ -14,8 +14,8 @@ use Rattle.allocator.specs.Ring.{data_blocks}
 use Rattle.allocator.proofs.SetBits.{contains-range}
 use Rattle.block_trees.specs.Bodies.{Blocks}
 use Rattle.block_trees.specs.Reached.{Reached, IsFirst, IsNamed}
-use Rattle.space_counts.specs.Counts.{CountsFree, CountsFreed, IsAlone, CountsAlone}
-use Rattle.space_counts.specs.FirstRoots.{AreFirstRoots, is_reached, is_free, is_freed, is_only, is_alone}
+use Rattle.tree_counts.specs.Counts.{CountsFree, CountsFreed, IsAlone, CountsAlone}
+use Rattle.tree_counts.specs.FirstRoots.{AreFirstRoots, is_reached, is_free, is_freed, is_only, is_alone}
 
 -- ---- the blocks that pass a test
 

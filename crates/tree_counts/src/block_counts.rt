@@ -2,9 +2,9 @@
 ghost use Rattle.std.specs.Prelude.{◌≡◌, ℕ, ◌+◌, ◌≤◌, ◌<◌, List, length, take, reverse, count_by, slice_index};
 ghost use Rattle.allocator.specs.Ring.{data_blocks};
 ghost use Rattle.block_trees.specs.Bodies.{Blocks};
-ghost use Rattle.space_counts.specs.Counts.{CountsFree, CountsFreed, CountsAlone};
-ghost use Rattle.space_counts.specs.FirstRoots as spec;
-ghost use Rattle.space_counts.specs.FirstRoots.{AreFirstRoots};
+ghost use Rattle.tree_counts.specs.Counts.{CountsFree, CountsFreed, CountsAlone};
+ghost use Rattle.tree_counts.specs.FirstRoots as spec;
+ghost use Rattle.tree_counts.specs.FirstRoots.{AreFirstRoots};
 
 use bad_blocks::BadBlocks;
 use fs_types::ANCHORS;

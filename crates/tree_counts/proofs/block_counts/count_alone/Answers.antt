@@ -1,7 +1,7 @@
 use Rattle.std.proofs.Common.{ℕ, subst, sym}
-use Rattle.space_counts.specs.Counts.{CountsAlone}
-use Rattle.space_counts.proofs.Counted.{counts_alone}
-use Rattle.space_counts.proofs.block_counts.count_alone.Goals as goal
+use Rattle.tree_counts.specs.Counts.{CountsAlone}
+use Rattle.tree_counts.proofs.Counted.{counts_alone}
+use Rattle.tree_counts.proofs.block_counts.count_alone.Goals as goal
 
 pub returns : goal.returns
 returns c f roots many are lasting =

@@ -24,8 +24,8 @@ use Rattle.reclaim.proofs.KnownPasses.{begins_known}
 use Rattle.reclaim.proofs.Marking.{begins_has, begins_itself, listed_to, listed_from, only_one, pass_marks}
 use Rattle.reclaim.proofs.MoreRoots.{reached_more}
 use Rattle.reclaim.proofs.Soundness.{trees_hold_nodes}
-use Rattle.space_counts.specs.FirstRoots.{AreFirstRoots}
-use Rattle.space_counts.specs.Walks.{IsWalked, ReadsOn}
+use Rattle.tree_counts.specs.FirstRoots.{AreFirstRoots}
+use Rattle.tree_counts.specs.RootWalks.{IsWalked, ReadsOn}
 
 -- whether a list has a number can be told
 is_there : (xs : List ℕ) (b : ℕ) → Contains xs b ⊎ (Contains xs b → ⊥)

@@ -6,9 +6,9 @@ use Rattle.block_trees.specs.Bodies.{Blocks}
 use Rattle.reclaim.specs.Kinds.{Knows}
 use Rattle.reclaim.specs.Passes.{IsPass, Begins}
 use Rattle.reclaim.proofs.Marking.{begins_on}
-use Rattle.space_counts.specs.FirstRoots.{AreFirstRoots}
-use Rattle.space_counts.proofs.Walks.{root_is_data, not_damaged, look_fault, part_has, rest_is, first_on, reads_still}
-use Rattle.space_counts.proofs.first_roots.reach.Goals as goal
+use Rattle.tree_counts.specs.FirstRoots.{AreFirstRoots}
+use Rattle.tree_counts.proofs.Walks.{root_is_data, not_damaged, look_fault, part_has, rest_is, first_on, reads_still}
+use Rattle.tree_counts.proofs.first_roots.reach.Goals as goal
 
 pub add_root-requires : goal.add_root-requires
 add_root-requires g c =

@@ -1,3 +1,0 @@
-pub mod FirstRoots
-pub mod Walks
-pub mod Counts

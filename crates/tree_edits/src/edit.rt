@@ -1,8 +1,8 @@
 //! Edits of a tree, as values.
 use directory::Trail;
+use file_bodies::Body;
 use fs_types::{NamedFile, Path};
 use node_format::Place;
-use skip_list_file::Body;
 
 /// An edit of the tree of a root. What stands at its paths was looked up before, and beside each path
 /// is its trail: the directories that the look-up went through. Paths and bytes may be borrowed for

@@ -26,11 +26,11 @@ use crate::lookups::find_path;
 use crate::state::State;
 use bitflags::Flags;
 use directory::{Found, Trail};
+use file_bodies::Body;
 use flash_model::Flash;
 use fs_types::{Fault, MAX_FILE_BYTES, OpenFlags, Path};
 use node_store::Storage;
 use open_files::OpenFiles;
-use skip_list_file::Body;
 use std::alloc::Global;
 use tree_edits::Edit;
 

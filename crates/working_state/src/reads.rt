@@ -27,11 +27,11 @@ use crate::known_bodies::{KnownBodies, KnownBody};
 use crate::state::State;
 use bitflags::Flags;
 use directory::{Found, lookup};
+use file_bodies::{Body, read_range};
 use flash_model::Flash;
 use fs_types::{Bytes, Fault, OpenFlags, Path, View};
 use node_store::{Nodes, Storage, Store};
 use open_files::OpenFiles;
-use skip_list_file::{Body, read_range};
 use std::alloc::Global;
 
 impl State {

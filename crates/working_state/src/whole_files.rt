@@ -26,10 +26,10 @@ use crate::changes::change;
 use crate::lookups::find_path;
 use crate::state::State;
 use directory::{Found, Trail};
+use file_bodies::{Body, has_bytes};
 use flash_model::Flash;
 use fs_types::{Fault, MAX_FILE_BYTES, Path};
 use node_store::{Storage, Store};
-use skip_list_file::{Body, has_bytes};
 use std::alloc::Global;
 use tree_edits::Edit;
 

@@ -9,7 +9,7 @@ use Rattle.flash_model.specs.Device.{Device, erased}
 use Rattle.flash_model.specs.Reading.{OnlyReads}
 use Rattle.flash_model.specs.declared.geometry.Geometry.{Geometry}
 use Rattle.history_machine.specs.History.{Past}
-use Rattle.commit_pair.specs.declared.best.Found.{Found}
+use Rattle.anchors.specs.declared.best.Found.{Found}
 use Rattle.block_cleaning.specs.Cleaning.{IsBlank}
 use Rattle.block_usage.specs.Kinds.{HasNewest, IsCheckpoint, IsOther, IsPresent, IsSound}
 use Rattle.block_usage.specs.Maps.{IsKnownKind, reached_kind}

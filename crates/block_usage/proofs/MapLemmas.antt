@@ -12,7 +12,7 @@ use Rattle.flash_model.specs.Geometry.{IsGeometry, block_bytes}
 use Rattle.flash_model.specs.Reading.{OnlyReads}
 use Rattle.flash_model.specs.declared.geometry.Geometry.{Geometry}
 use Rattle.history_machine.specs.History.{Past}
-use Rattle.commit_pair.specs.Reading.{PageReadCause}
+use Rattle.anchors.specs.Reading.{PageReadCause}
 use Rattle.block_trees.specs.Bodies.{Blocks}
 use Rattle.block_trees.specs.Reached.{Reached}
 use Rattle.node_store.specs.CachingLaws.{read_truthful}

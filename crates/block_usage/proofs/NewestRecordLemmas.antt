@@ -5,8 +5,8 @@ use Rattle.std.specs.Prelude.{◌&&◌, ◌==◌, ◌%◌, nat_lt, nat_le, is_so
 use Rattle.std.specs.Option.{option_map, option_and_then}
 use Rattle.flash_model.specs.declared.geometry.Geometry.{Geometry}
 use Rattle.record_format.specs.declared.page_head.PageHead.{PageHead}
-use Rattle.commit_pair.specs.Parts.{Part, head_at, are_parts, is_valid_record, record_head, considered, considered_with, best_below, best_on, newest_at}
-use Rattle.commit_pair.specs.declared.best.Found.{Found}
+use Rattle.anchors.specs.Parts.{Part, head_at, are_parts, is_valid_record, record_head, considered, considered_with, best_below, best_on, newest_at}
+use Rattle.anchors.specs.declared.best.Found.{Found}
 use Rattle.std.proofs.lemmas.Option.{none-some, same_Some}
 use Rattle.block_usage.specs.NewestRecords.{has_room, later, later_with}
 use Rattle.block_usage.specs.declared.newest_records.Place.{Place}

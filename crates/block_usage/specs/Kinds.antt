@@ -5,8 +5,8 @@ use Rattle.std.specs.Ordering.{nat_cmp}
 use Rattle.fs_types.specs.declared.limits.TheConstants.{ANCHORS}
 use Rattle.flash_model.specs.Device.{Device}
 use Rattle.history_machine.specs.History.{Past}
-use Rattle.commit_pair.specs.declared.best.Found.{Found}
-use Rattle.commit_pair.specs.Parts.{parts_on, newest_at}
+use Rattle.anchors.specs.declared.best.Found.{Found}
+use Rattle.anchors.specs.Parts.{parts_on, newest_at}
 use Rattle.node_store.specs.NodePages.{node_of}
 use Rattle.block_trees.specs.Reached.{Reached}
 use Rattle.block_cleaning.specs.Cleaning.{IsBlank}

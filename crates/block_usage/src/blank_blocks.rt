@@ -3,7 +3,7 @@ ghost use Rattle.std.specs.Prelude.{◌≡◌, ◌<◌, true, false, length, IfO
 ghost use Rattle.flash_model.specs.Device.{erased};
 ghost use Rattle.flash_model.specs.Geometry.{IsGeometry, page_count};
 ghost use Rattle.flash_model.specs.Reading.{OnlyReads};
-ghost use Rattle.commit_pair.specs.Reading.{PageReadCause};
+ghost use Rattle.anchors.specs.Reading.{PageReadCause};
 ghost use Rattle.block_cleaning.specs.Cleaning.{IsBlank};
 
 use flash_model::{DevFault, Flash, PageState};

@@ -4,7 +4,7 @@ ghost use Rattle.flash_model.specs.Device.{Device};
 ghost use Rattle.flash_model.specs.Geometry.{IsGeometry, block_bytes};
 ghost use Rattle.flash_model.specs.Reading.{OnlyReads};
 ghost use Rattle.history_machine.specs.History.{Past};
-ghost use Rattle.commit_pair.specs.Parts.{newest_at, parts_on};
+ghost use Rattle.anchors.specs.Parts.{newest_at, parts_on};
 ghost use Rattle.node_store.specs.NodePages.{node_of};
 ghost use Rattle.reclaim.specs.Verified.{AreRoots};
 ghost use Rattle.mounting.specs.Records.{roots_of};

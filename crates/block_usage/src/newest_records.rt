@@ -3,8 +3,8 @@ ghost use Rattle.std.specs.Prelude.{◌≡◌, ◌*◌, ◌<◌, ◌≤◌, true
 ghost use Rattle.fs_types.specs.declared.limits.TheConstants.{ANCHORS};
 ghost use Rattle.flash_model.specs.Geometry.{IsGeometry};
 ghost use Rattle.flash_model.specs.Reading.{OnlyReads};
-ghost use Rattle.commit_pair.specs.Parts as spec;
-ghost use Rattle.commit_pair.specs.Reading.{PageReadCause};
+ghost use Rattle.anchors.specs.Parts as spec;
+ghost use Rattle.anchors.specs.Reading.{PageReadCause};
 ghost use Rattle.block_usage.specs.Kinds.{HasNewest};
 ghost use Rattle.block_usage.specs.NewestRecords.{has_room, later};
 

@@ -11,7 +11,7 @@ use Rattle.flash_simulation.specs.declared.sim_flash.SimFlash.{SimFlash}
 use Rattle.plain_trees.specs.Trees.{Tree, bare}
 use Rattle.node_store.specs.NodePages.{node_of}
 use Rattle.record_format.specs.declared.record.Record.{Record}
-use Rattle.commit_pair.specs.Newest.{committed_on}
+use Rattle.anchors.specs.Newest.{committed_on}
 use Rattle.mounting.specs.Records.{knows_plain_only}
 use Rattle.tree_updates.specs.Laws.{Brings}
 use Rattle.known_nodes.specs.Rests.{rest_of}

@@ -1,5 +1,5 @@
 //! What the newest record of a flash tells.
-use commit_pair::Anchors;
+use anchors::Anchors;
 use flash_model::Flash;
 use flash_simulation::SimFlash;
 use fs_types::{Fault, Reply};

@@ -1,5 +1,5 @@
 //! Records on the anchors, byte for byte.
-use commit_pair::Anchors;
+use anchors::Anchors;
 use flash_model::{Flash, Geometry, PageView};
 use flash_simulation::SimFlash;
 use fs_types::Fault;

@@ -10,12 +10,12 @@ use Rattle.fs_types.specs.declared.limits.TheConstants.{ANCHORS}
 use Rattle.flash_model.specs.declared.geometry.Geometry.{Geometry}
 use Rattle.flash_model.specs.Device.{Device}
 use Rattle.record_format.specs.declared.record.Record.{Record}
-use Rattle.commit_pair.specs.declared.anchors.Anchors.{Anchors}
-use Rattle.commit_pair.specs.declared.best.Found.{Found}
-use Rattle.commit_pair.specs.Anchored.{OnlyAnchors}
-use Rattle.commit_pair.specs.Committing.{IsLowest, IsNextAnchor, GoesTo}
-use Rattle.commit_pair.specs.Newest.{remembered}
-use Rattle.commit_pair.specs.Remembering.{begins_from, ReadsNone, IsPlaced}
+use Rattle.anchors.specs.declared.anchors.Anchors.{Anchors}
+use Rattle.anchors.specs.declared.best.Found.{Found}
+use Rattle.anchors.specs.Anchored.{OnlyAnchors}
+use Rattle.anchors.specs.Committing.{IsLowest, IsNextAnchor, GoesTo}
+use Rattle.anchors.specs.Newest.{remembered}
+use Rattle.anchors.specs.Remembering.{begins_from, ReadsNone, IsPlaced}
 use Rattle.mounting.specs.Formats.{BeginsOnLowest}
 
 abbrev Bad : Type 0

@@ -24,13 +24,13 @@ use Rattle.block_trees.specs.Bodies.{Blocks}
 use Rattle.block_trees.specs.Trees.{IsRoot}
 use Rattle.record_format.specs.declared.record.Record.{Record}
 use Rattle.record_format.specs.declared.record.Checkpoint.{Checkpoint}
-use Rattle.commit_pair.specs.declared.anchors.Anchors.{Anchors}
-use Rattle.commit_pair.specs.Parts.{part_of, Part, parts_on, best_on, sequence_of, pages_of, greatest_on}
-use Rattle.commit_pair.specs.Anchored.{OnlyAnchors, Asked, Fades, AreErased}
-use Rattle.commit_pair.specs.Committing.{IsCommitted}
-use Rattle.commit_pair.specs.Newest.{committed_on}
-use Rattle.commit_pair.specs.Remembering.{MayCommit, ReadsNone, IsPlaced}
-use Rattle.commit_pair.proofs.Beginning.{still_may_commit, committed_is_newest}
+use Rattle.anchors.specs.declared.anchors.Anchors.{Anchors}
+use Rattle.anchors.specs.Parts.{part_of, Part, parts_on, best_on, sequence_of, pages_of, greatest_on}
+use Rattle.anchors.specs.Anchored.{OnlyAnchors, Asked, Fades, AreErased}
+use Rattle.anchors.specs.Committing.{IsCommitted}
+use Rattle.anchors.specs.Newest.{committed_on}
+use Rattle.anchors.specs.Remembering.{MayCommit, ReadsNone, IsPlaced}
+use Rattle.anchors.proofs.Beginning.{still_may_commit, committed_is_newest}
 use Rattle.working_state.specs.Fresh.{IsFirstGood, IsBegun, AsksForRoot, HasGrown, GrowsByData, BeginCause}
 use Rattle.working_state.proofs.BadCounts.{count-by, len-within}
 use Rattle.working_state.specs.Moments.{moment}

@@ -10,7 +10,7 @@ use Rattle.node_store.specs.NodePages.{node_of}
 use Rattle.block_trees.specs.Bodies.{Blocks}
 use Rattle.reclaim.specs.Passes.{AreReached}
 use Rattle.reclaim.specs.Verified.{all_pages}
-use Rattle.commit_pair.specs.Parts.{parts_on, newest_at, pages_of}
+use Rattle.anchors.specs.Parts.{parts_on, newest_at, pages_of}
 
 -- so many reads came, each of another block that the roots reach
 pub record ReadsEach (f : Blocks) (roots : List ℕ) (before after : ℕ) : Type 0 where

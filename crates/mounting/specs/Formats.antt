@@ -14,9 +14,9 @@ use Rattle.allocator.specs.Ring.{IsDataBlock}
 use Rattle.bad_blocks.specs.Mode.{bad_anchors, is_read_only}
 use Rattle.record_format.specs.declared.formats.TheConstants.{FORMAT}
 use Rattle.record_format.specs.declared.record.Record.{Record}
-use Rattle.commit_pair.specs.Anchored.{OnlyAnchors, Fades, AreErased}
-use Rattle.commit_pair.specs.Committing.{IsLowest}
-use Rattle.commit_pair.specs.Parts.{parts_on, newest_at, greatest_on}
+use Rattle.anchors.specs.Anchored.{OnlyAnchors, Fades, AreErased}
+use Rattle.anchors.specs.Committing.{IsLowest}
+use Rattle.anchors.specs.Parts.{parts_on, newest_at, greatest_on}
 use Rattle.node_format.specs.Links.{chain_bytes}
 use Rattle.node_store.specs.NodePages.{node_of}
 use Rattle.working_state.specs.Fresh.{IsFirstGood, HasGrown, GrowsByData}

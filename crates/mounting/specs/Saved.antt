@@ -6,7 +6,7 @@ use Rattle.plain_trees.specs.Trees.{Tree}
 use Rattle.fs_types.specs.declared.fault.Fault.{Fault}
 use Rattle.flash_model.specs.Device.{Device}
 use Rattle.record_format.specs.declared.record.Record.{Record}
-use Rattle.commit_pair.specs.Newest.{committed_on}
+use Rattle.anchors.specs.Newest.{committed_on}
 use Rattle.mounting.specs.Records.{trees_of, HasTrees}
 
 abbrev pub record_in : Option (Result Record Fault) → Option Record

@@ -5,11 +5,11 @@ ghost use Rattle.fs_types.specs.declared.limits.TheConstants.{ANCHORS, MAX_VERSI
 ghost use Rattle.fs_types.specs.declared.fault.Fault.{Fault};
 ghost use Rattle.flash_model.specs.Geometry.{IsGeometry};
 ghost use Rattle.bad_blocks.specs.Mode as modes;
-ghost use Rattle.commit_pair.specs.Parts.{greatest_on};
-ghost use Rattle.commit_pair.specs.Anchored.{OnlyAnchors};
-ghost use Rattle.commit_pair.specs.Committing.{IsCommitted};
-ghost use Rattle.commit_pair.specs.Newest.{remembered};
-ghost use Rattle.commit_pair.specs.Remembering.{MayCommit};
+ghost use Rattle.anchors.specs.Parts.{greatest_on};
+ghost use Rattle.anchors.specs.Anchored.{OnlyAnchors};
+ghost use Rattle.anchors.specs.Committing.{IsCommitted};
+ghost use Rattle.anchors.specs.Newest.{remembered};
+ghost use Rattle.anchors.specs.Remembering.{MayCommit};
 ghost use Rattle.working_state.specs.Fresh.{IsBegun, AsksForRoot};
 ghost use Rattle.working_state.specs.Moments.{moment};
 ghost use Rattle.mounting.specs.Contents as contents;
@@ -17,8 +17,8 @@ ghost use Rattle.mounting.specs.Costs.{AsksToClear, AsksForRecord, AsksToFormat,
 ghost use Rattle.mounting.specs.Formats.{BeginsOnLowest, IsFormatted, ListsFailed, AreCleared, IsNumbered, FormatCause, ModeCause, ClearCause, full_for, FirstRootCause, FirstRecordCause};
 
 use crate::contents::record_of;
+use anchors::Anchors;
 use bad_blocks::{BadBlocks, bad_anchors};
-use commit_pair::Anchors;
 use flash_model::Flash;
 use fs_types::{Fault, MAX_VERSIONS, MIN_VERSIONS};
 use std::alloc::Global;

@@ -2,8 +2,8 @@
 ghost use Rattle.std.specs.Prelude.{◌≡◌, true, [], IfOk};
 ghost use Rattle.record_format.specs.Payloads.{is_record, written};
 
+use anchors::Anchors;
 use bad_blocks::BadBlocks;
-use commit_pair::Anchors;
 use flash_model::{Counters, FaultKind, Flash, Geometry, PageView, PlannedFault};
 use flash_simulation::SimFlash;
 use fs_types::{Fault, Sequence, Version};

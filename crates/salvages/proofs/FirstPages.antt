@@ -12,12 +12,12 @@ use Rattle.record_format.specs.Laws.{PageIsRead, WrittenIsRead}
 use Rattle.record_format.specs.Payloads.{is_record, FitsFields, payload_bytes, payload_at}
 use Rattle.record_format.specs.declared.page_head.PageHead.{PageHead}
 use Rattle.record_format.specs.declared.record.Record.{Record}
-use Rattle.commit_pair.specs.Keeping.{AreOlder}
-use Rattle.commit_pair.specs.Newest.{committed_on}
-use Rattle.commit_pair.specs.Parts.{Part, RecordBytes, part_of, parts_on, is_valid_record, record_head, newest_on}
-use Rattle.commit_pair.specs.Programming.{Fills}
-use Rattle.commit_pair.proofs.Places.{anchor_below}
-use Rattle.commit_pair.proofs.Placing.{whole_stands}
+use Rattle.anchors.specs.Keeping.{AreOlder}
+use Rattle.anchors.specs.Newest.{committed_on}
+use Rattle.anchors.specs.Parts.{Part, RecordBytes, part_of, parts_on, is_valid_record, record_head, newest_on}
+use Rattle.anchors.specs.Programming.{Fills}
+use Rattle.anchors.proofs.Places.{anchor_below}
+use Rattle.anchors.proofs.Placing.{whole_stands}
 use Rattle.salvages.proofs.SureFlashes.{data_from}
 use Rattle.salvages.specs.Copies.{AreAnchorsErased, HasPagesOnly}
 use Rattle.salvages.specs.Placing.{HasFirstPages}

@@ -10,7 +10,7 @@ use Rattle.block_trees.specs.Bodies.{Blocks}
 use Rattle.flash_model.specs.Device.{Device}
 use Rattle.plain_trees.specs.Contents.{Contents}
 use Rattle.node_store.specs.NodePages.{node_of}
-use Rattle.commit_pair.specs.Newest.{committed_on}
+use Rattle.anchors.specs.Newest.{committed_on}
 use Rattle.working_state.specs.Seen.{capacity_of}
 use Rattle.salvages.specs.Lefts.{rest_bytes}
 use Rattle.salvages.specs.Losses.{cost_of, lost_of}

@@ -24,12 +24,12 @@ use Rattle.record_format.proofs.ItsFlash.{means_its_flash}
 use Rattle.record_format.specs.Payloads.{is_record, payload_at, written}
 use Rattle.record_format.specs.declared.record.Checkpoint.{Checkpoint}
 use Rattle.record_format.specs.declared.record.Record.{Record}
-use Rattle.commit_pair.proofs.Committed.{committed_stays, none_stays, tie_stays}
-use Rattle.commit_pair.proofs.NewestLaws.{found_is_newest}
-use Rattle.commit_pair.specs.declared.best.Found.{Found}
-use Rattle.commit_pair.specs.Laws.{HasNone}
-use Rattle.commit_pair.specs.Newest.{committed_on, NewestCause}
-use Rattle.commit_pair.specs.Parts.{RecordBytes, parts_on, newest_at, newest_on, payload_of}
+use Rattle.anchors.proofs.Committed.{committed_stays, none_stays, tie_stays}
+use Rattle.anchors.proofs.NewestLaws.{found_is_newest}
+use Rattle.anchors.specs.declared.best.Found.{Found}
+use Rattle.anchors.specs.Laws.{HasNone}
+use Rattle.anchors.specs.Newest.{committed_on, NewestCause}
+use Rattle.anchors.specs.Parts.{RecordBytes, parts_on, newest_at, newest_on, payload_of}
 use Rattle.mounting.specs.Records.{history_of, roots_of, knows_plain_only, trees_of, HasTrees}
 use Rattle.mounting.specs.Saved.{record_in, saved_on, saved_trees, IsWholeRecord}
 use Rattle.working_state.specs.Seen.{capacity_of, tree_on}

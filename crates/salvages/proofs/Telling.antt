@@ -10,7 +10,7 @@ use Rattle.flash_model.specs.Geometry.{block_bytes}
 use Rattle.node_format.specs.Headers.{body_header}
 use Rattle.block_trees.specs.Bodies.{Blocks}
 use Rattle.record_format.specs.declared.record.Record.{Record}
-use Rattle.commit_pair.proofs.Committed.{committed_stays}
+use Rattle.anchors.proofs.Committed.{committed_stays}
 use Rattle.working_state.specs.Seen.{capacity_of}
 use Rattle.salvages.proofs.Saving.{cause_back}
 use Rattle.salvages.specs.Lefts.{rest_bytes}

@@ -8,7 +8,7 @@ use Rattle.plain_trees.specs.Contents.{Contents}
 use Rattle.plain_trees.specs.Trees.{Tree, bare}
 use Rattle.node_store.specs.NodePages.{node_of}
 use Rattle.record_format.specs.declared.record.Record.{Record}
-use Rattle.commit_pair.specs.Newest.{committed_on}
+use Rattle.anchors.specs.Newest.{committed_on}
 use Rattle.mounting.specs.Records.{knows_plain_only}
 use Rattle.tree_updates.specs.Laws.{Brings}
 use Rattle.working_state.specs.Seen.{capacity_of}

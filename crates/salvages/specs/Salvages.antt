@@ -6,9 +6,9 @@ use Rattle.flash_model.specs.Device.{Device}
 use Rattle.flash_model.specs.Geometry.{IsGeometry}
 use Rattle.flash_simulation.specs.Simulation.{device_of}
 use Rattle.record_format.specs.declared.record.Record.{Record}
-use Rattle.commit_pair.specs.Laws.{HasNone, HasTie}
-use Rattle.commit_pair.specs.Newest.{committed_on}
-use Rattle.commit_pair.specs.Parts.{parts_on}
+use Rattle.anchors.specs.Laws.{HasNone, HasTie}
+use Rattle.anchors.specs.Newest.{committed_on}
+use Rattle.anchors.specs.Parts.{parts_on}
 use Rattle.mounting.specs.Records.{knows_plain_only, trees_of}
 use Rattle.mounting.specs.Saved.{saved_trees, IsWholeRecord}
 use Rattle.salvages.specs.Copies.{IsSure, HasDataOf}

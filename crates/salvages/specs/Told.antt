@@ -8,7 +8,7 @@ use Rattle.node_store.specs.NodePages.{node_of}
 use Rattle.block_trees.specs.Bodies.{Blocks}
 use Rattle.block_trees.specs.Chains.{link_of}
 use Rattle.record_format.specs.declared.record.Record.{Record}
-use Rattle.commit_pair.specs.Newest.{committed_on}
+use Rattle.anchors.specs.Newest.{committed_on}
 use Rattle.mounting.specs.Records.{knows_plain_only}
 use Rattle.working_state.specs.Seen.{capacity_of}
 use Rattle.salvages.specs.Losses.{lost_of, cost_of}

@@ -5,9 +5,9 @@ ghost use Rattle.flash_model.specs.Device.{block_of};
 ghost use Rattle.flash_model.specs.Geometry.{IsGeometry};
 ghost use Rattle.flash_simulation.specs.Simulation.{device_of, plan_of};
 ghost use Rattle.record_format.specs.Payloads.{is_record, longest, written};
-ghost use Rattle.commit_pair.specs.Newest.{committed_on};
-ghost use Rattle.commit_pair.specs.Parts.{room};
-ghost use Rattle.commit_pair.specs.Programming.{piece, Fills};
+ghost use Rattle.anchors.specs.Newest.{committed_on};
+ghost use Rattle.anchors.specs.Parts.{room};
+ghost use Rattle.anchors.specs.Programming.{piece, Fills};
 ghost use Rattle.salvages.specs.Copies.{AreAnchorsErased, HasPagesOnly};
 ghost use Rattle.salvages.specs.Placing.{HasFirstPages};
 

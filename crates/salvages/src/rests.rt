@@ -4,7 +4,7 @@ ghost use Rattle.flash_model.specs.Geometry.{IsGeometry};
 ghost use Rattle.flash_model.specs.Reading.{OnlyReads};
 ghost use Rattle.node_store.specs.NodePages.{node_of};
 ghost use Rattle.record_format.specs.Payloads.{is_record};
-ghost use Rattle.commit_pair.specs.Newest.{committed_on};
+ghost use Rattle.anchors.specs.Newest.{committed_on};
 ghost use Rattle.salvages.specs.Lefts.{rest_bytes};
 ghost use Rattle.salvages.specs.Losses.{lost_of, cost_of};
 ghost use Rattle.salvages.specs.Overfull.{Unmade};

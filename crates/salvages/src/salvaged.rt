@@ -3,7 +3,7 @@ ghost use Rattle.std.specs.Prelude.{◌≡◌, true, Some, Ok, IfOk, OnOk, IfErr
 ghost use Rattle.flash_model.specs.Geometry.{IsGeometry};
 ghost use Rattle.flash_model.specs.Reading.{OnlyReads};
 ghost use Rattle.record_format.specs.Payloads.{is_record};
-ghost use Rattle.commit_pair.specs.Newest.{committed_on};
+ghost use Rattle.anchors.specs.Newest.{committed_on};
 ghost use Rattle.mounting.specs.Records.{knows_plain_only};
 ghost use Rattle.salvages.specs.Kept as spec;
 ghost use Rattle.salvages.specs.Salvages.{IsSalvageOf, SalvageCause};
@@ -13,7 +13,7 @@ use crate::copies::copy_data;
 use crate::kept_records::{keep_record, list_lost_names, list_lost_serials, list_roots};
 use crate::looks::find_lost;
 use crate::record_pages::put_record;
-use commit_pair::Anchors;
+use anchors::Anchors;
 use flash_model::Flash;
 use flash_simulation::SimFlash;
 use fs_types::{CpName, Fault};

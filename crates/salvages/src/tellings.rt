@@ -6,7 +6,7 @@ ghost use Rattle.node_store.specs.NodePages.{node_of};
 ghost use Rattle.node_store.specs.Fitting.{Fits};
 ghost use Rattle.node_store.specs.Stores.{IsSoundStore, Follows};
 ghost use Rattle.record_format.specs.Payloads.{is_record};
-ghost use Rattle.commit_pair.specs.Newest.{committed_on};
+ghost use Rattle.anchors.specs.Newest.{committed_on};
 ghost use Rattle.working_state.specs.Seen.{capacity_of};
 ghost use Rattle.salvages.specs.Causes.{ReadCause};
 ghost use Rattle.known_nodes.specs.Tables.{blocks_in};

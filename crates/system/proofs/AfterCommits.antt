@@ -24,13 +24,13 @@ use Rattle.allocator.specs.BlockSet.{BlockSet}
 use Rattle.block_trees.specs.Bodies.{Blocks}
 use Rattle.node_store.specs.NodePages.{node_of}
 use Rattle.reclaim.specs.Sound.{IsPlain}
-use Rattle.commit_pair.specs.declared.anchors.Anchors.{Anchors}
-use Rattle.commit_pair.specs.declared.best.Found.{Found}
-use Rattle.commit_pair.specs.Parts.{greatest_on}
-use Rattle.commit_pair.specs.Committing.{Commits}
-use Rattle.commit_pair.specs.Reading.{IsEnd}
-use Rattle.commit_pair.specs.Newest.{remembered}
-use Rattle.commit_pair.specs.Remembering.{IsErasedBeside, KnowsNewest, MayCommit}
+use Rattle.anchors.specs.declared.anchors.Anchors.{Anchors}
+use Rattle.anchors.specs.declared.best.Found.{Found}
+use Rattle.anchors.specs.Parts.{greatest_on}
+use Rattle.anchors.specs.Committing.{Commits}
+use Rattle.anchors.specs.Reading.{IsEnd}
+use Rattle.anchors.specs.Newest.{remembered}
+use Rattle.anchors.specs.Remembering.{IsErasedBeside, KnowsNewest, MayCommit}
 use Rattle.working_state.specs.Seen.{machine_on}
 use Rattle.working_state.specs.Steps.{is_cut_answer}
 use Rattle.working_state.specs.Mounted.{IsStanding, IsMounted}

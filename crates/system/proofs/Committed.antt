@@ -11,9 +11,9 @@ use Rattle.record_format.specs.declared.formats.TheConstants.{FORMAT}
 use Rattle.record_format.specs.declared.record.Checkpoint.{Checkpoint}
 use Rattle.record_format.specs.declared.record.Record.{Record}
 use Rattle.record_format.specs.Payloads.{payload_at}
-use Rattle.commit_pair.specs.Parts.{RecordBytes, newest_on}
-use Rattle.commit_pair.specs.Committing.{IsCommitted}
-use Rattle.commit_pair.proofs.Beginning.{committed_is_newest}
+use Rattle.anchors.specs.Parts.{RecordBytes, newest_on}
+use Rattle.anchors.specs.Committing.{IsCommitted}
+use Rattle.anchors.proofs.Beginning.{committed_is_newest}
 use Rattle.working_state.specs.declared.state.State.{State}
 use Rattle.mounting.specs.Contents.{checkpoint_of, record_of}
 use Rattle.mounting.specs.Records.{history_of}

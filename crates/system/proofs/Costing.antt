@@ -18,7 +18,7 @@ use Rattle.block_trees.specs.Bodies.{Blocks}
 use Rattle.reclaim.specs.Passes.{Pass, IsPass, AreReached, HasRead}
 use Rattle.reclaim.specs.Verified.{all_pages}
 use Rattle.record_format.specs.declared.record.Record.{Record}
-use Rattle.commit_pair.specs.Newest.{committed_on}
+use Rattle.anchors.specs.Newest.{committed_on}
 use Rattle.mounting.specs.Costs.{AsksToVerify, verify_pages}
 use Rattle.system.specs.Reclaiming.{AsksForRest, AsksToStep, GoesOnFrom, marking_of}
 use Rattle.system.specs.Mounts.{AsksToMount, scan_pages}

@@ -14,7 +14,7 @@ use Rattle.reclaim.specs.Passes.{Pass}
 use Rattle.record_format.specs.declared.record.Record.{Record}
 use Rattle.record_format.specs.Payloads.{is_record, has_counts, has_versions, has_checkpoints, numbers_ascend}
 use Rattle.record_format.proofs.LawfulRecords.{both_true}
-use Rattle.commit_pair.specs.Parts.{newest_on}
+use Rattle.anchors.specs.Parts.{newest_on}
 use Rattle.working_state.specs.OpenBodies.{nothing_known, KnowsBelow}
 use Rattle.working_state.specs.Roots.{HasRoot}
 use Rattle.working_state.specs.declared.known_bodies.KnownBodies.{KnownBodies}

@@ -14,16 +14,16 @@ use Rattle.node_store.specs.ReadingLaws.{OnlyReads_nodes}
 use Rattle.record_format.specs.declared.record.Record.{Record}
 use Rattle.record_format.specs.Payloads.{is_record, payload_at}
 use Rattle.record_format.proofs.ItsFlash.{means_its_flash}
-use Rattle.commit_pair.specs.declared.anchors.Anchors.{Anchors}
-use Rattle.commit_pair.specs.declared.best.Found.{Found}
-use Rattle.commit_pair.specs.Parts.{RecordBytes, parts_on, newest_at, newest_on, payload_of}
-use Rattle.commit_pair.specs.Laws.{HasNone}
-use Rattle.commit_pair.specs.Drafts.{IsBlankFrom}
-use Rattle.commit_pair.specs.Newest.{IsUncleared, committed_on, prepared_anchor}
-use Rattle.commit_pair.specs.Reading.{IsEnd}
-use Rattle.commit_pair.specs.Remembering.{MayCommit, KnowsNewest}
-use Rattle.commit_pair.proofs.Committed.{committed_wants}
-use Rattle.commit_pair.proofs.NewestLaws.{found_is_newest}
+use Rattle.anchors.specs.declared.anchors.Anchors.{Anchors}
+use Rattle.anchors.specs.declared.best.Found.{Found}
+use Rattle.anchors.specs.Parts.{RecordBytes, parts_on, newest_at, newest_on, payload_of}
+use Rattle.anchors.specs.Laws.{HasNone}
+use Rattle.anchors.specs.Drafts.{IsBlankFrom}
+use Rattle.anchors.specs.Newest.{IsUncleared, committed_on, prepared_anchor}
+use Rattle.anchors.specs.Reading.{IsEnd}
+use Rattle.anchors.specs.Remembering.{MayCommit, KnowsNewest}
+use Rattle.anchors.proofs.Committed.{committed_wants}
+use Rattle.anchors.proofs.NewestLaws.{found_is_newest}
 use Rattle.mounting.specs.Records.{history_of, roots_of, knows_plain_only, IsLoaded, RootsCause}
 use Rattle.system.specs.Mounts.{IsMountOf, MountCause}
 use Rattle.system.specs.declared.systems.System.{System}

@@ -15,13 +15,13 @@ use Rattle.node_store.specs.NodePages.{node_of}
 use Rattle.block_trees.specs.Reached.{Reached}
 use Rattle.block_cleaning.specs.Cleaning.{is_free}
 use Rattle.record_format.specs.declared.record.Record.{Record}
-use Rattle.commit_pair.specs.declared.anchors.Anchors.{Anchors}
-use Rattle.commit_pair.specs.Anchored.{OnlyAnchors, list_after}
-use Rattle.commit_pair.specs.Newest.{remembered}
-use Rattle.commit_pair.specs.Preparing.{ErasesAhead, PreparesAnchor, erase_answer, left_of}
-use Rattle.commit_pair.specs.Remembering.{MayCommit}
-use Rattle.commit_pair.proofs.Anchoring.{new_listed}
-use Rattle.commit_pair.proofs.Sparing.{Keeps_itself}
+use Rattle.anchors.specs.declared.anchors.Anchors.{Anchors}
+use Rattle.anchors.specs.Anchored.{OnlyAnchors, list_after}
+use Rattle.anchors.specs.Newest.{remembered}
+use Rattle.anchors.specs.Preparing.{ErasesAhead, PreparesAnchor, erase_answer, left_of}
+use Rattle.anchors.specs.Remembering.{MayCommit}
+use Rattle.anchors.proofs.Anchoring.{new_listed}
+use Rattle.anchors.proofs.Sparing.{Keeps_itself}
 use Rattle.mounting.specs.Records.{history_of, roots_of}
 use Rattle.mounting.specs.Saved.{saved_on}
 use Rattle.mounting.proofs.SameNodes.{same_tree}

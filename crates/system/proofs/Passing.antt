@@ -35,10 +35,10 @@ use Rattle.reclaim.proofs.KnownPasses.{begins_known}
 use Rattle.reclaim.specs.Verified.{AreRoots}
 use Rattle.reclaim.proofs.Soundness.{trees_hold_nodes}
 use Rattle.record_format.specs.declared.record.Record.{Record}
-use Rattle.commit_pair.specs.declared.anchors.Anchors.{Anchors}
-use Rattle.commit_pair.specs.Newest.{remembered}
-use Rattle.commit_pair.specs.Remembering.{MayCommit}
-use Rattle.commit_pair.proofs.Beginning.{still_may_commit}
+use Rattle.anchors.specs.declared.anchors.Anchors.{Anchors}
+use Rattle.anchors.specs.Newest.{remembered}
+use Rattle.anchors.specs.Remembering.{MayCommit}
+use Rattle.anchors.proofs.Beginning.{still_may_commit}
 use Rattle.working_state.specs.Leaves.{HasLooked}
 use Rattle.working_state.specs.Mounted.{IsStanding, IsMounted}
 use Rattle.working_state.specs.OpenBodies.{KnowsBodies}

@@ -18,11 +18,11 @@ use Rattle.block_trees.specs.Reached.{Reached}
 use Rattle.block_cleaning.specs.Cleaning.{is_free}
 use Rattle.block_cleaning.specs.Preparing.{Preparation, PreparesBlocks, next_unprepared, preparation}
 use Rattle.record_format.specs.declared.record.Record.{Record}
-use Rattle.commit_pair.specs.declared.anchors.Anchors.{Anchors}
-use Rattle.commit_pair.specs.Preparing.{IsPrepared, IsWanted, PreparesAnchor, erase_answer, left_of}
-use Rattle.commit_pair.specs.Anchored.{ErasesAnchor}
-use Rattle.commit_pair.specs.Keeping.{KeepsNewest}
-use Rattle.commit_pair.proofs.Sparing.{Keeps_on}
+use Rattle.anchors.specs.declared.anchors.Anchors.{Anchors}
+use Rattle.anchors.specs.Preparing.{IsPrepared, IsWanted, PreparesAnchor, erase_answer, left_of}
+use Rattle.anchors.specs.Anchored.{ErasesAnchor}
+use Rattle.anchors.specs.Keeping.{KeepsNewest}
+use Rattle.anchors.proofs.Sparing.{Keeps_on}
 use Rattle.working_state.specs.Roots.{IsReached}
 use Rattle.working_state.specs.Steps.{is_cut_answer}
 use Rattle.working_state.specs.declared.state.State.{State}

@@ -5,7 +5,7 @@ use Rattle.flash_model.specs.Device.{Device}
 use Rattle.flash_model.specs.Geometry.{IsGeometry}
 use Rattle.history_machine.specs.History.{map_roots}
 use Rattle.record_format.specs.declared.record.Record.{Record}
-use Rattle.commit_pair.specs.Parts.{newest_on}
+use Rattle.anchors.specs.Parts.{newest_on}
 use Rattle.mounting.specs.Records.{history_of, roots_of, knows_plain_only}
 use Rattle.mounting.specs.Saved.{saved_on, saved_trees, IsWholeRecord}
 use Rattle.system.proofs.Committed.{same_saved}

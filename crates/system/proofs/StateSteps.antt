@@ -23,9 +23,9 @@ use Rattle.reclaim.specs.Passes.{Pass}
 use Rattle.reclaim.specs.Verified.{AreRoots}
 use Rattle.reclaim.proofs.Marking.{reached_back}
 use Rattle.record_format.specs.declared.record.Record.{Record}
-use Rattle.commit_pair.specs.Newest.{remembered}
-use Rattle.commit_pair.proofs.NewestLaws.{only_anchors_matter}
-use Rattle.commit_pair.proofs.Beginning.{still_may_commit}
+use Rattle.anchors.specs.Newest.{remembered}
+use Rattle.anchors.proofs.NewestLaws.{only_anchors_matter}
+use Rattle.anchors.proofs.Beginning.{still_may_commit}
 use Rattle.working_state.specs.Seen.{seen_on, tree_on, machine_on, showing}
 use Rattle.working_state.specs.Steps.{is_sync, AnswersOnce}
 use Rattle.working_state.specs.Mounted.{IsStanding, IsMounted, StateStep, KeepsPages}

@@ -24,11 +24,11 @@ use Rattle.block_trees.specs.Bodies.{Blocks}
 use Rattle.block_trees.specs.Reached.{Reached, IsFirst, IsNamed}
 use Rattle.record_format.specs.declared.record.Record.{Record}
 use Rattle.node_store.specs.NodePages.{node_of}
-use Rattle.commit_pair.specs.declared.best.Found.{Found}
-use Rattle.commit_pair.specs.Newest.{remembered}
-use Rattle.commit_pair.specs.Parts.{parts_on, best_on, sequence_of, greatest_on}
-use Rattle.commit_pair.specs.Anchored.{OnlyAnchors}
-use Rattle.commit_pair.specs.Committing.{Commits}
+use Rattle.anchors.specs.declared.best.Found.{Found}
+use Rattle.anchors.specs.Newest.{remembered}
+use Rattle.anchors.specs.Parts.{parts_on, best_on, sequence_of, greatest_on}
+use Rattle.anchors.specs.Anchored.{OnlyAnchors}
+use Rattle.anchors.specs.Committing.{Commits}
 use Rattle.working_state.specs.Roots.{IsReached}
 use Rattle.working_state.specs.Seen.{Seen, seen_on, machine_on, tree_on, showing, shown_on}
 use Rattle.working_state.specs.Steps.{is_sync, is_cut, is_cut_answer, begins_work, is_writing, replied, empty, tells_space, LeadsTo, AnswersOnce, MayRefuse}

@@ -12,12 +12,12 @@ use Rattle.flash_model.specs.Device.{Device, block_of}
 use Rattle.allocator.specs.Ring.{AreDataBlocks}
 use Rattle.bad_blocks.specs.Mode.{is_read_only}
 use Rattle.record_format.specs.declared.record.Record.{Record}
-use Rattle.commit_pair.specs.declared.anchors.Anchors.{Anchors}
-use Rattle.commit_pair.specs.Parts.{greatest_on}
-use Rattle.commit_pair.specs.Anchored.{OnlyAnchors}
-use Rattle.commit_pair.specs.Committing.{Commits}
-use Rattle.commit_pair.specs.Newest.{remembered}
-use Rattle.commit_pair.specs.Remembering.{KnowsNewest, MayCommit, ReadsNone, IsPlaced, Remembers, CommitCause}
+use Rattle.anchors.specs.declared.anchors.Anchors.{Anchors}
+use Rattle.anchors.specs.Parts.{greatest_on}
+use Rattle.anchors.specs.Anchored.{OnlyAnchors}
+use Rattle.anchors.specs.Committing.{Commits}
+use Rattle.anchors.specs.Newest.{remembered}
+use Rattle.anchors.specs.Remembering.{KnowsNewest, MayCommit, ReadsNone, IsPlaced, Remembers, CommitCause}
 use Rattle.working_state.specs.Steps.{is_cut_answer}
 use Rattle.working_state.specs.declared.state.State.{State}
 use Rattle.system.specs.Commits.{record_on, Saves, SaveCause}

@@ -6,8 +6,8 @@ use Rattle.fs_types.specs.declared.fault.Fault.TheVariants.{ReadOnly, PowerCut}
 use Rattle.fs_types.specs.declared.limits.TheConstants.{ANCHORS}
 use Rattle.flash_model.specs.Device.{Device, block_of}
 use Rattle.bad_blocks.specs.Mode.{is_read_only}
-use Rattle.commit_pair.specs.Keeping.{KeepsNewest}
-use Rattle.commit_pair.specs.Newest.{remembered}
+use Rattle.anchors.specs.Keeping.{KeepsNewest}
+use Rattle.anchors.specs.Newest.{remembered}
 use Rattle.node_store.specs.Storage.{DeviceGoesOn}
 use Rattle.block_cleaning.specs.Cleaning.{CleansBlocks, is_free}
 use Rattle.working_state.specs.Mounted.{KeepsPages}

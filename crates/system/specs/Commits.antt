@@ -14,11 +14,11 @@ use Rattle.node_store.specs.NodePages.{node_of}
 use Rattle.block_trees.specs.Reached.{Reached}
 use Rattle.bad_blocks.specs.Mode.{is_read_only}
 use Rattle.record_format.specs.declared.record.Record.{Record}
-use Rattle.commit_pair.specs.Newest.{remembered}
-use Rattle.commit_pair.specs.Parts.{sequence_of, greatest_on}
-use Rattle.commit_pair.specs.Anchored.{OnlyAnchors}
-use Rattle.commit_pair.specs.Committing.{Commits}
-use Rattle.commit_pair.specs.Remembering.{IsPlaced}
+use Rattle.anchors.specs.Newest.{remembered}
+use Rattle.anchors.specs.Parts.{sequence_of, greatest_on}
+use Rattle.anchors.specs.Anchored.{OnlyAnchors}
+use Rattle.anchors.specs.Committing.{Commits}
+use Rattle.anchors.specs.Remembering.{IsPlaced}
 use Rattle.working_state.specs.Leaves.{Leaves}
 use Rattle.working_state.specs.Mounted.{KeepsPages, TellsSpace}
 use Rattle.working_state.specs.Seen.{machine_on, shown_on}

@@ -6,14 +6,14 @@ use Rattle.flash_model.specs.Device.{Device}
 use Rattle.node_store.specs.NodePages.{node_of}
 use Rattle.reclaim.specs.Passes.{AreReached}
 use Rattle.record_format.specs.declared.record.Record.{Record}
-use Rattle.commit_pair.specs.Parts.{parts_on}
-use Rattle.commit_pair.specs.Newest.{committed_on, WantsMemoryOn}
+use Rattle.anchors.specs.Parts.{parts_on}
+use Rattle.anchors.specs.Newest.{committed_on, WantsMemoryOn}
 use Rattle.mounting.specs.Records.{history_of, roots_of, HasTrees, IsLoaded}
 use Rattle.fs_types.specs.declared.fault.Fault.{Fault}
 use Rattle.fs_types.specs.declared.fault.Fault.TheVariants.{BadGeometry, NoRecord, Damaged, ReadFailed, PowerCut, NoMemory}
 use Rattle.flash_model.specs.Geometry.{IsGeometry}
-use Rattle.commit_pair.specs.Laws.{HasNone, HasTie}
-use Rattle.commit_pair.specs.Remembering.{KnowsNewest}
+use Rattle.anchors.specs.Laws.{HasNone, HasTie}
+use Rattle.anchors.specs.Remembering.{KnowsNewest}
 use Rattle.system.specs.declared.systems.System.{System}
 use Rattle.mounting.specs.Costs.{record_pages, verify_pages}
 

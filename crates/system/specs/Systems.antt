@@ -9,12 +9,12 @@ use Rattle.block_trees.specs.Reached.{Reached}
 use Rattle.reclaim.specs.Kinds.{Knows}
 use Rattle.reclaim.specs.Passes.{Pass}
 use Rattle.record_format.specs.declared.record.Record.{Record}
-use Rattle.commit_pair.specs.declared.anchors.Anchors.{Anchors}
-use Rattle.commit_pair.specs.declared.best.Found.{Found}
-use Rattle.commit_pair.specs.Parts.{parts_on, newest_at}
-use Rattle.commit_pair.specs.Newest.{remembered}
-use Rattle.commit_pair.specs.Reading.{IsEnd}
-use Rattle.commit_pair.specs.Remembering.{IsErasedBeside}
+use Rattle.anchors.specs.declared.anchors.Anchors.{Anchors}
+use Rattle.anchors.specs.declared.best.Found.{Found}
+use Rattle.anchors.specs.Parts.{parts_on, newest_at}
+use Rattle.anchors.specs.Newest.{remembered}
+use Rattle.anchors.specs.Reading.{IsEnd}
+use Rattle.anchors.specs.Remembering.{IsErasedBeside}
 use Rattle.working_state.specs.Mounted.{IsStanding, IsMounted}
 use Rattle.working_state.specs.OpenBodies.{KnowsBodies}
 use Rattle.working_state.specs.Roots.{IsReached}

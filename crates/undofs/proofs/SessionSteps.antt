@@ -18,11 +18,11 @@ use Rattle.flash_model.specs.Device.{Device}
 use Rattle.flash_model.specs.Geometry.{IsGeometry}
 use Rattle.flash_model.specs.Reading.{OnlyReads}
 use Rattle.record_format.specs.declared.record.Record.{Record}
-use Rattle.commit_pair.specs.declared.best.Found.{Found}
-use Rattle.commit_pair.specs.Parts.{parts_on, newest_at}
-use Rattle.commit_pair.specs.Laws.{HasTie}
-use Rattle.commit_pair.specs.Newest.{committed_on}
-use Rattle.commit_pair.proofs.NewestLaws.{found_is_newest}
+use Rattle.anchors.specs.declared.best.Found.{Found}
+use Rattle.anchors.specs.Parts.{parts_on, newest_at}
+use Rattle.anchors.specs.Laws.{HasTie}
+use Rattle.anchors.specs.Newest.{committed_on}
+use Rattle.anchors.proofs.NewestLaws.{found_is_newest}
 use Rattle.working_state.specs.Seen.{machine_on, shown_on}
 use Rattle.working_state.specs.Steps.{is_sync}
 use Rattle.system.specs.Steps.{SystemStep}

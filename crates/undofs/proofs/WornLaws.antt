@@ -13,11 +13,11 @@ use Rattle.plain_trees.specs.Trees.{Tree}
 use Rattle.flash_model.specs.Device.{Device}
 use Rattle.flash_model.specs.Reading.{OnlyReads}
 use Rattle.record_format.specs.declared.record.Record.{Record}
-use Rattle.commit_pair.specs.Parts.{newest_on, greatest_on}
-use Rattle.commit_pair.specs.Committing.{Commits, IsCommitted}
-use Rattle.commit_pair.specs.Keeping.{KeepsNewest}
-use Rattle.commit_pair.proofs.Beginning.{committed_is_newest}
-use Rattle.commit_pair.proofs.NewestLaws.{only_anchors_matter}
+use Rattle.anchors.specs.Parts.{newest_on, greatest_on}
+use Rattle.anchors.specs.Committing.{Commits, IsCommitted}
+use Rattle.anchors.specs.Keeping.{KeepsNewest}
+use Rattle.anchors.proofs.Beginning.{committed_is_newest}
+use Rattle.anchors.proofs.NewestLaws.{only_anchors_matter}
 use Rattle.working_state.specs.Steps.{is_sync}
 use Rattle.system.specs.Commits.{record_on, Saves, TriesOnce}
 use Rattle.system.specs.Cleaning.{IsUndisturbed}

@@ -1,6 +1,6 @@
-use Rattle.commit_pair.specs.Parts.{parts_on}
-use Rattle.commit_pair.proofs.Places.{anchor_below}
-use Rattle.commit_pair.proofs.ReadParts.{data_part, part_head}
+use Rattle.anchors.specs.Parts.{parts_on}
+use Rattle.anchors.proofs.Places.{anchor_below}
+use Rattle.anchors.proofs.ReadParts.{data_part, part_head}
 use Rattle.block_usage.proofs.newest_records.head_at.Goals as goal
 
 pub returns-in-Ok-Data-clause-head : goal.returns-in-Ok-Data-clause-head

@@ -1,7 +1,7 @@
 use Rattle.std.proofs.Common.{◌≡◌, ℕ, ap, ◌∙◌}
 use Rattle.flash_model.specs.Device.{Page}
 use Rattle.flash_model.specs.Reading.{OnlyReads_itself, OnlyReads_on, same_pages}
-use Rattle.commit_pair.specs.Parts.{parts_on, record_head}
+use Rattle.anchors.specs.Parts.{parts_on, record_head}
 use Rattle.block_usage.proofs.NewestRecordLemmas.{newest_none, newest_on}
 use Rattle.block_usage.proofs.newest_records.newest_anchor.Goals as goal
 

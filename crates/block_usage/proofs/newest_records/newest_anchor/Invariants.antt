@@ -1,6 +1,6 @@
 use Rattle.std.proofs.Common.{◌≡◌}
 use Rattle.flash_model.specs.Reading.{OnlyReads}
-use Rattle.commit_pair.specs.Parts.{best_below, parts_on}
+use Rattle.anchors.specs.Parts.{best_below, parts_on}
 use Rattle.block_usage.proofs.NewestRecordLemmas.{place_of}
 use Rattle.block_usage.proofs.newest_records.newest_anchor.Given as goal
 

@@ -2,9 +2,9 @@ use Rattle.std.proofs.Common.{◌≡◌, ℕ, ◌+◌, ◌*◌, ◌<◌, true, f
 use Rattle.fs_types.specs.declared.limits.TheConstants.{ANCHORS}
 use Rattle.flash_model.specs.Device.{Page}
 use Rattle.flash_model.specs.Reading.{OnlyReads_on, same_pages}
-use Rattle.commit_pair.specs.Parts.{parts_on, head_at, are_parts, is_part}
-use Rattle.commit_pair.proofs.Places.{below_end, record_ends}
-use Rattle.commit_pair.proofs.ReadParts.{parts_end, parts_go_on, parts_stop}
+use Rattle.anchors.specs.Parts.{parts_on, head_at, are_parts, is_part}
+use Rattle.anchors.proofs.Places.{below_end, record_ends}
+use Rattle.anchors.proofs.ReadParts.{parts_end, parts_go_on, parts_stop}
 use Rattle.block_usage.specs.NewestRecords.{has_room}
 use Rattle.block_usage.proofs.NewestRecordLemmas.{begins, room_fits, with_room}
 use Rattle.block_usage.proofs.newest_records.record_at.Goals as goal

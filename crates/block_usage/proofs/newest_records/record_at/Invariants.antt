@@ -1,6 +1,6 @@
 use Rattle.std.proofs.Common.{◌≡◌, ◌-◌}
 use Rattle.flash_model.specs.Reading.{OnlyReads}
-use Rattle.commit_pair.specs.Parts.{are_parts, parts_on}
+use Rattle.anchors.specs.Parts.{are_parts, parts_on}
 use Rattle.block_usage.proofs.newest_records.record_at.Given as goal
 
 abbrev pub invariant-loop-n : goal.invariant-loop-n

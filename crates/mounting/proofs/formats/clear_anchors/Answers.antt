@@ -1,7 +1,7 @@
 use Rattle.std.proofs.Common.{◌≡◌, ℕ, ◌≤◌, ap, subst, ◌∙◌, arith}
 use Rattle.std.specs.FinSet as set
 use Rattle.std.specs.Ordering.{nat_cmp}
-use Rattle.commit_pair.specs.Anchored.{OnlyAnchors}
+use Rattle.anchors.specs.Anchored.{OnlyAnchors}
 use Rattle.mounting.proofs.Formatting.{cleared, cleared_why, clears_asked}
 use Rattle.mounting.proofs.formats.clear_anchors.Goals as goal
 

@@ -1,7 +1,7 @@
 use Rattle.std.proofs.Common.{◌≡◌, ℕ, ◌<◌, true}
 use Rattle.std.specs.FinSet as set
 use Rattle.flash_simulation.specs.Simulation.{device_of}
-use Rattle.commit_pair.specs.Remembering.{MayCommit}
+use Rattle.anchors.specs.Remembering.{MayCommit}
 use Rattle.part_tests.proofs.commits.commit_all.Given as goal
 
 abbrev pub invariant-loop-n : goal.invariant-loop-n

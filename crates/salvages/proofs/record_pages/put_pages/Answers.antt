@@ -3,9 +3,9 @@ use Rattle.flash_model.specs.declared.geometry.Geometry.{Geometry}
 use Rattle.flash_model.specs.Device.{Device, bytes_of}
 use Rattle.flash_simulation.specs.Simulation.{device_of}
 use Rattle.record_format.specs.Pages.{record_page_bytes}
-use Rattle.commit_pair.specs.Parts.{part_of}
-use Rattle.commit_pair.specs.Programming.{bytes_for}
-use Rattle.commit_pair.proofs.Programmed.{pages_next}
+use Rattle.anchors.specs.Parts.{part_of}
+use Rattle.anchors.specs.Programming.{bytes_for}
+use Rattle.anchors.proofs.Programmed.{pages_next}
 use Rattle.salvages.proofs.FirstPages.{first_on_anchor}
 use Rattle.salvages.proofs.record_pages.put_pages.Goals as goal
 

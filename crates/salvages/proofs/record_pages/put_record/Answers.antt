@@ -3,7 +3,7 @@ use Rattle.flash_model.specs.declared.geometry.Geometry.{Geometry}
 use Rattle.flash_simulation.specs.Simulation.{device_of}
 use Rattle.record_format.specs.Payloads.{written}
 use Rattle.std.proofs.Common.{◌≤◌, ◌∙◌}
-use Rattle.commit_pair.specs.Programming.{Fills}
+use Rattle.anchors.specs.Programming.{Fills}
 use Rattle.salvages.proofs.FirstPages.{newest_stands, data_stays}
 use Rattle.salvages.proofs.record_pages.put_record.Goals as goal
 

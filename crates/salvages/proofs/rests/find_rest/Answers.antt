@@ -2,7 +2,7 @@ use Rattle.std.proofs.Common.{refl, sym, ◌∙◌}
 use Rattle.std.proofs.lemmas.Bool.{true≢false}
 use Rattle.std.proofs.lemmas.Result.{IfOk-weaker, IfErr-weaker}
 use Rattle.flash_model.specs.Reading.{OnlyReads_on}
-use Rattle.commit_pair.proofs.Committed.{committed_stays}
+use Rattle.anchors.proofs.Committed.{committed_stays}
 use Rattle.mounting.specs.Records.{knows_plain_only}
 use Rattle.salvages.proofs.LostRoots.{whole_back, whole_on}
 use Rattle.salvages.proofs.Telling.{rest_stays, unmade_back}

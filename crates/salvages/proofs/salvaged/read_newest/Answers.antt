@@ -1,6 +1,6 @@
 use Rattle.std.proofs.Common.{Option, subst}
 use Rattle.record_format.specs.declared.record.Record.{Record}
-use Rattle.commit_pair.specs.Newest.{IsNewestRecord}
+use Rattle.anchors.specs.Newest.{IsNewestRecord}
 use Rattle.salvages.proofs.Saving.{newest_fits, none_committed}
 use Rattle.salvages.proofs.salvaged.read_newest.Goals as goal
 

@@ -3,7 +3,7 @@ use Rattle.std.proofs.lemmas.Result.{err_from_is_err_and}
 use Rattle.flash_model.specs.declared.geometry.Geometry.{Geometry}
 use Rattle.flash_model.specs.Reading.{OnlyReads_on}
 use Rattle.flash_simulation.specs.Simulation.{device_of}
-use Rattle.commit_pair.proofs.Committed.{committed_stays}
+use Rattle.anchors.proofs.Committed.{committed_stays}
 use Rattle.mounting.specs.Records.{knows_plain_only}
 use Rattle.salvages.specs.Copies.{IsSure, HasDataOf}
 use Rattle.salvages.specs.Kept.{roots_in, kept_record, lost_serials, lost_names}

@@ -4,7 +4,7 @@ use Rattle.std.specs.FinSet as set
 use Rattle.fs_types.specs.declared.fault.Fault.{Fault}
 use Rattle.flash_model.specs.declared.geometry.Geometry.{Geometry}
 use Rattle.record_format.specs.declared.record.Record.{Record}
-use Rattle.commit_pair.specs.Newest.{IsNewestRecord}
+use Rattle.anchors.specs.Newest.{IsNewestRecord}
 use Rattle.system.proofs.Mounting.{newest_fits, none_committed, mounts, not_none, load_why}
 use Rattle.flash_model.specs.Reading.{OnlyReads_on}
 use Rattle.system.specs.Mounts.{MountCause}

@@ -1,7 +1,7 @@
 use Rattle.std.proofs.Common.{Ok, true, inl, sym, subst}
 use Rattle.flash_model.specs.declared.geometry.Geometry.{Geometry}
-use Rattle.commit_pair.specs.Preparing.{IsWithin}
-use Rattle.commit_pair.proofs.Preparing.{newest_within}
+use Rattle.anchors.specs.Preparing.{IsWithin}
+use Rattle.anchors.proofs.Preparing.{newest_within}
 use Rattle.system.proofs.AfterCommits.{knows}
 use Rattle.system.proofs.Cleaned.{with_cleaned}
 use Rattle.system.proofs.Prepared.{prepared_blocks, prepared_system, prepared_undisturbed, tells_then}

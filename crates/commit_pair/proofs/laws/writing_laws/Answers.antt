@@ -1,9 +1,0 @@
-use Rattle.commit_pair.proofs.WholeLaws.{whole_is_newest}
-use Rattle.commit_pair.proofs.WritingLaws.{half_changes_nothing}
-use Rattle.commit_pair.proofs.laws.writing_laws.Goals as goal
-
-pub returns-clause-half : goal.returns-clause-half
-returns-clause-half c = half_changes_nothing
-
-pub returns-clause-whole : goal.returns-clause-whole
-returns-clause-whole c = whole_is_newest

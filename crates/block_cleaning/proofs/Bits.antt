@@ -11,9 +11,9 @@ use Rattle.std.specs.FinSet as fin
 use Rattle.std.specs.Int.{bit_at, bit_not}
 use Rattle.std.specs.Int.RustNames.{bit_and}
 use Rattle.std.specs.Prelude.{not}
-use Rattle.allocator.specs.Bits.{is_set, members_of}
-use Rattle.allocator.specs.BlockSet.{BlockSet}
-use Rattle.allocator.proofs.SetBits.{contains-members_of, seen, with_members}
+use Rattle.block_ring.specs.Bits.{is_set, members_of}
+use Rattle.block_ring.specs.BlockSet.{BlockSet}
+use Rattle.block_ring.proofs.SetBits.{contains-members_of, seen, with_members}
 
 -- the word in which a block's bit is cleared
 abbrev pub cleared : ℕ → ℕ → ℕ

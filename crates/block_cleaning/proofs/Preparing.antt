@@ -10,8 +10,8 @@ use Rattle.flash_model.specs.declared.geometry.Geometry.{Geometry}
 use Rattle.flash_model.specs.Blocks.{block_of-same}
 use Rattle.flash_model.specs.Device.{Device, block_of}
 use Rattle.flash_model.specs.Geometry.{IsGeometry}
-use Rattle.allocator.specs.BlockSet.{BlockSet}
-use Rattle.allocator.specs.Ring.{IsDataBlock, Ring}
+use Rattle.block_ring.specs.BlockSet.{BlockSet}
+use Rattle.block_ring.specs.Ring.{IsDataBlock, Ring}
 use Rattle.node_cache.specs.Cache.{NodeCache, without, IsBounded}
 use Rattle.node_store.specs.Caching.{IsTruthful}
 use Rattle.node_store.specs.FittingLaws.{still_itself, still_on, still_fits}

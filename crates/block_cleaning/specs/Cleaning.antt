@@ -8,7 +8,7 @@ use Rattle.fs_types.specs.declared.fault.Fault.{Fault}
 use Rattle.fs_types.specs.declared.fault.Fault.TheVariants.{ReadOnly, PowerCut}
 use Rattle.flash_model.specs.Device.{Device, erased, block_of}
 use Rattle.flash_model.specs.Geometry.{IsGeometry}
-use Rattle.allocator.specs.Ring.{IsDataBlock, is_busy}
+use Rattle.block_ring.specs.Ring.{IsDataBlock, is_busy}
 use Rattle.node_store.specs.Fitting.{Fits, StillFits}
 use Rattle.node_store.specs.Storage.{DeviceGoesOn}
 use Rattle.node_store.specs.declared.storage.Storage.{Storage}

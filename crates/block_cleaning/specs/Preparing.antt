@@ -3,8 +3,8 @@ use Rattle.std.specs.Prelude.{◌≡◌, ◌⊎◌, ℕ, zero, suc, ◌+◌, ◌
 use Rattle.std.specs.FinSet as set
 use Rattle.fs_types.specs.declared.fault.Fault.{Fault}
 use Rattle.flash_model.specs.Device.{Device}
-use Rattle.allocator.specs.BlockSet.{BlockSet}
-use Rattle.allocator.specs.Ring.{ring_order}
+use Rattle.block_ring.specs.BlockSet.{BlockSet}
+use Rattle.block_ring.specs.Ring.{ring_order}
 use Rattle.node_cache.specs.Cache.{without}
 use Rattle.node_store.specs.declared.storage.Storage.{Storage}
 use Rattle.block_cleaning.specs.declared.preparations.TheConstants.{BLOCKS_AHEAD}

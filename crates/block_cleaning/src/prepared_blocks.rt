@@ -2,7 +2,7 @@
 ghost use Rattle.std.specs.Prelude.{◌≡◌, ◌<◌, IfOk, IfErr};
 ghost use Rattle.std.specs.FinSet as set;
 
-use allocator::Ring;
+use block_ring::Ring;
 use fs_types::Fault;
 use std::alloc::Global;
 use std::marker::Model;
@@ -17,8 +17,8 @@ pub struct PreparedBlocks {
 impl Model for PreparedBlocks {
     ghost use Rattle.std.specs.Prelude.{◌*◌, ◌≤◌};
     ghost use Rattle.std.specs.Vec.{vec_len};
-    ghost use Rattle.allocator.specs.BlockSet.{BlockSet as Blocks, block_set_code};
-    ghost use Rattle.allocator.specs.Bits.{members_of};
+    ghost use Rattle.block_ring.specs.BlockSet.{BlockSet as Blocks, block_set_code};
+    ghost use Rattle.block_ring.specs.Bits.{members_of};
 
     ghost Value = { Blocks };
 

@@ -6,7 +6,7 @@ use Rattle.std.specs.Prelude.{slice_index, Contains}
 use Rattle.fs_types.specs.declared.fault.Fault.{Fault}
 use Rattle.fs_types.specs.declared.fault.Fault.TheVariants.{Damaged}
 use Rattle.fs_types.specs.declared.limits.TheConstants.{ANCHORS}
-use Rattle.allocator.specs.Ring.{IsDataBlock}
+use Rattle.block_ring.specs.Ring.{IsDataBlock}
 use Rattle.node_format.specs.Headers.{body_header}
 use Rattle.nodes.specs.Faults.{IsReadFault, IsLookFault}
 use Rattle.block_trees.specs.Bodies.{Blocks, back}

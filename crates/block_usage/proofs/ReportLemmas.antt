@@ -19,8 +19,8 @@ use Rattle.flash_model.specs.Reading.{OnlyReads}
 use Rattle.history_machine.specs.History.{seen_root, view_refusal}
 use Rattle.history_machine.specs.HistoryMaps.{view_refusal-map}
 use Rattle.history_machine.specs.Machine.{found_refusal, refusal, view_tree}
-use Rattle.allocator.proofs.RingOrder.{contains-insert_same}
-use Rattle.allocator.specs.Ring.{IsDataBlock}
+use Rattle.block_ring.proofs.RingOrder.{contains-insert_same}
+use Rattle.block_ring.specs.Ring.{IsDataBlock}
 use Rattle.block_trees.specs.Bodies.{Blocks}
 use Rattle.block_trees.specs.Reached.{Reached}
 use Rattle.block_trees.specs.Trees.{IsRoot}

@@ -11,8 +11,8 @@ ghost use Rattle.block_usage.specs.Kinds.{checkpoint_roots, other_roots, present
 ghost use Rattle.block_usage.specs.Maps.{AreMarked, IsKnownKind, IsReady, Knows, ReadsCause, reached_kind};
 
 use crate::block_kind::BlockKind;
-use allocator::Marks;
 use bad_blocks::BadBlocks;
+use block_ring::Marks;
 use flash_model::Flash;
 use fs_types::{ANCHORS, Fault};
 use history::History;

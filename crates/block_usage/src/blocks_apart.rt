@@ -3,14 +3,14 @@ ghost use Rattle.std.specs.Prelude.{◌≡◌, ◌⊎◌, ◌↔◌, ℕ, true, 
 ghost use Rattle.std.specs.FinSet as set;
 ghost use Rattle.flash_model.specs.Geometry.{block_bytes};
 ghost use Rattle.flash_model.specs.Reading.{OnlyReads};
-ghost use Rattle.allocator.specs.Ring.{IsDataBlock};
+ghost use Rattle.block_ring.specs.Ring.{IsDataBlock};
 ghost use Rattle.node_store.specs.NodePages.{node_of};
 ghost use Rattle.reclaim.specs.Verified.{AreRoots};
 ghost use Rattle.block_usage.specs.Maps.{IsReady, ReadsCause};
 ghost use Rattle.block_usage.specs.UsageReports.{AreApart};
 
-use allocator::Marks;
 use bad_blocks::BadBlocks;
+use block_ring::Marks;
 use flash_model::Flash;
 use fs_types::{ANCHORS, Fault};
 use mounting::marked_on;

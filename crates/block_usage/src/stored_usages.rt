@@ -12,7 +12,7 @@ ghost use Rattle.block_usage.specs.UsageReports.{StoredCause};
 
 use crate::usage_fault::UsageFault;
 use crate::usage_list::{UsageList, find_usages};
-use allocator::Marks;
+use block_ring::Marks;
 use flash_model::Flash;
 use fs_types::Path;
 use node_store::{Nodes, Storage, Store};

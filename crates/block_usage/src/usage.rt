@@ -9,7 +9,7 @@ ghost use Rattle.nodes.specs.Words.{Looks};
 ghost use Rattle.block_usage.specs.Usages as spec;
 
 use crate::place_blocks::blocks_of;
-use allocator::Marks;
+use block_ring::Marks;
 use fs_types::Fault;
 use node_format::Place;
 use nodes::Nodes;

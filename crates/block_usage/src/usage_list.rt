@@ -11,7 +11,7 @@ ghost use Rattle.block_usage.specs.declared.usage_fault.TheConstants.{MAX_USAGE_
 
 use crate::usage::{Usage, usage_of};
 use crate::usage_fault::{MAX_USAGE_BLOCKS, UsageFault};
-use allocator::Marks;
+use block_ring::Marks;
 use directory::{Found, lookup, places_after};
 use fs_types::{Fault, MAX_ENTRIES, Name, Path};
 use node_format::Place;

@@ -5,7 +5,7 @@ use Rattle.std.specs.List.{list_any}
 use Rattle.std.specs.FinSet.{FinSet, contains, insert, empty, contains-empty}
 use Rattle.std.specs.Ordering.{nat_cmp}
 use Rattle.std.proofs.lemmas.Bool.{true≢false, eqb-true, ltb-true, ltb-false, lt-ltb}
-use Rattle.allocator.specs.BlockSet.{BlockSet}
+use Rattle.block_ring.specs.BlockSet.{BlockSet}
 use Rattle.node_format.specs.Items.{Item}
 use Rattle.node_format.specs.Order.{both_true}
 use Rattle.block_trees.specs.Bodies.{Blocks}

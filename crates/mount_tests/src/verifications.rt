@@ -2,8 +2,8 @@
 //! nodes it asks.
 use crate::counted::Counted;
 use crate::verified_chains::{wrong_chain, wrong_plain};
-use allocator::Marks;
 use bad_blocks::BadBlocks;
+use block_ring::Marks;
 use flash_model::{FaultKind, Flash, Geometry, PlannedFault};
 use flash_simulation::SimFlash;
 use fs_types::Fault;

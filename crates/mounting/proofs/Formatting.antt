@@ -17,7 +17,7 @@ use Rattle.flash_model.specs.declared.geometry.Geometry.{Geometry}
 use Rattle.flash_model.specs.Device.{Device, Page}
 use Rattle.flash_model.specs.Geometry.{IsGeometry, block_bytes}
 use Rattle.bad_blocks.specs.Mode.{bad_anchors, is_read_only}
-use Rattle.allocator.specs.Ring.{IsDataBlock}
+use Rattle.block_ring.specs.Ring.{IsDataBlock}
 use Rattle.node_format.specs.Headers.{body_header}
 use Rattle.node_store.specs.NodePages.{node_of}
 use Rattle.block_trees.specs.Bodies.{Blocks}

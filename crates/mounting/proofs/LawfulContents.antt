@@ -10,7 +10,7 @@ use Rattle.std.specs.declared.cmp.Ordering.TheVariants.{Less}
 use Rattle.fs_types.specs.Names.{Name, name_cmp, is_checkpoint_name}
 use Rattle.fs_types.specs.declared.call.Version.{Version}
 use Rattle.flash_model.specs.declared.geometry.Geometry.{Geometry}
-use Rattle.allocator.specs.Ring.{IsDataBlock}
+use Rattle.block_ring.specs.Ring.{IsDataBlock}
 use Rattle.history_machine.specs.History.{Past}
 use Rattle.history.specs.Kept.{IsKept}
 use Rattle.record_format.specs.Payloads.{is_record, has_counts, has_versions, has_checkpoints, serials_ascend, names_ascend}

@@ -7,7 +7,7 @@ use Rattle.fs_types.specs.declared.fault.Fault.TheVariants.{ReadFailed, PowerCut
 use Rattle.fs_types.specs.declared.limits.TheConstants.{ANCHORS}
 use Rattle.flash_model.specs.Device.{Device}
 use Rattle.flash_model.specs.Geometry.{block_bytes}
-use Rattle.allocator.specs.Ring.{IsDataBlock}
+use Rattle.block_ring.specs.Ring.{IsDataBlock}
 use Rattle.node_format.specs.Headers.{body_header}
 use Rattle.node_store.specs.NodeLaws.{node_of-anchor, node_of-beyond}
 use Rattle.node_store.specs.NodePages.{node_of}

@@ -8,7 +8,7 @@ use Rattle.flash_model.specs.Geometry.{IsGeometry, block_bytes}
 use Rattle.node_format.specs.Headers.{body_header}
 use Rattle.node_store.specs.NodePages.{node_of, node_at}
 use Rattle.node_store.specs.NodeLaws.{node_of-same}
-use Rattle.allocator.specs.Ring.{Ring}
+use Rattle.block_ring.specs.Ring.{Ring}
 use Rattle.block_trees.specs.Bodies.{Blocks}
 use Rattle.block_trees.specs.Reached.{IsHeld}
 use Rattle.block_trees.specs.Trees.{IsRoot, root_tree}

@@ -3,7 +3,7 @@ ghost use Rattle.std.specs.Prelude.{◌≡◌, true, map, IfOk, OnOk};
 ghost use Rattle.std.specs.List.{list_all};
 ghost use Rattle.std.specs.BTreeMap.{IsOrdered};
 ghost use Rattle.fs_types.specs.Names.{name_cmp, is_checkpoint_name};
-ghost use Rattle.allocator.specs.Ring.{IsDataBlock};
+ghost use Rattle.block_ring.specs.Ring.{IsDataBlock};
 ghost use Rattle.record_format.specs.Payloads.{is_record};
 ghost use Rattle.mounting.specs.Contents as spec;
 

@@ -16,7 +16,7 @@ ghost use Rattle.working_state.specs.Worked.{ReadCause};
 ghost use Rattle.mounting.specs.Costs.{ReadsEach, AsksEach, AsksToVerify};
 ghost use Rattle.mounting.specs.Records.{HaveTrees, RootsCause};
 
-use allocator::Marks;
+use block_ring::Marks;
 use flash_model::Flash;
 use fs_types::Fault;
 use node_store::{Nodes, Storage, Store};

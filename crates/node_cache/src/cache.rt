@@ -4,7 +4,7 @@ ghost use Rattle.std.specs.FinSet as set;
 ghost use Rattle.std.specs.Map.{keys_of};
 ghost use Rattle.node_cache.specs.Cache.{node_in, with_first, without, with_blocks, first_bytes, IsBounded};
 
-use allocator::Ring;
+use block_ring::Ring;
 use fs_types::Fault;
 use lru::LruCache;
 use std::alloc::Global;

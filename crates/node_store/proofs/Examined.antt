@@ -4,7 +4,7 @@ use Rattle.std.specs.Prelude.{◌==◌, ◌&&◌, nat_le, nat_lt, if◌then◌el
 use Rattle.std.proofs.lemmas.Bool.{eqb-true}
 use Rattle.std.proofs.lemmas.List.{take-take}
 use Rattle.std.specs.FinSet as set
-use Rattle.allocator.specs.Ring.{Ring}
+use Rattle.block_ring.specs.Ring.{Ring}
 use Rattle.fs_types.specs.declared.fault.Fault.{Fault}
 use Rattle.fs_types.specs.declared.fault.Fault.TheVariants.{ReadFailed, PowerCut, NoMemory, Damaged}
 use Rattle.fs_types.specs.declared.limits.TheConstants.{ANCHORS}

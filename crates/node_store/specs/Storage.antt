@@ -6,7 +6,7 @@ use Rattle.fs_types.specs.declared.limits.TheConstants.{ANCHORS, MAX_BAD_BLOCKS}
 use Rattle.fs_types.specs.declared.fault.Fault.{Fault}
 use Rattle.fs_types.specs.declared.fault.Fault.TheVariants.{FlashFull, ReadOnly, PowerCut, NoMemory}
 use Rattle.flash_model.specs.Device.{Device, block_of}
-use Rattle.allocator.specs.Ring.{Ring, IsDataBlock, IsNext, is_busy, free_count}
+use Rattle.block_ring.specs.Ring.{Ring, IsDataBlock, IsNext, is_busy, free_count}
 use Rattle.node_store.specs.NodePages.{node_of, HasPages, HoldsNode}
 use Rattle.nodes.specs.PageCounts.{pages_for}
 use Rattle.node_store.specs.Writing.{IsFilledInOrder}

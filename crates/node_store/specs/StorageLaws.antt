@@ -13,9 +13,9 @@ use Rattle.flash_model.specs.declared.flash.DevFault.{DevFault}
 use Rattle.flash_model.specs.declared.flash.DevFault.TheVariants.{Failed, PowerCut}
 use Rattle.flash_model.specs.Geometry.{IsGeometry, block_bytes}
 use Rattle.flash_model.specs.Device.{Device, block_of, failed}
-use Rattle.allocator.specs.Ring.{Ring, IsDataBlock, IsNext, IsTaken, is_busy, free_count}
-use Rattle.allocator.specs.RingLaws.{next_on}
-use Rattle.allocator.specs.FreeCount.{free_count-alike}
+use Rattle.block_ring.specs.Ring.{Ring, IsDataBlock, IsNext, IsTaken, is_busy, free_count}
+use Rattle.block_ring.specs.RingLaws.{next_on}
+use Rattle.block_ring.specs.FreeCount.{free_count-alike}
 use Rattle.node_store.specs.NodePages.{HasPages, HoldsNode}
 use Rattle.node_format.specs.Headers.{IsNode}
 use Rattle.node_store.specs.NodeLaws.{node_of-pages, HoldsNode_same}

@@ -7,7 +7,7 @@ use Rattle.fs_types.specs.declared.fault.Fault.TheVariants.{FlashFull, ReadOnly,
 use Rattle.flash_model.specs.declared.geometry.Geometry.{Geometry}
 use Rattle.flash_model.specs.Geometry.{IsGeometry}
 use Rattle.flash_model.specs.Device.{Device}
-use Rattle.allocator.specs.Ring.{Ring}
+use Rattle.block_ring.specs.Ring.{Ring}
 use Rattle.node_store.specs.declared.store.Store.{Store}
 use Rattle.node_store.specs.Fitting.{StillFits}
 use Rattle.node_store.specs.FittingLaws.{still_itself, still_on}

@@ -6,7 +6,7 @@ use Rattle.fs_types.specs.declared.fault.Fault.{Fault}
 use Rattle.fs_types.specs.declared.fault.Fault.TheVariants.{FlashFull, ReadOnly, ReadFailed, PowerCut, NoMemory}
 use Rattle.flash_model.specs.Geometry.{IsGeometry}
 use Rattle.flash_model.specs.Device.{Device}
-use Rattle.allocator.specs.Ring.{free_count}
+use Rattle.block_ring.specs.Ring.{free_count}
 use Rattle.node_store.specs.declared.storage.Storage.{Storage as Kept}
 use Rattle.node_store.specs.declared.store.Store.{Store}
 use Rattle.node_store.specs.Fitting.{Fits, StillFits}

@@ -1,7 +1,7 @@
 //! Adding a node to the flash: blocks are taken and tried until one holds it.
 ghost use Rattle.std.specs.Prelude.{◌≡◌, ◌≢◌, ℕ, ◌+◌, ◌≤◌, ◌<◌, false, length, vec_len, true, Some, None, Ok, IfOk, IfErr, MatchResult};
 ghost use Rattle.std.specs.FinSet as set;
-ghost use Rattle.allocator.specs.Ring.{next_free, free_count};
+ghost use Rattle.block_ring.specs.Ring.{next_free, free_count};
 ghost use Rattle.flash_model.specs.Device.{block_of};
 ghost use Rattle.flash_model.specs.Geometry.{IsGeometry, block_bytes};
 ghost use Rattle.node_cache.specs.Cache.{node_in};
@@ -14,8 +14,8 @@ ghost use Rattle.fs_types.specs.declared.limits.TheConstants.{MAX_BAD_BLOCKS};
 
 use crate::node_writes::write_block;
 use crate::storage::Storage;
-use allocator::Ring;
 use bad_blocks::BadBlocks;
+use block_ring::Ring;
 use flash_model::{DevFault, Flash};
 use fs_types::Fault;
 use std::mem;

@@ -1,14 +1,14 @@
 //! What nodes are kept with, apart from the flash.
 ghost use Rattle.std.specs.Prelude.{◌≡◌, [], IfOk, IfErr};
 ghost use Rattle.std.specs.FinSet as set;
-ghost use Rattle.allocator.specs.Ring.{IsDataBlock};
+ghost use Rattle.block_ring.specs.Ring.{IsDataBlock};
 ghost use Rattle.flash_model.specs.Device.{Device};
 ghost use Rattle.flash_model.specs.Geometry.{IsGeometry};
 ghost use Rattle.node_cache.specs.Cache.{with_blocks};
 ghost use Rattle.node_store.specs.Fitting.{Fits};
 
-use allocator::{Marks, Ring};
 use bad_blocks::BadBlocks;
+use block_ring::{Marks, Ring};
 use flash_model::Geometry;
 use fs_types::Fault;
 use node_cache::NodeCache;

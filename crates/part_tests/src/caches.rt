@@ -1,5 +1,5 @@
 //! Nodes kept in memory.
-use allocator::Ring;
+use block_ring::Ring;
 use fs_types::Fault;
 use node_cache::NodeCache;
 use std::alloc::Global;

@@ -1,6 +1,6 @@
 //! Sets of blocks and the ring with ample memory.
-use allocator::{BlockSet, Marks, Ring};
 use bad_blocks::BadBlocks;
+use block_ring::{BlockSet, Marks, Ring};
 use std::test::Fail;
 
 // A flash of 32 blocks has 24 data blocks, and block 31 counts as the last one taken before any.

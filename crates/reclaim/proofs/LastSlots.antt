@@ -5,7 +5,7 @@ use Rattle.std.specs.FinSet as set
 use Rattle.std.proofs.lemmas.Bool.{true≢false, eqb-true, eq-eqb}
 use Rattle.std.proofs.lemmas.List.{get_or-set_same, get_or-set_other, length-set, append-nil, append_assoc}
 use Rattle.std.proofs.lemmas.List.Elements.{Contains-append_left, Contains-append_right, Contains-append_cases, Contains-push, Contains-push_cases}
-use Rattle.allocator.proofs.RingOrder.{contains-insert_same, contains-kept}
+use Rattle.block_ring.proofs.RingOrder.{contains-insert_same, contains-kept}
 use Rattle.reclaim.specs.Naming.{has_slot}
 use Rattle.reclaim.specs.Tops.{FitsTop, FitTops, KeepsTops, steps_below}
 use Rattle.reclaim.specs.declared.tops.Tops.{Tops}

@@ -14,8 +14,8 @@ use Rattle.std.proofs.lemmas.List.Folds.{list_any_at}
 use Rattle.fs_types.specs.declared.fault.Fault.{Fault}
 use Rattle.fs_types.specs.declared.fault.Fault.TheVariants.{NoMemory, Damaged}
 use Rattle.fs_types.specs.declared.limits.TheConstants.{ANCHORS}
-use Rattle.allocator.specs.BlockSet.{BlockSet}
-use Rattle.allocator.specs.Ring.{IsDataBlock}
+use Rattle.block_ring.specs.BlockSet.{BlockSet}
+use Rattle.block_ring.specs.Ring.{IsDataBlock}
 use Rattle.block_trees.specs.Bodies.{Blocks}
 use Rattle.block_trees.specs.Reached.{Reached, IsFirst, IsNamed, Names, Agrees}
 use Rattle.reclaim.specs.Passes.{Pass, IsOrder, AreDistinct, Begins, IsMarked, IsPass, IsFinished, IsMarkFault, PassStays, PassMarks}

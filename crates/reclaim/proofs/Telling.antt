@@ -18,7 +18,7 @@ use Rattle.node_format.specs.Links.{Link}
 use Rattle.block_trees.specs.Bodies.{Blocks}
 use Rattle.block_trees.specs.Chains.{link_of, next_of, link_items}
 use Rattle.block_trees.specs.Reached.{Reached}
-use Rattle.allocator.proofs.RingOrder.{contains-insert_same, contains-kept}
+use Rattle.block_ring.proofs.RingOrder.{contains-insert_same, contains-kept}
 use Rattle.reclaim.specs.Passes.{Pass, IsPass, Advances, AreNoted}
 use Rattle.reclaim.specs.Looks.{NextHoldsLink, IsLooked}
 use Rattle.reclaim.specs.Sound.{HoldsLink}

@@ -7,7 +7,7 @@ use Rattle.std.proofs.lemmas.Grind.{get_or_default_zero}
 use Rattle.std.proofs.lemmas.List.Elements.{All-more, All-contains, All-contains_itself, All-weaker}
 use Rattle.fs_types.specs.declared.limits.TheConstants.{ANCHORS}
 use Rattle.node_format.specs.declared.place.Place.TheVariants.{Dir}
-use Rattle.allocator.specs.Ring.{IsDataBlock}
+use Rattle.block_ring.specs.Ring.{IsDataBlock}
 use Rattle.block_trees.specs.Bodies.{Blocks}
 use Rattle.block_trees.specs.Laws.{IsShallow}
 use Rattle.block_trees.specs.Reached.{Reached, IsFirst}

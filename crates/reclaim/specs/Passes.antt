@@ -5,8 +5,8 @@ use Rattle.std.specs.FinSet as set
 use Rattle.std.specs.Ordering.{nat_cmp}
 use Rattle.fs_types.specs.declared.fault.Fault.{Fault}
 use Rattle.fs_types.specs.declared.fault.Fault.TheVariants.{NoMemory, Damaged}
-use Rattle.allocator.specs.BlockSet.{BlockSet}
-use Rattle.allocator.specs.Ring.{IsDataBlock}
+use Rattle.block_ring.specs.BlockSet.{BlockSet}
+use Rattle.block_ring.specs.Ring.{IsDataBlock}
 use Rattle.block_trees.specs.Bodies.{Blocks}
 use Rattle.block_trees.specs.Reached.{Reached, Names, Agrees}
 

@@ -1,7 +1,7 @@
 //! A marking of the blocks that roots reach, in steps of so many reads.
 ghost use Rattle.std.specs.Prelude.{◌≡◌, ◌≢◌, ◌↔◌, ℕ, ◌+◌, ◌-◌, ◌^◌, ◌<◌, ◌≤◌, [], ◌∷◌, true, false, length, slice_index, Contains, OnOk, IfOk, IfErr, IfSome, IfNone, IsErrOf, None, Ok, Err};
 ghost use Rattle.std.specs.FinSet as set;
-ghost use Rattle.allocator.specs.Ring.{IsDataBlock};
+ghost use Rattle.block_ring.specs.Ring.{IsDataBlock};
 ghost use Rattle.block_trees.specs.Bodies.{Blocks};
 ghost use Rattle.block_trees.specs.Reached.{Reached, Names};
 ghost use Rattle.block_trees.specs.Trees.{IsRoot};
@@ -14,7 +14,7 @@ ghost use Rattle.reclaim.specs.MoreRoots.{AddsRoot};
 ghost use Rattle.reclaim.specs.Passes.{IsMarked, IsPass, IsFinished, HasRead, HasReached, LacksNode, IsMarkFault, Begins, Advances, HasStepped, AreNoted};
 
 use crate::named::{Named, read_named};
-use allocator::{BlockSet, Marks};
+use block_ring::{BlockSet, Marks};
 use fs_types::{ANCHORS, Fault};
 use nodes::Nodes;
 use std::alloc::Global;

@@ -13,7 +13,7 @@ ghost use Rattle.reclaim.specs.Tables as spec;
 use crate::edge::next_in;
 use crate::looks::Parts;
 use crate::pass::add_blocks;
-use allocator::BlockSet;
+use block_ring::BlockSet;
 use block_words::SparseWords;
 use fs_types::{CHAIN_NODES, Fault, MAX_FILE_BYTES};
 use node_format::Place;

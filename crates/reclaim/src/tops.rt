@@ -5,7 +5,7 @@ ghost use Rattle.node_format.specs.declared.headers.TheConstants.{SLOTS};
 ghost use Rattle.reclaim.specs.Tops as spec;
 
 use crate::slots::has_pointer;
-use allocator::BlockSet;
+use block_ring::BlockSet;
 use block_words::SparseWords;
 use fs_types::Fault;
 use node_format::SLOTS;

@@ -1,6 +1,6 @@
 //! Whether roots have trees: one look at each block that they reach, and at the depth below each root.
 ghost use Rattle.std.specs.Prelude.{◌≡◌, ◌↔◌, ℕ, ◌+◌, ◌≤◌, ◌<◌, true, length, slice_index, All, Contains, IsTrue, IfOk, IsErrOf};
-ghost use Rattle.allocator.specs.Ring.{IsDataBlock};
+ghost use Rattle.block_ring.specs.Ring.{IsDataBlock};
 ghost use Rattle.node_format.specs.declared.place.Place.TheVariants.{Dir};
 ghost use Rattle.block_trees.specs.Laws.{IsShallow};
 ghost use Rattle.directory.specs.Depths.{AreQuiet};
@@ -20,7 +20,7 @@ use crate::looks::look;
 use crate::pass::Pass;
 use crate::table::Table;
 use crate::tops::Tops;
-use allocator::BlockSet;
+use block_ring::BlockSet;
 use block_words::SparseWords;
 use directory::any_is_deeper;
 use fs_types::{ANCHORS, Fault, MAX_NAMES};

@@ -7,7 +7,7 @@ use crate::error::RowError;
 use crate::row::{Row, Side};
 use crate::runs::{first_flash, text_of};
 use crate::sight::Sight;
-use allocator::Ring;
+use block_ring::Ring;
 use flash_model::Flash;
 use flash_simulation::SimFlash;
 use fs_types::Answer;

@@ -2,7 +2,7 @@
 use crate::error::RowError;
 use crate::look::{Claim, Look};
 use crate::row::{Row, Side};
-use allocator::Ring;
+use block_ring::Ring;
 use flash_model::{Flash, PageView};
 use flash_simulation::SimFlash;
 use fs_types::ANCHORS;

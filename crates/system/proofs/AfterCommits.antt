@@ -20,7 +20,7 @@ use Rattle.node_store.specs.Caching.{IsTruthful}
 use Rattle.node_store.specs.FittingLaws.{still_fits}
 use Rattle.record_format.specs.declared.formats.TheConstants.{FORMAT}
 use Rattle.record_format.specs.declared.record.Record.{Record}
-use Rattle.allocator.specs.BlockSet.{BlockSet}
+use Rattle.block_ring.specs.BlockSet.{BlockSet}
 use Rattle.block_trees.specs.Bodies.{Blocks}
 use Rattle.node_store.specs.NodePages.{node_of}
 use Rattle.reclaim.specs.Sound.{IsPlain}

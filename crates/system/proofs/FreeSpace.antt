@@ -11,7 +11,7 @@ use Rattle.fs_types.specs.declared.limits.TheConstants.{ANCHORS}
 use Rattle.plain_trees.specs.Trees.{Tree}
 use Rattle.flash_model.specs.Device.{Device}
 use Rattle.bad_blocks.specs.Mode.{bad_anchors}
-use Rattle.allocator.specs.Ring.{data_blocks}
+use Rattle.block_ring.specs.Ring.{data_blocks}
 use Rattle.node_store.specs.NodePages.{node_of}
 use Rattle.block_trees.specs.Reached.{Reached}
 use Rattle.reclaim.proofs.MoreRoots.{reached_more}

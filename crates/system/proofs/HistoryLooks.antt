@@ -6,7 +6,7 @@ use Rattle.fs_types.specs.declared.fault.Fault.{Fault}
 use Rattle.history_machine.specs.History.{map_roots, map_group}
 use Rattle.history_machine.specs.Machine.{machine_with}
 use Rattle.flash_model.specs.Device.{Device}
-use Rattle.allocator.specs.Ring.{Ring}
+use Rattle.block_ring.specs.Ring.{Ring}
 use Rattle.reclaim.specs.Passes.{Pass}
 use Rattle.working_state.specs.Moments.{moment}
 use Rattle.working_state.specs.Seen.{tree_on}

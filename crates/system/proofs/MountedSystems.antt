@@ -9,7 +9,7 @@ use Rattle.history_machine.specs.History.{Past}
 use Rattle.flash_model.specs.declared.geometry.Geometry.{Geometry}
 use Rattle.flash_model.specs.Device.{Device}
 use Rattle.flash_model.specs.Reading.{OnlyReads}
-use Rattle.allocator.specs.BlockSet.{BlockSet}
+use Rattle.block_ring.specs.BlockSet.{BlockSet}
 use Rattle.reclaim.specs.Passes.{Pass}
 use Rattle.record_format.specs.declared.record.Record.{Record}
 use Rattle.record_format.specs.Payloads.{is_record, has_counts, has_versions, has_checkpoints, numbers_ascend}

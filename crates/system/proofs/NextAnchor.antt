@@ -9,7 +9,7 @@ use Rattle.fs_types.specs.declared.fault.Fault.{Fault}
 use Rattle.fs_types.specs.declared.fault.Fault.TheVariants.{ReadOnly, Overflow}
 use Rattle.history_machine.specs.History.{map_roots}
 use Rattle.flash_model.specs.Device.{Device, block_of}
-use Rattle.allocator.specs.Ring.{AreDataBlocks}
+use Rattle.block_ring.specs.Ring.{AreDataBlocks}
 use Rattle.bad_blocks.specs.Mode.{is_read_only}
 use Rattle.node_store.specs.NodePages.{node_of}
 use Rattle.block_trees.specs.Reached.{Reached}

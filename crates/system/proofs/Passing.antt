@@ -16,8 +16,8 @@ use Rattle.flash_model.specs.declared.geometry.Geometry.{Geometry}
 use Rattle.flash_model.specs.Device.{Device}
 use Rattle.flash_model.specs.Geometry.{IsGeometry, block_bytes}
 use Rattle.flash_model.specs.Reading.{OnlyReads, OnlyReads_itself, OnlyReads_on}
-use Rattle.allocator.specs.BlockSet.{BlockSet}
-use Rattle.allocator.specs.Ring.{Ring, IsDataBlock, AreDataBlocks}
+use Rattle.block_ring.specs.BlockSet.{BlockSet}
+use Rattle.block_ring.specs.Ring.{Ring, IsDataBlock, AreDataBlocks}
 use Rattle.node_format.specs.Headers.{body_header}
 use Rattle.node_store.specs.Fitting.{StillFits}
 use Rattle.node_store.specs.FittingLaws.{still_on}

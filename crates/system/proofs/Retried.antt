@@ -8,7 +8,7 @@ use Rattle.std.specs.Option.{option_map_or}
 use Rattle.std.specs.Ordering.{nat_cmp}
 use Rattle.history_machine.specs.Descriptors.{Descriptor, descriptor_at}
 use Rattle.history_machine.specs.History.{Past}
-use Rattle.allocator.specs.Ring.{data_blocks, free_count, is_busy}
+use Rattle.block_ring.specs.Ring.{data_blocks, free_count, is_busy}
 use Rattle.history_machine.specs.Machine.{Machine, Space, makes_version, need, change_need, is_accepted, pwrite_tree, tree_after, changes_tree}
 use Rattle.plain_trees.specs.Trees.{Tree}
 use Rattle.fs_types.specs.declared.call.Call.{Call}

@@ -23,7 +23,7 @@ use Rattle.plain_trees.specs.Trees.{Tree}
 use Rattle.plain_trees.proofs.Beneath.{None≢Some, same_Some}
 use Rattle.history_machine.specs.Machine.{Space}
 use Rattle.flash_model.specs.Device.{Device}
-use Rattle.allocator.specs.Ring.{data_blocks}
+use Rattle.block_ring.specs.Ring.{data_blocks}
 use Rattle.node_store.specs.NodePages.{node_of}
 use Rattle.block_trees.specs.Bodies.{Blocks}
 use Rattle.block_trees.specs.Reached.{Reached}

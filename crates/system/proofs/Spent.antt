@@ -7,8 +7,8 @@ use Rattle.std.specs.Cmp.{unsigned_tied}
 use Rattle.std.specs.FinMap.{nat_cmp-IsAntisymmetric}
 use Rattle.std.specs.FinSet as set
 use Rattle.std.specs.Ordering.{nat_cmp}
-use Rattle.allocator.specs.FreeCount.{count_less}
-use Rattle.allocator.specs.Ring.{IsDataBlock, data_blocks, free_count}
+use Rattle.block_ring.specs.FreeCount.{count_less}
+use Rattle.block_ring.specs.Ring.{IsDataBlock, data_blocks, free_count}
 use Rattle.fs_types.specs.declared.call.Call.{Call}
 use Rattle.fs_types.specs.declared.call.Reply.{Reply}
 use Rattle.fs_types.specs.declared.fault.Fault.{Fault}

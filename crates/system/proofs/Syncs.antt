@@ -18,7 +18,7 @@ use Rattle.fs_types.specs.declared.fault.Fault.{Fault}
 use Rattle.fs_types.specs.declared.fault.Fault.TheVariants.{ReadOnly, Overflow, PowerCut, NoMemory, BadDescriptor, InGroup}
 use Rattle.fs_types.specs.declared.limits.TheConstants.{ANCHORS}
 use Rattle.flash_model.specs.Device.{Device, block_of}
-use Rattle.allocator.specs.Ring.{Ring, is_busy, free_count}
+use Rattle.block_ring.specs.Ring.{Ring, is_busy, free_count}
 use Rattle.bad_blocks.specs.Mode.{is_read_only}
 use Rattle.block_trees.specs.Bodies.{Blocks}
 use Rattle.block_trees.specs.Reached.{Reached, IsFirst, IsNamed}

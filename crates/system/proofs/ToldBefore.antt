@@ -11,7 +11,7 @@ use Rattle.flash_model.specs.Device.{Device}
 use Rattle.flash_model.specs.Geometry.{IsGeometry}
 use Rattle.flash_model.specs.declared.geometry.Geometry.{Geometry}
 use Rattle.bad_blocks.specs.Mode.{bad_anchors}
-use Rattle.allocator.specs.Ring.{data_blocks}
+use Rattle.block_ring.specs.Ring.{data_blocks}
 use Rattle.node_store.specs.NodePages.{node_of}
 use Rattle.node_store.specs.ReadingLaws.{OnlyReads_nodes}
 use Rattle.block_trees.specs.Bodies.{Blocks}

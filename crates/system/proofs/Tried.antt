@@ -9,7 +9,7 @@ use Rattle.fs_types.specs.declared.fault.Fault.{Fault}
 use Rattle.fs_types.specs.declared.fault.Fault.TheVariants.{Overflow, PowerCut, ReadOnly, ReadFailed, NoMemory}
 use Rattle.fs_types.specs.declared.limits.TheConstants.{ANCHORS}
 use Rattle.flash_model.specs.Device.{Device, block_of}
-use Rattle.allocator.specs.Ring.{AreDataBlocks}
+use Rattle.block_ring.specs.Ring.{AreDataBlocks}
 use Rattle.bad_blocks.specs.Mode.{is_read_only}
 use Rattle.record_format.specs.declared.record.Record.{Record}
 use Rattle.anchors.specs.declared.anchors.Anchors.{Anchors}

@@ -12,7 +12,7 @@ use Rattle.fs_types.specs.declared.fault.Fault.TheVariants.{NoMemory, PowerCut, 
 use Rattle.plain_trees.proofs.Beneath.{None≢Some, same_Some}
 use Rattle.flash_model.specs.Device.{Device}
 use Rattle.flash_model.specs.declared.geometry.Geometry.{Geometry}
-use Rattle.allocator.specs.Ring.{Ring, data_blocks}
+use Rattle.block_ring.specs.Ring.{Ring, data_blocks}
 use Rattle.node_store.specs.NodePages.{node_of}
 use Rattle.node_store.specs.ReadingLaws.{OnlyReads_nodes}
 use Rattle.block_trees.specs.Bodies.{Blocks}

@@ -8,7 +8,7 @@ use Rattle.fs_types.specs.declared.call.Reply.{Reply}
 use Rattle.fs_types.specs.declared.fault.Fault.{Fault}
 use Rattle.fs_types.specs.declared.fault.Fault.TheVariants.{FlashFull, Overflow}
 use Rattle.flash_model.specs.Device.{Device}
-use Rattle.allocator.specs.Ring.{data_blocks, free_count}
+use Rattle.block_ring.specs.Ring.{data_blocks, free_count}
 use Rattle.working_state.specs.Moments.{Moment, moment}
 use Rattle.working_state.specs.Mounted.{KeepsPages, TellsSpace}
 use Rattle.working_state.specs.Roots.{IsSpace}

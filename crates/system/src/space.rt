@@ -4,7 +4,7 @@ ghost use Rattle.std.specs.FinSet as set;
 ghost use Rattle.history_machine.specs.Machine.{Space, reply_of};
 ghost use Rattle.fs_types.specs.declared.call.Call.{Call};
 ghost use Rattle.fs_types.specs.declared.call.Reply.{Reply};
-ghost use Rattle.allocator.specs.Ring.{data_blocks};
+ghost use Rattle.block_ring.specs.Ring.{data_blocks};
 ghost use Rattle.bad_blocks.specs.Mode as modes;
 ghost use Rattle.working_state.specs.Moments.{moment, machine_at};
 ghost use Rattle.working_state.specs.Mounted.{IsMounted};
@@ -17,8 +17,8 @@ ghost use Rattle.mounting.specs.Records.{working_roots};
 ghost use Rattle.system.specs.Systems.{IsSystem};
 
 use crate::systems::System;
-use allocator::{Marks, count_bad};
 use bad_blocks::{BadBlocks, bad_anchors};
+use block_ring::{Marks, count_bad};
 use flash_model::Flash;
 use fs_types::{ANCHORS, Fault, Reply};
 use mounting::{list_working, marked_on};

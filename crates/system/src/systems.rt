@@ -3,7 +3,7 @@ ghost use Rattle.std.specs.Prelude.{◌≡◌, ◌≢◌, ◌-◌, ◌^◌, true
 ghost use Rattle.fs_types.specs.Requests.{call_of};
 ghost use Rattle.fs_types.specs.declared.call.Call.{Call};
 ghost use Rattle.fs_types.specs.declared.fault.Fault.{Fault};
-ghost use Rattle.allocator.specs.Ring.{AreDataBlocks};
+ghost use Rattle.block_ring.specs.Ring.{AreDataBlocks};
 ghost use Rattle.bad_blocks.specs.Mode.{is_read_only};
 ghost use Rattle.record_format.specs.Payloads.{is_record};
 ghost use Rattle.anchors.specs.Newest.{remembered};

@@ -10,8 +10,8 @@ use Rattle.std.specs.FinSet as set
 use Rattle.std.specs.List.{range_with_len}
 use Rattle.std.specs.Ordering.{nat_cmp}
 use Rattle.std.specs.Prelude.{slice_index, Contains}
-use Rattle.allocator.specs.Ring.{data_blocks}
-use Rattle.allocator.proofs.SetBits.{contains-range}
+use Rattle.block_ring.specs.Ring.{data_blocks}
+use Rattle.block_ring.proofs.SetBits.{contains-range}
 use Rattle.block_trees.specs.Bodies.{Blocks}
 use Rattle.block_trees.specs.Reached.{Reached, IsFirst, IsNamed}
 use Rattle.tree_counts.specs.Counts.{CountsFree, CountsFreed, IsAlone, CountsAlone}

@@ -15,7 +15,7 @@ use Rattle.flash_model.specs.Device.{Device}
 use Rattle.node_store.specs.declared.storage.Storage.{Storage}
 use Rattle.node_store.specs.NodePages.{node_of}
 use Rattle.node_store.specs.Storage as parts
-use Rattle.allocator.specs.Ring.{Ring, free_count}
+use Rattle.block_ring.specs.Ring.{Ring, free_count}
 use Rattle.node_store.specs.declared.store.Store.{Store}
 use Rattle.node_store.specs.Stores.{Follows, Causes}
 use Rattle.block_trees.specs.Reached.{Reached}

@@ -23,8 +23,8 @@ use Rattle.history_machine.proofs.Kept.{machine_law}
 use Rattle.flash_model.specs.Device.{Device}
 use Rattle.flash_model.specs.declared.geometry.Geometry.{Geometry}
 use Rattle.flash_model.specs.Geometry.{IsGeometry, is_page_size}
-use Rattle.allocator.specs.Ring.{Ring, IsDataBlock, is_busy, free_count, IsNext}
-use Rattle.allocator.specs.RingLaws.{distance_earlier}
+use Rattle.block_ring.specs.Ring.{Ring, IsDataBlock, is_busy, free_count, IsNext}
+use Rattle.block_ring.specs.RingLaws.{distance_earlier}
 use Rattle.node_store.specs.declared.storage.Storage.{Storage}
 use Rattle.node_store.specs.NodeLaws.{pages_for-most}
 use Rattle.node_store.specs.NodePages.{node_of}

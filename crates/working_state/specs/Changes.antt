@@ -8,7 +8,7 @@ use Rattle.fs_types.specs.declared.fault.Fault.{Fault}
 use Rattle.fs_types.specs.declared.fault.Fault.TheVariants.{FlashFull, ReadOnly, Overflow}
 use Rattle.flash_model.specs.Device.{Device}
 use Rattle.flash_model.specs.Geometry.{IsGeometry}
-use Rattle.allocator.specs.Ring.{free_count}
+use Rattle.block_ring.specs.Ring.{free_count}
 use Rattle.node_store.specs.declared.storage.Storage.{Storage}
 use Rattle.node_store.specs.Fitting.{Fits}
 use Rattle.node_store.specs.NodePages.{node_of}

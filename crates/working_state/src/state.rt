@@ -5,7 +5,7 @@ ghost use Rattle.history_machine.specs.History.{working_root};
 ghost use Rattle.fs_types.specs.declared.limits.TheConstants.{ANCHORS, MAX_VERSIONS, MIN_VERSIONS};
 ghost use Rattle.fs_types.specs.declared.fault.Fault.{Fault};
 ghost use Rattle.flash_model.specs.Geometry.{IsGeometry};
-ghost use Rattle.allocator.specs.Ring.{IsDataBlock};
+ghost use Rattle.block_ring.specs.Ring.{IsDataBlock};
 ghost use Rattle.node_format.specs.Links.{chain_bytes};
 ghost use Rattle.node_store.specs.Fitting.{Fits};
 ghost use Rattle.node_store.specs.NodePages.{node_of};
@@ -16,8 +16,8 @@ ghost use Rattle.working_state.specs.Fresh.{IsBegun, AsksForRoot, BeginCause, Ro
 ghost use Rattle.working_state.specs.Moments.{moment};
 ghost use Rattle.working_state.specs.Seen.{IsLaterFlash};
 
-use allocator::Ring;
 use bad_blocks::BadBlocks;
+use block_ring::Ring;
 use flash_model::{Flash, Geometry};
 use fs_types::{Fault, Group};
 use history::History;

@@ -1,6 +1,6 @@
 use Rattle.std.proofs.Common.{true, ◌≡◌, ◌∙◌, ◌+◌, Ok, Err, refl, sym, ap, add-one, arith}
 use Rattle.std.proofs.lemmas.Result.{err_from_is_err_and}
-use Rattle.allocator.specs.Ring.{Ring}
+use Rattle.block_ring.specs.Ring.{Ring}
 use Rattle.block_cleaning.specs.Preparing.{preparation}
 use Rattle.block_cleaning.proofs.Preparing.{blocks_prepared, ends_by, erases_none, erases_on, one_more, same_blocks}
 use Rattle.block_cleaning.proofs.preparations.prepare_blocks.Goals as goal

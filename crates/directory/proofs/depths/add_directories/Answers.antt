@@ -1,6 +1,6 @@
 use Rattle.std.proofs.Common.{◌<◌, ◌||◌, ◌&&◌, List, nat_lt, ap, sym, ◌∙◌, arith}
 use Rattle.std.specs.FinSet as set
-use Rattle.allocator.specs.BlockSet.{BlockSet}
+use Rattle.block_ring.specs.BlockSet.{BlockSet}
 use Rattle.node_format.specs.Items.{Item}
 use Rattle.node_format.specs.declared.place.Place.{Place}
 use Rattle.directory.specs.Depths.{names_directory, is_directory_at}

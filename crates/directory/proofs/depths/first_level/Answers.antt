@@ -3,7 +3,7 @@ use Rattle.std.proofs.lemmas.List.{take_more}
 use Rattle.std.specs.FinSet.{FinSet, insert}
 use Rattle.std.specs.Ordering.{nat_cmp}
 use Rattle.std.specs.Prelude.{slice_index}
-use Rattle.allocator.specs.BlockSet.{BlockSet}
+use Rattle.block_ring.specs.BlockSet.{BlockSet}
 use Rattle.directory.specs.Depths.{HasBlocks}
 use Rattle.directory.proofs.Levels.{no_blocks, block_more, block_past}
 use Rattle.directory.proofs.depths.first_level.Goals as goal

@@ -8,7 +8,7 @@ use Rattle.directory.specs.Depths.{IsDeeper}
 use Rattle.std.specs.FinSet as set
 use Rattle.std.specs.Ordering.{nat_cmp}
 use Rattle.std.proofs.lemmas.Bool.{true≢false}
-use Rattle.allocator.specs.BlockSet.{BlockSet}
+use Rattle.block_ring.specs.BlockSet.{BlockSet}
 use Rattle.directory.proofs.depths.is_deeper.Goals as goal
 
 only : (block root : ℕ) → Contains (block ∷ []) root → block ≡ root

@@ -1,6 +1,6 @@
 use Rattle.std.proofs.Common.{◌≡◌, ◌+◌, ℕ, ap, subst, sym, ◌∙◌, arith, ◌-◌, Ok}
 use Rattle.std.specs.FinSet as set
-use Rattle.allocator.specs.BlockSet.{BlockSet}
+use Rattle.block_ring.specs.BlockSet.{BlockSet}
 use Rattle.std.proofs.lemmas.Result.{err_from_is_err_and}
 use Rattle.nodes.specs.Faults.{IsLookFault}
 use Rattle.nodes.specs.Words.{LooksWithin}

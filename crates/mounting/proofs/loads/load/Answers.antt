@@ -2,7 +2,7 @@ use Rattle.std.proofs.Common.{◌≡◌, Err, true, false, refl, subst, ap, ◌�
 use Rattle.std.proofs.lemmas.Result.{err_from_is_err_and}
 use Rattle.std.specs.FinSet as set
 use Rattle.std.specs.Prelude.{◌↔◌}
-use Rattle.allocator.specs.Ring.{Ring}
+use Rattle.block_ring.specs.Ring.{Ring}
 use Rattle.flash_model.specs.declared.geometry.Geometry.{Geometry}
 use Rattle.node_store.specs.NodePages.{node_of}
 use Rattle.block_trees.specs.Reached.{Reached}

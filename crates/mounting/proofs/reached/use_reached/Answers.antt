@@ -1,5 +1,5 @@
 use Rattle.std.proofs.Common.{ap, subst, sym, ◌∙◌}
-use Rattle.allocator.specs.Ring.{Ring}
+use Rattle.block_ring.specs.Ring.{Ring}
 use Rattle.node_store.specs.Fitting.{StillFits}
 use Rattle.node_store.specs.FittingLaws.{still_on}
 use Rattle.node_store.specs.NodePages.{node_of}

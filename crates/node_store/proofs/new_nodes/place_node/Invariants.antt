@@ -1,7 +1,7 @@
 use Rattle.std.proofs.Common.{◌≡◌, ◌<◌}
 use Rattle.std.specs.FinSet as set
 use Rattle.fs_types.specs.declared.limits.TheConstants.{MAX_BAD_BLOCKS}
-use Rattle.allocator.specs.Ring.{free_count}
+use Rattle.block_ring.specs.Ring.{free_count}
 use Rattle.node_store.specs.Fitting.{StillFits, ListsNoneTried}
 use Rattle.node_store.specs.Storage.{Evolved, PassesBad, Pays, Spends}
 use Rattle.node_store.specs.Stores.{storage_on}

@@ -1,7 +1,7 @@
 use Rattle.std.proofs.Common.{◌≡◌, ℕ, ◌+◌, ◌*◌, ◌<◌, ◌≤◌, Err, length, refl, ap, sym, subst, arith}
 use Rattle.std.proofs.lemmas.Result.{err_from_is_err_and}
 use Rattle.flash_model.specs.declared.flash.DevFault.TheVariants.{Failed}
-use Rattle.allocator.specs.Ring.{Ring, IsTaken, free_count}
+use Rattle.block_ring.specs.Ring.{Ring, IsTaken, free_count}
 use Rattle.nodes.specs.PageCounts.{pages_for}
 use Rattle.node_store.specs.Writing.{WritesBlock}
 use Rattle.node_store.specs.Storage.{storage, Evolved, PassesBad, Pays}

@@ -2,7 +2,7 @@ use Rattle.std.proofs.Common.{ℕ, List, get_or, ap, refl, subst, sym, ◌∙◌
 use Rattle.std.proofs.lemmas.List.{take_more}
 use Rattle.std.specs.FinSet as set
 use Rattle.std.specs.Ordering.{nat_cmp}
-use Rattle.allocator.specs.BlockSet.{BlockSet}
+use Rattle.block_ring.specs.BlockSet.{BlockSet}
 use Rattle.reclaim.specs.Passes.{AreNoted}
 use Rattle.reclaim.proofs.KnownPasses.{noted_none, noted_in, noted_past}
 use Rattle.reclaim.proofs.pass.add_blocks.Goals as goal

@@ -1,5 +1,5 @@
 use Rattle.std.proofs.Common.{arith}
-use Rattle.allocator.specs.Ring.{IsDataBlock}
+use Rattle.block_ring.specs.Ring.{IsDataBlock}
 use Rattle.reclaim.proofs.Verifying.{all_more, all_end}
 use Rattle.reclaim.proofs.verification.are_data_blocks.Goals as goal
 

@@ -1,6 +1,6 @@
 use Rattle.std.proofs.Common.{take}
 use Rattle.std.specs.Prelude.{All}
-use Rattle.allocator.specs.Ring.{IsDataBlock}
+use Rattle.block_ring.specs.Ring.{IsDataBlock}
 use Rattle.reclaim.proofs.verification.are_data_blocks.Given as goal
 
 -- the blocks so far are data blocks

@@ -1,5 +1,5 @@
 use Rattle.std.proofs.Common.{[], ◌∷◌, sym, ap, ◌∙◌}
-use Rattle.allocator.specs.Ring.{Ring}
+use Rattle.block_ring.specs.Ring.{Ring}
 use Rattle.flash_model.specs.declared.geometry.Geometry.{Geometry}
 use Rattle.mounting.proofs.Asking.{verifies_none}
 use Rattle.salvages.proofs.looks.is_whole.Goals as goal

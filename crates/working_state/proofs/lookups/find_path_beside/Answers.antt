@@ -9,7 +9,7 @@ use Rattle.working_state.proofs.Looks.{on_devices, store_asks}
 use Rattle.std.specs.Prelude.{IfOk}
 use Rattle.directory.specs.Lookups.{LeadsToDirectories}
 use Rattle.directory.specs.Trails.{IsTrail}
-use Rattle.allocator.specs.Ring.{free_count}
+use Rattle.block_ring.specs.Ring.{free_count}
 use Rattle.bad_blocks.specs.Mode.{is_read_only}
 use Rattle.node_store.specs.declared.storage.Storage.{Storage}
 use Rattle.working_state.specs.Seen.{seen_of}

@@ -1,7 +1,7 @@
 use Rattle.std.proofs.Common.{ap, ◌∙◌, sym}
 use Rattle.std.proofs.lemmas.Bool.{le-ltb}
 use Rattle.std.specs.FinSet as set
-use Rattle.allocator.proofs.SetBits.{is_member, no_member}
+use Rattle.block_ring.proofs.SetBits.{is_member, no_member}
 use Rattle.block_cleaning.proofs.prepared_blocks.PreparedBlocks.contains.Goals as goal
 
 pub returns-then-block-self : goal.returns-then-block-self

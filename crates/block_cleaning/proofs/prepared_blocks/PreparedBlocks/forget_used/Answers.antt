@@ -1,6 +1,6 @@
 use Rattle.std.proofs.Common.{◌≡◌, ℕ, ◌<◌, true, sym, ap, ◌∙◌, subst, arith}
 use Rattle.std.specs.FinSet as set
-use Rattle.allocator.specs.BlockSet.{BlockSet}
+use Rattle.block_ring.specs.BlockSet.{BlockSet}
 use Rattle.block_cleaning.proofs.Removing.{all_removed, none_removed, one_removed}
 use Rattle.block_cleaning.proofs.prepared_blocks.PreparedBlocks.forget_used.Goals as goal
 use Rattle.block_cleaning.proofs.prepared_blocks.PreparedBlocks.forget_used.Goals.{then-is_used, else-is_used}

@@ -1,4 +1,4 @@
-use Rattle.allocator.proofs.SetBits.{seen-set}
+use Rattle.block_ring.proofs.SetBits.{seen-set}
 use Rattle.block_cleaning.proofs.prepared_blocks.PreparedBlocks.insert.Goals as goal
 
 pub returns : goal.returns

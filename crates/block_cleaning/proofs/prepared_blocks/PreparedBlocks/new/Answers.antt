@@ -1,6 +1,6 @@
 use Rattle.std.proofs.Common.{ap, ◌∙◌}
-use Rattle.allocator.specs.Bits.{members_of}
-use Rattle.allocator.proofs.SetBits.{members_of-replicate}
+use Rattle.block_ring.specs.Bits.{members_of}
+use Rattle.block_ring.proofs.SetBits.{members_of-replicate}
 use Rattle.block_cleaning.proofs.prepared_blocks.PreparedBlocks.new.Goals as goal
 
 pub returns-clause-ok : goal.returns-clause-ok

@@ -2,7 +2,7 @@ use Rattle.std.proofs.Common.{ℕ, List, [], Result, Err, refl, ap, subst}
 use Rattle.std.specs.FinSet as set
 use Rattle.flash_model.specs.declared.geometry.Geometry.{Geometry}
 use Rattle.flash_model.specs.Geometry.{block_bytes}
-use Rattle.allocator.specs.Ring.{Ring}
+use Rattle.block_ring.specs.Ring.{Ring}
 use Rattle.std.specs.Prelude.{IfErr, Bool}
 use Rattle.std.proofs.lemmas.Result.{IfErr-weaker}
 use Rattle.fs_types.specs.declared.fault.Fault.{Fault}

@@ -2,7 +2,7 @@ use Rattle.std.proofs.Common.{refl, ap}
 use Rattle.std.specs.FinSet as set
 use Rattle.flash_model.specs.declared.geometry.Geometry.{Geometry}
 use Rattle.flash_model.specs.Geometry.{block_bytes}
-use Rattle.allocator.specs.Ring.{Ring}
+use Rattle.block_ring.specs.Ring.{Ring}
 use Rattle.node_store.specs.ReadingLaws.{OnlyReads_nodes}
 use Rattle.node_store.specs.StoreLaws.{Sound_on}
 use Rattle.node_store.proofs.Examined.{follows_read}

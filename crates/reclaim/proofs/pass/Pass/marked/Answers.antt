@@ -1,7 +1,7 @@
 use Rattle.std.proofs.Common.{ap, subst, sym, ◌∙◌}
 use Rattle.std.specs.Prelude.{Contains}
 use Rattle.std.specs.FinSet as set
-use Rattle.allocator.specs.Ring.{IsDataBlock}
+use Rattle.block_ring.specs.Ring.{IsDataBlock}
 use Rattle.reclaim.specs.Passes.{Pass}
 use Rattle.reclaim.proofs.Marking.{listed_from}
 use Rattle.reclaim.proofs.pass.Pass.marked.Goals as goal

@@ -1,6 +1,6 @@
 use Rattle.std.proofs.Common.{ap, ◌∙◌}
 use Rattle.std.proofs.lemmas.Result.{err_from_is_err_and}
-use Rattle.allocator.specs.BlockSet.{BlockSet}
+use Rattle.block_ring.specs.BlockSet.{BlockSet}
 use Rattle.reclaim.specs.Passes.{Pass}
 use Rattle.reclaim.proofs.Marking.{begun, first_marked, only_memory}
 use Rattle.reclaim.proofs.pass.Pass.start.Goals as goal

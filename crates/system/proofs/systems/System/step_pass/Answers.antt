@@ -1,6 +1,6 @@
 use Rattle.std.proofs.Common.{Some, sym, ap, ◌∙◌}
 use Rattle.std.proofs.lemmas.Result.{err_from_is_err_and}
-use Rattle.allocator.specs.Ring.{Ring}
+use Rattle.block_ring.specs.Ring.{Ring}
 use Rattle.system.specs.declared.systems.System.{System}
 use Rattle.system.proofs.Passing.{taken_up, is_stepped, must_be_data, noted_system, noted_keeps, kept_stays, step_is_on, refused_system, refused_ends, untaken_asks, stepped_asks, goes_ends, goes_system, stepped_stays, all_system, all_stays, all_ends}
 use Rattle.system.proofs.systems.System.step_pass.Goals as goal

@@ -2,7 +2,7 @@ use Rattle.std.proofs.Common.{◌≡◌, ◌↔◌, ℕ, List, ◌++◌, Result,
 use Rattle.std.specs.Prelude.{Contains, IfOk}
 use Rattle.std.specs.FinSet as set
 use Rattle.fs_types.specs.declared.fault.Fault.{Fault}
-use Rattle.allocator.specs.Ring.{IsDataBlock}
+use Rattle.block_ring.specs.Ring.{IsDataBlock}
 use Rattle.reclaim.specs.Passes.{Pass}
 use Rattle.system.proofs.systems.System.take_pass.Goals as goal
 

@@ -1,6 +1,0 @@
-use Rattle.std.proofs.Common.{◌∙◌}
-use Rattle.allocator.proofs.RangeCounts.{count_other_way}
-use Rattle.allocator.proofs.marks.Marks.free_count.Goals as goal
-
-pub returns : goal.returns
-returns c = rw (← c.self.view_is) (c.free_count.ensures ∙ count_other_way c.self.inside.set.members c.args.bad.now c.self.inside.set.blocks)

@@ -1,5 +1,0 @@
-use Rattle.allocator.proofs.RingOrder.{IsNote-empty}
-use Rattle.allocator.proofs.ring.Ring.watch.Goals as goal
-
-pub invariant_of-self : goal.invariant_of-self
-invariant_of-self c = rw c.clear.ensures (c.self.invariant.0, IsNote-empty _ _ c.self.invariant.1.same_blocks)

@@ -6,10 +6,10 @@ mod anchors;
 mod best;
 mod commit;
 mod draft;
-mod laws;
+mod laws_of_anchors;
 mod newest;
 mod next_anchor;
 mod scan;
 
 pub use anchors::Anchors;
-pub use laws::{commit_laws, newest_laws, writing_laws};
+pub use laws_of_anchors::{commit_laws, newest_laws, writing_laws};

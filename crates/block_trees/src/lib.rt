@@ -3,8 +3,8 @@
 
 ghost use Rattle.std.specs.Prelude.{◌≡◌};
 
-mod laws;
+mod laws_of_block_trees;
 mod maps;
 
-pub use laws::{chain_laws, edit_laws, frame_laws, move_laws, reaching_laws};
+pub use laws_of_block_trees::{chain_laws, edit_laws, frame_laws, move_laws, reaching_laws};
 pub use maps::map_laws;

@@ -13,7 +13,7 @@ ghost use Rattle.fs_types.specs.declared.limits.TheConstants.{MAX_FILE_BYTES};
 
 use crate::body::Body;
 use crate::change::Change;
-use crate::new_nodes::write_node;
+use crate::changed_nodes::write_node;
 use crate::start::{Start, find_front, start_at};
 use fs_types::Fault;
 use node_format::BODY_HEADER;

@@ -4,10 +4,10 @@
 
 mod body;
 mod change;
+mod changed_nodes;
 mod changes;
 mod comparisons;
 mod known_node;
-mod new_nodes;
 mod old_nodes;
 mod range_reads;
 mod start;

@@ -9,11 +9,11 @@
 mod decoding;
 mod encoding;
 mod image_fault;
-mod laws;
+mod laws_of_images;
 
 pub use decoding::decode;
 pub use encoding::encode;
 pub use image_fault::ImageFault;
-pub use laws::{
+pub use laws_of_images::{
     each_flash_has_an_image, faults_are_told_apart, images_are_short, images_are_told_apart,
 };

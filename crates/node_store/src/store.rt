@@ -1,7 +1,7 @@
 //! Nodes in the data blocks of a flash.
+use crate::added_nodes::{write_node, write_owned_node};
 use crate::cached_reads::read_first;
 use crate::fronts::bring_front;
-use crate::new_nodes::{write_node, write_owned_node};
 use crate::node_parts::bring_part;
 use crate::storage::Storage;
 use counts::Count;

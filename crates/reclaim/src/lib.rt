@@ -4,7 +4,7 @@
 mod edge;
 mod facts;
 mod fronts;
-mod laws;
+mod laws_of_passes;
 mod levels;
 mod looks;
 mod named;
@@ -14,6 +14,6 @@ mod table;
 mod tops;
 mod verification;
 
-pub use laws::{frame_law, pass_laws, sound_laws};
+pub use laws_of_passes::{frame_law, pass_laws, sound_laws};
 pub use pass::Pass;
 pub use verification::verify;

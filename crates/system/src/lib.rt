@@ -7,7 +7,7 @@ mod cleaning;
 mod differing_trees;
 mod forgotten;
 mod history_space;
-mod laws;
+mod laws_of_space;
 mod mounts;
 mod passes;
 mod preparing;
@@ -17,7 +17,7 @@ mod systems;
 mod tree_sizes;
 mod version_space;
 
-pub use laws::space_laws;
+pub use laws_of_space::space_laws;
 pub use mounts::{mount, mount_with};
 pub use systems::System;
 pub use version_space::{HistorySpace, VersionSpace};

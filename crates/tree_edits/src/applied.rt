@@ -6,9 +6,9 @@ ghost use Rattle.nodes.specs.Words.{IsHeld, IsRoot};
 ghost use Rattle.tree_edits.specs.Edits.{IsEditable, ReadsFew, effect, source, edit_need};
 ghost use Rattle.tree_edits.specs.Roots.{IsApplied, tree_of};
 
+use crate::directory_files::write_files;
 use crate::edit::Edit;
 use crate::files::{overwrite, put_empty, resize, write_file};
-use crate::many_files::write_files;
 use directory::{move_entry, put_directory, remove_entry};
 use fs_types::Fault;
 use nodes::Nodes;

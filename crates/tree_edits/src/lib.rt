@@ -2,9 +2,9 @@
 #![tactic(auto)]
 
 mod applied;
+mod directory_files;
 mod edit;
 mod files;
-mod many_files;
 
 pub use applied::apply;
 pub use edit::Edit;

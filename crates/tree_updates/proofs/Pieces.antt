@@ -25,7 +25,7 @@ use Rattle.plain_trees.specs.Files.{file_put}
 use Rattle.history_machine.proofs.Accepted.{open-accepted}
 use Rattle.tree_updates.specs.Laws.{EachAccepted}
 use Rattle.tree_updates.specs.Updates.{piece, writing}
-use Rattle.tree_updates.specs.declared.laws.TheConstants.{PIECE_BYTES}
+use Rattle.tree_updates.specs.declared.laws_of_updates.TheConstants.{PIECE_BYTES}
 use Rattle.tree_updates.proofs.Assigned.{set_at}
 use Rattle.tree_updates.proofs.Leading.{group_of, within, opened_anew, opened_with, Leads, leads-refl, leads-trans, after-append, accepted-parts, never, set_there, maybe_made, undue_made, write_leads}
 

@@ -1,7 +1,7 @@
 //! The calls that give a file its bytes, whole or piece by piece.
 ghost use Rattle.std.specs.Prelude.{◌≡◌, ◌++◌, ◌∷◌, [], ◌*◌, ◌≤◌, OnOk, length, take, drop};
 ghost use Rattle.tree_updates.specs.Updates.{writing, pieces_of, piece};
-ghost use Rattle.tree_updates.specs.declared.laws.TheConstants.{PIECE_BYTES};
+ghost use Rattle.tree_updates.specs.declared.laws_of_updates.TheConstants.{PIECE_BYTES};
 
 use bitflags::Flags;
 use fs_types::{Bytes, Call, OpenFlags, Path};

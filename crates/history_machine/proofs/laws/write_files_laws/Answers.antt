@@ -1,5 +1,0 @@
-use Rattle.history_machine.proofs.ManyFiles.{write_files_law}
-use Rattle.history_machine.proofs.laws.write_files_laws.Goals as goal
-
-pub returns : goal.returns
-returns c = write_files_law

@@ -10,7 +10,7 @@ use Rattle.flash_model.specs.Reading.{OnlyReads}
 use Rattle.flash_model.specs.declared.geometry.Geometry.{Geometry}
 use Rattle.history_machine.specs.History.{Past}
 use Rattle.anchors.specs.declared.best.Found.{Found}
-use Rattle.block_cleaning.specs.Cleaning.{IsBlank}
+use Rattle.system.specs.CleaningRounds.{IsBlank}
 use Rattle.block_usage.specs.Kinds.{HasNewest, IsCheckpoint, IsOther, IsPresent, IsSound}
 use Rattle.block_usage.specs.Maps.{IsKnownKind, reached_kind}
 

@@ -9,7 +9,7 @@ use Rattle.anchors.specs.declared.best.Found.{Found}
 use Rattle.anchors.specs.Parts.{parts_on, newest_at}
 use Rattle.node_store.specs.NodePages.{node_of}
 use Rattle.block_trees.specs.Reached.{Reached}
-use Rattle.block_cleaning.specs.Cleaning.{IsBlank}
+use Rattle.system.specs.CleaningRounds.{IsBlank}
 use Rattle.block_usage.specs.declared.block_kind.BlockKind.{BlockKind}
 
 -- the roots of the versions, of the present one, of the others, and of the checkpoints

@@ -4,7 +4,7 @@ ghost use Rattle.flash_model.specs.Device.{erased};
 ghost use Rattle.flash_model.specs.Geometry.{IsGeometry, page_count};
 ghost use Rattle.flash_model.specs.Reading.{OnlyReads};
 ghost use Rattle.anchors.specs.Reading.{PageReadCause};
-ghost use Rattle.block_cleaning.specs.Cleaning.{IsBlank};
+ghost use Rattle.system.specs.CleaningRounds.{IsBlank};
 
 use flash_model::{DevFault, Flash, PageState};
 use fs_types::Fault;

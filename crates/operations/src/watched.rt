@@ -3,7 +3,7 @@ ghost use Rattle.std.specs.Prelude.{◌≡◌, ◌<◌, ◌↔◌, true, false};
 ghost use Rattle.flash_model.specs.Device.{erased};
 ghost use Rattle.flash_model.specs.Geometry.{page_count};
 ghost use Rattle.flash_simulation.specs.Simulation.{device_of};
-ghost use Rattle.block_cleaning.specs.Cleaning.{IsBlank};
+ghost use Rattle.system.specs.CleaningRounds.{IsBlank};
 
 use flash_model::{Counters, DevFault, Flash, Geometry, PageState, PageView};
 use flash_simulation::SimFlash;

@@ -26,8 +26,8 @@ use Rattle.block_trees.specs.Laws.{FrameLaw}
 use Rattle.block_trees.specs.Reached.{Reached}
 use Rattle.block_trees.specs.Trees.{IsRoot, root_tree}
 use Rattle.block_trees.proofs.Frames.{frame_law}
-use Rattle.block_cleaning.specs.Cleaning.{CleanEnds, CleansBlocks, ErasesFree, is_free}
-use Rattle.block_cleaning.proofs.Preparing.{looked_frees}
+use Rattle.system.specs.CleaningRounds.{CleanEnds, CleansBlocks, ErasesFree, is_free}
+use Rattle.system.proofs.PreparingLemmas.{looked_frees}
 use Rattle.reclaim.specs.Passes.{Pass}
 use Rattle.reclaim.specs.Verified.{AreRoots}
 use Rattle.reclaim.proofs.Marking.{reached_back}

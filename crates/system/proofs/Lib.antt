@@ -26,3 +26,8 @@ pub mod ToldBefore
 pub mod Cleaned
 pub mod NextAnchor
 pub mod Prepared
+pub mod PreparedBits
+pub mod ErasedBlocks
+pub mod LooksAtBlanks
+pub mod PreparingLemmas
+pub mod RemovedBits

@@ -15,8 +15,8 @@ use Rattle.node_store.specs.NodePages.{node_of}
 use Rattle.node_store.specs.declared.storage.Storage.{Storage}
 use Rattle.block_trees.specs.Bodies.{Blocks}
 use Rattle.block_trees.specs.Reached.{Reached}
-use Rattle.block_cleaning.specs.Cleaning.{is_free}
-use Rattle.block_cleaning.specs.Preparing.{Preparation, PreparesBlocks, next_unprepared, preparation}
+use Rattle.system.specs.CleaningRounds.{is_free}
+use Rattle.system.specs.Preparations.{Preparation, PreparesBlocks, next_unprepared, preparation}
 use Rattle.record_format.specs.declared.record.Record.{Record}
 use Rattle.anchors.specs.declared.anchors.Anchors.{Anchors}
 use Rattle.anchors.specs.Preparing.{IsPrepared, IsWanted, PreparesAnchor, erase_answer, left_of}

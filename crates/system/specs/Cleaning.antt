@@ -9,7 +9,7 @@ use Rattle.bad_blocks.specs.Mode.{is_read_only}
 use Rattle.anchors.specs.Keeping.{KeepsNewest}
 use Rattle.anchors.specs.Newest.{remembered}
 use Rattle.node_store.specs.Storage.{DeviceGoesOn}
-use Rattle.block_cleaning.specs.Cleaning.{CleansBlocks, is_free}
+use Rattle.system.specs.CleaningRounds.{CleansBlocks, is_free}
 use Rattle.working_state.specs.Mounted.{KeepsPages}
 use Rattle.working_state.specs.Seen.{machine_on}
 use Rattle.working_state.specs.Steps.{is_cut_answer}

@@ -13,3 +13,5 @@ pub mod HistorySpace
 pub mod TreeSizes
 pub mod VersionSpace
 pub mod SpaceLaws
+pub mod CleaningRounds
+pub mod Preparations

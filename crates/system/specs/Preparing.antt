@@ -4,7 +4,7 @@ use Rattle.fs_types.specs.declared.fault.Fault.{Fault}
 use Rattle.fs_types.specs.declared.fault.Fault.TheVariants.{ReadOnly, PowerCut}
 use Rattle.flash_model.specs.Device.{Device}
 use Rattle.bad_blocks.specs.Mode.{is_read_only}
-use Rattle.block_cleaning.specs.Preparing.{Preparation, PreparesBlocks, next_unprepared, preparation}
+use Rattle.system.specs.Preparations.{Preparation, PreparesBlocks, next_unprepared, preparation}
 use Rattle.anchors.specs.Preparing.{IsPrepared, IsWanted, PreparesAnchor}
 use Rattle.working_state.specs.Steps.{is_cut_answer}
 use Rattle.system.specs.Cleaning.{IsUndisturbed}

@@ -3,9 +3,9 @@ ghost use Rattle.std.specs.Prelude.{◌≡◌, true, false};
 ghost use Rattle.system.specs.Cleaning.{Cleans, IsUndisturbed, LeavesAnchors, StepCleans};
 ghost use Rattle.system.specs.Systems.{IsSystem};
 
+use crate::cleaning_rounds::clean_blocks;
 use crate::systems::System;
 use bad_blocks::is_read_only;
-use block_cleaning::clean_blocks;
 use flash_model::Flash;
 use fs_types::Fault;
 

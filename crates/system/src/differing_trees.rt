@@ -5,11 +5,11 @@ ghost use Rattle.system.specs.HistorySpace.{Looks};
 ghost use Rattle.system.specs.Systems.{IsSystem};
 ghost use Rattle.system.specs.DifferingTrees.{FindsDiffering, TellsDiffering};
 
+use crate::stored_differences::differing_paths_on;
 use crate::systems::System;
 use flash_model::Flash;
 use fs_types::{Fault, Path, Sequence, View};
 use std::alloc::Global;
-use stored_differences::differing_paths_on;
 
 impl System {
     /// The paths of the tree of a view at which the root of another one leads elsewhere: to nothing, to what

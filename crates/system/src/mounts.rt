@@ -8,9 +8,9 @@ ghost use Rattle.system.specs.Mounts.{AsksToMount, AsksUntilRefused};
 ghost use Rattle.system.specs.Mounts.{IsMountOf, MountCause};
 ghost use Rattle.system.specs.Systems.{IsSystem};
 
+use crate::prepared_blocks::PreparedBlocks;
 use crate::systems::System;
 use anchors::Anchors;
-use block_cleaning::PreparedBlocks;
 use flash_model::Flash;
 use fs_types::{Fault, MOUNTED_NODES};
 use mounting::load;

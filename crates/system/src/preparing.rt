@@ -5,9 +5,9 @@ ghost use Rattle.system.specs.Cleaning.{IsUndisturbed};
 ghost use Rattle.system.specs.Preparing.{PreparesAhead, PreparesBlocksOn, PreparesItsAnchor, StepPrepares};
 ghost use Rattle.system.specs.Systems.{IsSystem};
 
+use crate::preparations::prepare_blocks;
 use crate::systems::System;
 use bad_blocks::is_read_only;
-use block_cleaning::prepare_blocks;
 use flash_model::Flash;
 use fs_types::Fault;
 

@@ -14,9 +14,9 @@ ghost use Rattle.system.specs.Systems.{IsSystem};
 ghost use Rattle.system.specs.Commits.{Saves, SaveCause, LacksSequence, CommitRefuses, TriesOnce};
 ghost use Rattle.system.specs.Steps.{SystemStep};
 
+use crate::prepared_blocks::PreparedBlocks;
 use anchors::Anchors;
 use bad_blocks::is_read_only;
-use block_cleaning::PreparedBlocks;
 use flash_model::{Flash, Geometry};
 use fs_types::{Fault, Reply, Request};
 use mounting::{list_roots, record_of};

@@ -2,7 +2,7 @@ use Rattle.std.proofs.Common.{ℕ, true, false, Option, Some, None, Ok, Err, ref
 use Rattle.std.proofs.lemmas.Result.{err_from_is_err_and}
 use Rattle.std.specs.Prelude.{max}
 use Rattle.fs_types.specs.declared.limits.TheConstants.{ANCHORS}
-use Rattle.block_cleaning.specs.Cleaning.{CleansBlocks}
+use Rattle.system.specs.CleaningRounds.{CleansBlocks}
 use Rattle.system.proofs.Cleaned.{round_cleans, round_leaves, round_system, round_undisturbed}
 use Rattle.system.proofs.systems.System.clean_on.Goals as goal
 

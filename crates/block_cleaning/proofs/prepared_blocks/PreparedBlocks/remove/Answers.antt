@@ -1,5 +1,0 @@
-use Rattle.block_cleaning.proofs.Bits.{seen-cleared}
-use Rattle.block_cleaning.proofs.prepared_blocks.PreparedBlocks.remove.Goals as goal
-
-pub returns : goal.returns
-returns c = seen-cleared _ _ _ _ _ _ c.self.view_is c.self.invariant c.self.inside.words.ok.0 c.requires c.index_mut.ensures.value

@@ -9,7 +9,7 @@ use Rattle.history_machine.specs.History.{changed, view_refusal}
 use Rattle.history_machine.specs.Machine.{Machine, IsMachine, mounted, present_tree, view_tree, working_tree}
 use Rattle.history_machine.proofs.Steps.{tree-changed}
 use Rattle.history_machine.proofs.Versions.{checkpoints-changed}
-use Rattle.tree_updates.specs.Laws.{Brings}
+use Rattle.tree_differences.specs.UpdateLaws.{Brings}
 use Rattle.history_copies.specs.Laws.{bringing, changes_or}
 use Rattle.history_copies.proofs.Brought.{bring_law}
 use Rattle.inquiries.specs.Folders.{IsSmall}

@@ -14,8 +14,8 @@ use Rattle.mounting.specs.Saved.{saved_trees}
 use Rattle.working_state.specs.Seen.{shown_on}
 use Rattle.working_state.specs.Steps.{replied, empty}
 use Rattle.system.specs.Steps.{TriesTwice}
-use Rattle.tree_updates.specs.Laws.{EachAccepted}
-use Rattle.tree_updates.proofs.Leading.{after-append}
+use Rattle.tree_differences.specs.UpdateLaws.{EachAccepted}
+use Rattle.tree_differences.proofs.Leading.{after-append}
 use Rattle.undofs.proofs.RunLaws.{refused_keeps}
 use Rattle.undofs.specs.Systems.{StepsBetween}
 use Rattle.undofs.specs.declared.fs.Fs.{Fs}

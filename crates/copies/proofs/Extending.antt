@@ -28,9 +28,9 @@ use Rattle.mounting.specs.Saved.{saved_trees}
 use Rattle.system.specs.Mounts.{IsMountOf}
 use Rattle.system.specs.Systems.{IsSystem}
 use Rattle.system.specs.declared.systems.System.{System}
-use Rattle.tree_updates.specs.Laws.{Brings}
-use Rattle.tree_updates.specs.Updates.{edit_changes}
-use Rattle.tree_updates.proofs.Edited.{edit_law}
+use Rattle.tree_differences.specs.UpdateLaws.{Brings}
+use Rattle.tree_differences.specs.Updates.{edit_changes}
+use Rattle.tree_differences.proofs.Edited.{edit_law}
 use Rattle.undofs.specs.Runs.{Mounts}
 use Rattle.undofs.specs.Sessions.{world}
 use Rattle.undofs.specs.declared.fs.Fs.{Fs}

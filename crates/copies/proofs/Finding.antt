@@ -13,7 +13,7 @@ use Rattle.plain_trees.specs.Trees.{Tree}
 use Rattle.plain_trees.proofs.Beneath.{beneath-own}
 use Rattle.inquiries.specs.Items.{IsItemOf}
 use Rattle.inquiries.specs.declared.items.Item.{Item}
-use Rattle.tree_updates.specs.Laws.{IsMoved}
+use Rattle.tree_differences.specs.UpdateLaws.{IsMoved}
 use Rattle.updates.specs.Changes.{paths_in}
 use Rattle.copies.specs.Found.{AreTops, FindsMoves, GoesAlone, IsCovered, NoneBelow, goes_at, is_below_last, look_at, looks_of, with_top}
 use Rattle.copies.specs.Pairs.{IsPair, Pairs}

@@ -29,10 +29,10 @@ use Rattle.inquiries.specs.Pruned.{IsPruned}
 use Rattle.inquiries.specs.declared.items.Item.{Item}
 use Rattle.inquiries.proofs.DifferenceLemmas.{items_there}
 use Rattle.inquiries.proofs.PrunedLemmas.{items_listed, kept_items, pruned_there}
-use Rattle.tree_updates.specs.Laws.{Brings, Covers, IsMoved, StillCovers, moved_by, renames}
-use Rattle.tree_updates.specs.Updates.{edit_paths, paths_below, paths_of}
-use Rattle.tree_updates.proofs.Listed.{below_listed, contains_first, contains_later, listed}
-use Rattle.tree_updates.proofs.Moved.{moved_brings, renames_law}
+use Rattle.tree_differences.specs.UpdateLaws.{Brings, Covers, IsMoved, StillCovers, moved_by, renames}
+use Rattle.tree_differences.specs.Updates.{edit_paths, paths_below, paths_of}
+use Rattle.tree_differences.proofs.Listed.{below_listed, contains_first, contains_later, listed}
+use Rattle.tree_differences.proofs.Moved.{moved_brings, renames_law}
 use Rattle.undofs.specs.declared.fs.Fs.{Fs}
 use Rattle.updates.specs.Asked.{MeetsEither}
 use Rattle.updates.specs.Changes.{paths_in}

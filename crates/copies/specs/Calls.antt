@@ -12,7 +12,7 @@ use Rattle.inquiries.specs.Readings.{shown}
 use Rattle.mounting.specs.Saved.{saved_trees}
 use Rattle.system.specs.Steps.{SystemStep}
 use Rattle.system.specs.declared.systems.System.{System}
-use Rattle.tree_updates.specs.Laws.{EachAccepted}
+use Rattle.tree_differences.specs.UpdateLaws.{EachAccepted}
 use Rattle.undofs.specs.declared.fs.Fs.{Fs}
 use Rattle.working_state.specs.Seen.{machine_on}
 

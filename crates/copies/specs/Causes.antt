@@ -16,7 +16,7 @@ use Rattle.system.specs.declared.systems.System.{System}
 use Rattle.undofs.specs.Refusals.{RefusesMount}
 use Rattle.working_state.specs.Seen.{machine_on}
 use Rattle.history_copies.specs.Laws.{bringing}
-use Rattle.tree_updates.specs.Laws.{Brings}
+use Rattle.tree_differences.specs.UpdateLaws.{Brings}
 use Rattle.copies.specs.Calls.{Stops, StopsMoving}
 use Rattle.copies.specs.declared.uncopied.Uncopied.{Uncopied}
 

@@ -5,8 +5,8 @@ use Rattle.fs_types.specs.Names.{Path}
 use Rattle.plain_trees.specs.Contents.{begins}
 use Rattle.plain_trees.specs.Trees.{Tree}
 use Rattle.inquiries.specs.declared.items.Item.{Item}
-use Rattle.tree_updates.specs.Laws.{IsMoved}
-use Rattle.tree_updates.specs.Updates.{goes}
+use Rattle.tree_differences.specs.UpdateLaws.{IsMoved}
+use Rattle.tree_differences.specs.Updates.{goes}
 use Rattle.updates.specs.Changes.{paths_in}
 use Rattle.copies.specs.Shapes.{shape_at}
 use Rattle.copies.specs.declared.pairs.Look.{Look}

@@ -11,7 +11,7 @@ use Rattle.inquiries.specs.Items.{item_at, items_below}
 use Rattle.inquiries.specs.declared.items.Item.{Item}
 use Rattle.history_copies.specs.Laws.{changes_or}
 use Rattle.history_machine.specs.Machine.{Machine}
-use Rattle.tree_updates.specs.Laws.{renames}
+use Rattle.tree_differences.specs.UpdateLaws.{renames}
 use Rattle.copies.specs.Calls.{Does, WasRefused}
 
 -- the item of a path, where something stands there

@@ -7,7 +7,7 @@ ghost use Rattle.history_machine.specs.History.{Past, changed};
 ghost use Rattle.history_machine.specs.Machine.{mounted, present_tree, working_tree};
 ghost use Rattle.inquiries.specs.Readings.{shown, IsUnchanged};
 ghost use Rattle.mounting.specs.Saved.{saved_trees};
-ghost use Rattle.tree_updates.specs.Laws.{Brings};
+ghost use Rattle.tree_differences.specs.UpdateLaws.{Brings};
 ghost use Rattle.undofs.specs.Systems.{flash_name};
 ghost use Rattle.copies.specs.Added.{AddCause, HasOneMore, IsAtNewest, NotAdded, NotAddedAfter, NotAddedTo, StopsMaking};
 ghost use Rattle.copies.specs.Calls.{IsSynced, StopsMoving};

@@ -5,7 +5,7 @@ ghost use Rattle.history_machine.specs.History.{fresh};
 ghost use Rattle.history_machine.specs.Machine.{mounted};
 ghost use Rattle.inquiries.specs.Readings.{shown};
 ghost use Rattle.mounting.specs.Formats.{IsFormatted};
-ghost use Rattle.tree_updates.specs.Laws.{Brings};
+ghost use Rattle.tree_differences.specs.UpdateLaws.{Brings};
 ghost use Rattle.undofs.specs.Systems.{flash_name};
 ghost use Rattle.copies.specs.Added.{AloneCause, HoldsAlone, StopsMaking};
 ghost use Rattle.copies.specs.Calls.{IsSynced};

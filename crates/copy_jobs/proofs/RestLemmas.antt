@@ -17,7 +17,7 @@ use Rattle.history_machine.specs.Machine.{mounted, present_tree}
 use Rattle.node_store.specs.NodePages.{node_of}
 use Rattle.record_format.specs.declared.record.Record.{Record}
 use Rattle.mounting.specs.Saved.{saved_trees}
-use Rattle.tree_updates.specs.Laws.{Brings}
+use Rattle.tree_differences.specs.UpdateLaws.{Brings}
 use Rattle.salvages.specs.Remade.{IsRestAt, IsRestOf}
 use Rattle.salvages.specs.Told.{rest_root}
 use Rattle.salvages.specs.Salvages.{IsSalvageOf, SalvageCause}

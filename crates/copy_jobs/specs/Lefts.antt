@@ -13,7 +13,7 @@ use Rattle.node_store.specs.NodePages.{node_of}
 use Rattle.record_format.specs.declared.record.Record.{Record}
 use Rattle.anchors.specs.Newest.{committed_on}
 use Rattle.mounting.specs.Records.{knows_plain_only}
-use Rattle.tree_updates.specs.Laws.{Brings}
+use Rattle.tree_differences.specs.UpdateLaws.{Brings}
 use Rattle.known_nodes.specs.Rests.{rest_of}
 use Rattle.salvages.specs.Told.{rest_root}
 use Rattle.salvages.specs.Wholes.{IsWhole}

@@ -10,8 +10,8 @@ use Rattle.plain_trees.proofs.Edits.{same_tree, get-put, get-removed}
 use Rattle.history_machine.specs.History.{Past, changed}
 use Rattle.history_machine.specs.Machine.{Machine, IsMachine, machine_of, mounted, present_tree, refusal, next, after, working_tree}
 use Rattle.history_machine.proofs.Accepted.{mkdir-accepted}
-use Rattle.tree_updates.specs.Laws.{Brings, EachAccepted, grouped}
-use Rattle.tree_updates.proofs.Leading.{accepted-parts, after-append}
+use Rattle.tree_differences.specs.UpdateLaws.{Brings, EachAccepted, grouped}
+use Rattle.tree_differences.proofs.Leading.{accepted-parts, after-append}
 use Rattle.history_copies.specs.Laws.{BringLaw}
 
 module _ (h : Past Tree) (is : IsMachine (mounted h)) where

@@ -5,7 +5,7 @@ use Rattle.fs_types.specs.declared.call.Call.{Call}
 use Rattle.plain_trees.specs.Trees.{Tree, bare}
 use Rattle.history_machine.specs.History.{Past, IsLawful, fresh, changed, forgotten, with_checkpoint}
 use Rattle.history_machine.specs.Machine.{IsMachine, mounted, present_tree, after}
-use Rattle.tree_updates.specs.Laws.{Brings, EachAccepted}
+use Rattle.tree_differences.specs.UpdateLaws.{Brings, EachAccepted}
 use Rattle.history_copies.specs.Copies.{roots_in}
 
 -- where nothing changes, a directory is made and removed

@@ -20,7 +20,7 @@ use Rattle.history_machine.specs.Machine.{Machine, IsMachine, refusal, stat_of, 
 use Rattle.node_store.specs.NodePages.{node_of}
 use Rattle.plain_trees.specs.Contents.{Entry}
 use Rattle.plain_trees.specs.Trees.{Tree, children}
-use Rattle.tree_updates.specs.Updates.{paths_below, paths_of}
+use Rattle.tree_differences.specs.Updates.{paths_below, paths_of}
 use Rattle.tree_differences.specs.Differing.{differs_at}
 use Rattle.tree_differences.proofs.Below.{same_untold}
 use Rattle.working_state.specs.Moments.{moment}

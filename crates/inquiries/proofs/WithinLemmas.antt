@@ -17,8 +17,8 @@ use Rattle.fs_types.specs.declared.limits.TheConstants.{MAX_NAMES}
 use Rattle.fs_types.proofs.Orders.{same_name-is, same_name-own}
 use Rattle.plain_trees.specs.Trees.{Tree, children, IsFileTree}
 use Rattle.history_machine.specs.Machine.{Machine, view_tree}
-use Rattle.tree_updates.specs.Updates.{paths_below}
-use Rattle.tree_updates.proofs.Listed.{below_listed}
+use Rattle.tree_differences.specs.Updates.{paths_below}
+use Rattle.tree_differences.proofs.Listed.{below_listed}
 use Rattle.inquiries.specs.Differences.{difference_below, item_beside, line_beside, lines_below}
 use Rattle.inquiries.specs.Items.{item_at, items_below, items_of, IsItemOf}
 use Rattle.inquiries.specs.PathHistories.{is_filled}

@@ -19,9 +19,9 @@ use Rattle.node_format.specs.declared.place.Place.{Place}
 use Rattle.node_format.specs.declared.place.Place.TheVariants.{Dir}
 use Rattle.block_trees.specs.Bodies.{Blocks}
 use Rattle.block_trees.specs.Chains.{link_of}
-use Rattle.tree_updates.specs.Laws.{Brings, EachAccepted, due_after, grouped}
-use Rattle.tree_updates.proofs.Assigned.{assigned, all_assigned, all_have, all_miss}
-use Rattle.tree_updates.proofs.Leading.{within, Leads, leads-refl, leads-trans, accepted-parts, after-append, mkdir_leads, write_leads}
+use Rattle.tree_differences.specs.UpdateLaws.{Brings, EachAccepted, due_after, grouped}
+use Rattle.tree_differences.proofs.Assigned.{assigned, all_assigned, all_have, all_miss}
+use Rattle.tree_differences.proofs.Leading.{within, Leads, leads-refl, leads-trans, accepted-parts, after-append, mkdir_leads, write_leads}
 use Rattle.salvages.specs.Lefts.{left, left_of, made_at, made_of, rest_calls}
 use Rattle.salvages.specs.Remade.{Makes}
 use Rattle.known_nodes.specs.Rests.{entry_left, leads_left, rest_in}

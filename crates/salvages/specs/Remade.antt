@@ -10,7 +10,7 @@ use Rattle.node_store.specs.NodePages.{node_of}
 use Rattle.record_format.specs.declared.record.Record.{Record}
 use Rattle.anchors.specs.Newest.{committed_on}
 use Rattle.mounting.specs.Records.{knows_plain_only}
-use Rattle.tree_updates.specs.Laws.{Brings}
+use Rattle.tree_differences.specs.UpdateLaws.{Brings}
 use Rattle.working_state.specs.Seen.{capacity_of}
 use Rattle.salvages.specs.Lefts.{rest_bytes}
 use Rattle.salvages.specs.Losses.{lost_of, cost_of}

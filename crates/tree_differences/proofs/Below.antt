@@ -17,7 +17,7 @@ use Rattle.block_trees.proofs.Chained.{entry_named}
 use Rattle.block_trees.proofs.RootMaps.{leads-append, map_law}
 use Rattle.plain_trees.specs.Contents.{Entry}
 use Rattle.plain_trees.specs.Trees.{Tree}
-use Rattle.tree_updates.specs.Updates.{paths_below}
+use Rattle.tree_differences.specs.Updates.{paths_below}
 use Rattle.tree_differences.specs.Differing.{is_alike, differs_at, differing_paths, differing_below, child_at, told, IsReadable}
 use Rattle.tree_differences.proofs.Lists.{flat_same, flat_none, filter_flat}
 

@@ -2,3 +2,14 @@ pub mod Lists
 pub mod Below
 pub mod Named
 pub mod Walks
+pub mod Assigned
+pub mod Edited
+pub mod Editing
+pub mod Joined
+pub mod Leading
+pub mod Listed
+pub mod Moved
+pub mod Patched
+pub mod Patching
+pub mod Pieces
+pub mod Updated

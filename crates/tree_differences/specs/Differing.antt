@@ -9,7 +9,7 @@ use Rattle.block_trees.specs.Bodies.{Blocks}
 use Rattle.block_trees.specs.Trees.{items_in, leads}
 use Rattle.directory.specs.Places.{Begins}
 use Rattle.plain_trees.specs.Trees.{Tree}
-use Rattle.tree_updates.specs.Updates.{paths_of}
+use Rattle.tree_differences.specs.Updates.{paths_of}
 
 -- nothing is told of two directories, since what differs below them has paths of its own, and of one file
 abbrev pub is_alike : Option Place → Option Place → Bool

@@ -1,1 +1,3 @@
 pub mod Differing
+pub mod UpdateLaws
+pub mod Updates

@@ -19,7 +19,7 @@ use Rattle.inquiries.specs.Items.{IsItemOf, item_at, items_below, items_of}
 use Rattle.inquiries.specs.declared.counterpart.Counterpart.{Counterpart}
 use Rattle.inquiries.specs.declared.items.Item.{Item}
 use Rattle.inquiries.proofs.DifferenceLemmas.{items_there}
-use Rattle.tree_updates.specs.Updates.{adapting_at, edit_paths, goes, removal, removal_at, making, paths_below, paths_of}
+use Rattle.tree_differences.specs.Updates.{adapting_at, edit_paths, goes, removal, removal_at, making, paths_below, paths_of}
 use Rattle.updates.specs.Changes.{changed_file, changes_by, made_by, making_of, paths_in, removal_of}
 use Rattle.updates.specs.Lines.{PathsLaw}
 use Rattle.updates.specs.declared.manner.Manner.{Manner}

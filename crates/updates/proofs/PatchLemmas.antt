@@ -3,7 +3,7 @@ use Rattle.std.proofs.Common.{◌≡◌, ◌≢◌, ◌∙◌, ◌+◌, ◌<◌,
 use Rattle.std.proofs.lemmas.Bool.{eq-eqb, ne_eqb}
 use Rattle.std.proofs.lemmas.List.{take_more, length-take-le}
 use Rattle.std.specs.Prelude.{◌==◌}
-use Rattle.tree_updates.specs.Updates.{changed_end, end_before}
+use Rattle.tree_differences.specs.Updates.{changed_end, end_before}
 
 -- one byte more of each
 end_more : (xs ys : List ℕ) (x y : ℕ) → length xs ≡ length ys → changed_end (xs ++ x ∷ []) (ys ++ y ∷ []) ≡ cond (x == y) (changed_end xs ys) (suc (length xs))

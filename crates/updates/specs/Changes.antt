@@ -6,7 +6,7 @@ use Rattle.fs_types.specs.declared.call.Call.{Call}
 use Rattle.plain_trees.specs.Contents.{Entry}
 use Rattle.plain_trees.specs.Trees.{Tree}
 use Rattle.inquiries.specs.declared.items.Item.{Item}
-use Rattle.tree_updates.specs.Updates.{adapting, amending, edit_changes, making, patch_changes, removal_at, update_changes}
+use Rattle.tree_differences.specs.Updates.{adapting, amending, edit_changes, making, patch_changes, removal_at, update_changes}
 use Rattle.updates.specs.declared.manner.Manner.{Manner}
 
 -- those for what stands at a path in the old tree, where it goes

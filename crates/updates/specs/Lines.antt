@@ -7,7 +7,7 @@ use Rattle.plain_trees.specs.Trees.{Tree}
 use Rattle.inquiries.specs.Items.{items_of}
 use Rattle.inquiries.specs.Printed.{path_text}
 use Rattle.inquiries.specs.declared.items.Item.{Item}
-use Rattle.tree_updates.specs.Updates.{paths_of}
+use Rattle.tree_differences.specs.Updates.{paths_of}
 use Rattle.updates.specs.Changes.{group_by}
 use Rattle.updates.specs.declared.manner.Manner.{Manner}
 

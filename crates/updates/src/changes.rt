@@ -9,7 +9,7 @@ ghost use Rattle.history_machine.specs.History.{view_refusal};
 ghost use Rattle.history_machine.specs.Machine.{view_tree, working_tree};
 ghost use Rattle.inquiries.specs.Items.{IsItemOf, IsFileOf};
 ghost use Rattle.inquiries.specs.Readings.{shown, IsUnchanged, Meets};
-ghost use Rattle.tree_updates.specs.Updates.{removal, making};
+ghost use Rattle.tree_differences.specs.Updates.{removal, making};
 ghost use Rattle.updates.specs.Changes.{changed_file, changes_by, making_of, removal_of};
 ghost use Rattle.updates.specs.Asked.{AreSmall, MeetsEither, Untold};
 

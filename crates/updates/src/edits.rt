@@ -1,6 +1,6 @@
 //! The calls that give a file other bytes, and leave what both have in common.
 ghost use Rattle.std.specs.Prelude.{◌≡◌, ◌++◌, ◌<◌, ◌↔◌, IsTrue, OnOk, length, slice_index};
-ghost use Rattle.tree_updates.specs.Updates.{common_length, editing};
+ghost use Rattle.tree_differences.specs.Updates.{common_length, editing};
 
 use bitflags::Flags;
 use fs_types::{Bytes, Call, OpenFlags, Path};

@@ -4,7 +4,7 @@ ghost use Rattle.history_machine.specs.History.{view_refusal};
 ghost use Rattle.history_machine.specs.Machine.{view_tree, working_tree};
 ghost use Rattle.inquiries.specs.Items.{IsItemOf};
 ghost use Rattle.inquiries.specs.Readings.{shown, IsUnchanged};
-ghost use Rattle.tree_updates.specs.Updates.{edit_paths};
+ghost use Rattle.tree_differences.specs.Updates.{edit_paths};
 ghost use Rattle.updates.specs.Asked.{MeetsEither};
 ghost use Rattle.updates.specs.Changes.{paths_in};
 

@@ -8,6 +8,6 @@ pub enum Manner {
     /// It has the bytes of the first tree, and is written from the first one on that differs.
     Edited,
     /// It has the bytes of the first tree, and what differs is put over them, in no call more than
-    /// [`tree_updates::PIECE_BYTES`].
+    /// [`tree_differences::PIECE_BYTES`].
     Patched,
 }

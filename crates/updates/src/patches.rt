@@ -1,8 +1,8 @@
 //! The calls that write of a file only what differs, in no call more than a piece.
 ghost use Rattle.std.specs.Prelude.{◌≡◌, ◌++◌, ◌∷◌, [], ◌≤◌, ◌*◌, length, drop, OnOk};
 ghost use Rattle.fs_types.specs.declared.call.Call.{Call};
-ghost use Rattle.tree_updates.specs.Updates.{changed_bytes, changed_end, common_length, for_writing, patching, rewriting};
-ghost use Rattle.tree_updates.specs.declared.laws_of_updates.TheConstants.{PIECE_BYTES};
+ghost use Rattle.tree_differences.specs.Updates.{changed_bytes, changed_end, common_length, for_writing, patching, rewriting};
+ghost use Rattle.tree_differences.specs.declared.laws_of_updates.TheConstants.{PIECE_BYTES};
 
 use crate::edits::{FOR_WRITING, common_length};
 use crate::pieces::{MOST_BYTES, add_piece};

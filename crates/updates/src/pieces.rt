@@ -1,12 +1,12 @@
 //! The calls that give a file its bytes, whole or piece by piece.
 ghost use Rattle.std.specs.Prelude.{◌≡◌, ◌++◌, ◌∷◌, [], ◌*◌, ◌≤◌, OnOk, length, take, drop};
-ghost use Rattle.tree_updates.specs.Updates.{writing, pieces_of, piece};
-ghost use Rattle.tree_updates.specs.declared.laws_of_updates.TheConstants.{PIECE_BYTES};
+ghost use Rattle.tree_differences.specs.Updates.{writing, pieces_of, piece};
+ghost use Rattle.tree_differences.specs.declared.laws_of_updates.TheConstants.{PIECE_BYTES};
 
 use bitflags::Flags;
 use fs_types::{Bytes, Call, OpenFlags, Path};
 use std::alloc::AllocError;
-use tree_updates::PIECE_BYTES;
+use tree_differences::PIECE_BYTES;
 
 /// The flags by which a file is opened anew: for writing, made where it is missing, and cut.
 const ANEW: u64 = 22;

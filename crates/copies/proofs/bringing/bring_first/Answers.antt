@@ -4,9 +4,9 @@ use Rattle.fs_types.specs.declared.call.View.{View}
 use Rattle.history_machine.specs.Machine.{Machine, IsMachine, view_tree, working_tree}
 use Rattle.inquiries.specs.Readings.{shown}
 use Rattle.inquiries.proofs.Entries.{view-file_tree}
-use Rattle.tree_updates.specs.Laws.{Brings}
-use Rattle.tree_updates.specs.Updates.{edit_changes}
-use Rattle.tree_updates.proofs.Edited.{edit_law}
+use Rattle.tree_differences.specs.UpdateLaws.{Brings}
+use Rattle.tree_differences.specs.Updates.{edit_changes}
+use Rattle.tree_differences.proofs.Edited.{edit_law}
 use Rattle.copies.specs.Causes.{NotCopied}
 use Rattle.copies.proofs.Brought.{brought, ready_changed}
 use Rattle.copies.proofs.Causing.{untold}

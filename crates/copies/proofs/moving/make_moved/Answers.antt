@@ -8,9 +8,9 @@ use Rattle.inquiries.proofs.Entries.{view-file_tree}
 use Rattle.inquiries.proofs.PrunedLemmas.{pruned_there}
 use Rattle.fs_types.specs.declared.call.View.{View}
 use Rattle.plain_trees.specs.Trees.{Tree}
-use Rattle.tree_updates.specs.Laws.{IsMoved, renames}
-use Rattle.tree_updates.specs.Updates.{edit_paths}
-use Rattle.tree_updates.proofs.Edited.{cover_law}
+use Rattle.tree_differences.specs.UpdateLaws.{IsMoved, renames}
+use Rattle.tree_differences.specs.Updates.{edit_paths}
+use Rattle.tree_differences.proofs.Edited.{cover_law}
 use Rattle.updates.specs.Changes.{paths_in}
 use Rattle.copies.specs.Moved.{subtrees_at, there_in}
 use Rattle.copies.proofs.Renaming.{all_among, ended_so, moved_brings_all, moved_stops, moved_version, pruned_covers, stopped_so, unread}

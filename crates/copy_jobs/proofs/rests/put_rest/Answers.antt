@@ -3,7 +3,7 @@ use Rattle.std.proofs.lemmas.Result.{IfErr-weaker}
 use Rattle.fs_types.specs.declared.call.Call.{Call}
 use Rattle.flash_simulation.specs.Simulation.{device_of}
 use Rattle.plain_trees.specs.Trees.{bare}
-use Rattle.tree_updates.specs.Laws.{Brings}
+use Rattle.tree_differences.specs.UpdateLaws.{Brings}
 use Rattle.copies.specs.Added.{AloneCause}
 use Rattle.copy_jobs.specs.Lefts.{LeadOn}
 use Rattle.copy_jobs.proofs.RestLemmas.{rest_sized}

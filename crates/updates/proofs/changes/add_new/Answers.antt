@@ -7,7 +7,7 @@ use Rattle.history_machine.specs.Machine.{view_tree}
 use Rattle.inquiries.specs.Readings.{shown}
 use Rattle.inquiries.proofs.Entries.{file_accepted}
 use Rattle.inquiries.proofs.Readings.{unchanged-refl, met_only}
-use Rattle.tree_updates.specs.Updates.{making}
+use Rattle.tree_differences.specs.Updates.{making}
 use Rattle.updates.proofs.ChangeLemmas.{is_directory, is_file}
 use Rattle.updates.proofs.changes.add_new.Goals as goal
 

@@ -1,7 +1,7 @@
 use Rattle.std.proofs.Common.{◌∙◌, ◌∷◌, [], ◌++◌, List, sym, ap}
 use Rattle.fs_types.specs.Names.{Path}
 use Rattle.fs_types.specs.declared.call.Call.{Call}
-use Rattle.tree_updates.specs.Updates.{removal}
+use Rattle.tree_differences.specs.Updates.{removal}
 use Rattle.updates.proofs.ChangeLemmas.{is_directory, is_file}
 use Rattle.updates.proofs.changes.push_removal.Goals as goal
 

@@ -1,5 +1,5 @@
 use Rattle.std.proofs.Common.{arith}
-use Rattle.tree_updates.proofs.Editing.{common_within}
+use Rattle.tree_differences.proofs.Editing.{common_within}
 use Rattle.updates.proofs.edits.add_editing.Goals as goal
 
 pub slice_bounds-from_slice-start : goal.slice_bounds-from_slice-start

@@ -1,5 +1,5 @@
 use Rattle.std.proofs.Common.{◌≡◌, ◌+◌, ◌≤◌, length, drop}
-use Rattle.tree_updates.specs.Updates.{common_length}
+use Rattle.tree_differences.specs.Updates.{common_length}
 use Rattle.updates.proofs.edits.common_length.Given as goal
 
 abbrev pub invariant-loop-at : goal.invariant-loop-at

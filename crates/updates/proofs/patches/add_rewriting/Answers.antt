@@ -1,6 +1,6 @@
 use Rattle.std.proofs.Common.{[], ◌++◌, ◌∷◌, ◌*◌}
 use Rattle.fs_types.specs.declared.call.Call.{Call}
-use Rattle.tree_updates.specs.Updates.{for_writing, piece}
+use Rattle.tree_differences.specs.Updates.{for_writing, piece}
 use Rattle.updates.proofs.PieceLemmas.{one_more_from}
 use Rattle.updates.proofs.patches.add_rewriting.Goals as goal
 

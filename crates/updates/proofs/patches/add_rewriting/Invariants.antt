@@ -1,7 +1,7 @@
 use Rattle.std.proofs.Common.{◌≡◌, ◌++◌, ◌∷◌, ◌*◌, ◌-◌, [], map}
 use Rattle.std.specs.List.{range_with_len}
 use Rattle.fs_types.specs.declared.call.Call.{Call}
-use Rattle.tree_updates.specs.Updates.{for_writing, piece}
+use Rattle.tree_differences.specs.Updates.{for_writing, piece}
 use Rattle.updates.proofs.patches.add_rewriting.Given as goal
 
 abbrev pub invariant-loop-at : goal.invariant-loop-at

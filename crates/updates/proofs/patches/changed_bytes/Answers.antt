@@ -1,6 +1,6 @@
 use Rattle.std.proofs.Common.{sym, arith}
 use Rattle.std.proofs.lemmas.List.{length-take-le}
-use Rattle.tree_updates.proofs.Patching.{end_within}
+use Rattle.tree_differences.proofs.Patching.{end_within}
 use Rattle.updates.proofs.patches.changed_bytes.Goals as goal
 
 pub slice_bounds-rest_from-end : goal.slice_bounds-rest_from-end

@@ -1,5 +1,5 @@
 use Rattle.std.proofs.Common.{◌≡◌, take}
-use Rattle.tree_updates.specs.Updates.{changed_end}
+use Rattle.tree_differences.specs.Updates.{changed_end}
 use Rattle.updates.proofs.patches.changed_end.Given as goal
 
 abbrev pub invariant-loop-at : goal.invariant-loop-at

@@ -3,7 +3,7 @@ use Rattle.std.proofs.lemmas.Grind.{div_ceil_times}
 use Rattle.std.specs.List.{range_with_len}
 use Rattle.fs_types.specs.declared.call.Call.{Call}
 use Rattle.history_machine.specs.Laws.{anew}
-use Rattle.tree_updates.specs.Updates.{piece}
+use Rattle.tree_differences.specs.Updates.{piece}
 use Rattle.updates.proofs.PieceLemmas.{one_more, calls_between}
 use Rattle.updates.proofs.pieces.add_pieces.Goals as goal
 

@@ -17,12 +17,12 @@ use Rattle.history_machine.specs.History.{Past, IsLawful, changed, present_root}
 use Rattle.history_machine.specs.Machine.{Machine, IsMachine, machine_with, machine_of, mounted, present_tree, next, after}
 use Rattle.history_machine.proofs.Groups.{same-free}
 use Rattle.history_machine.proofs.Steps.{passes, outside, tree-changed}
-use Rattle.tree_updates.specs.Laws.{Covers, EachAccepted, UpdateLaw, Updates}
-use Rattle.tree_updates.specs.Updates.{goes, removal, removal_at, making, making_at, writing, paths_of, update_changes}
-use Rattle.tree_updates.proofs.Listed.{IsListing, listed}
-use Rattle.tree_updates.proofs.Assigned.{assigned, all_assigned, all_miss, all_have, contains_reversed}
-use Rattle.tree_updates.proofs.Leading.{within, Leads, leads-refl, leads-trans, after-append, accepted-parts, mkdir_leads, unlink_leads, rmdir_leads}
-use Rattle.tree_updates.proofs.Pieces.{writing_leads}
+use Rattle.tree_differences.specs.UpdateLaws.{Covers, EachAccepted, UpdateLaw, Updates}
+use Rattle.tree_differences.specs.Updates.{goes, removal, removal_at, making, making_at, writing, paths_of, update_changes}
+use Rattle.tree_differences.proofs.Listed.{IsListing, listed}
+use Rattle.tree_differences.proofs.Assigned.{assigned, all_assigned, all_miss, all_have, contains_reversed}
+use Rattle.tree_differences.proofs.Leading.{within, Leads, leads-refl, leads-trans, after-append, accepted-parts, mkdir_leads, unlink_leads, rmdir_leads}
+use Rattle.tree_differences.proofs.Pieces.{writing_leads}
 
 -- ---- what stands at a path of two trees is the same, or it is not
 

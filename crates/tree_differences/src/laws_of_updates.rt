@@ -1,5 +1,5 @@
 //! The laws of updates. The function does nothing: its contract is the laws.
-ghost use Rattle.tree_updates.specs.Laws.{CoverLaw, EditLaw, JoinLaw, OneRenameLaw, PatchLaw, RenamesLaw, UpdateLaw};
+ghost use Rattle.tree_differences.specs.UpdateLaws.{CoverLaw, EditLaw, JoinLaw, OneRenameLaw, PatchLaw, RenamesLaw, UpdateLaw};
 
 /// The bytes that a line of a script names at most, here: with the longest path it has room for as many.
 pub const PIECE_BYTES: u32 = 30_000;

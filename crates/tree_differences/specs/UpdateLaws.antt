@@ -8,7 +8,7 @@ use Rattle.plain_trees.specs.Trees.{Tree, IsFileTree, move}
 use Rattle.history_machine.specs.Descriptors.{none_open}
 use Rattle.history_machine.specs.History.{Past, IsLawful, changed}
 use Rattle.history_machine.specs.Machine.{Machine, IsMachine, machine_with, mounted, present_tree, refusal, next, after}
-use Rattle.tree_updates.specs.Updates.{edit_changes, edit_paths, goes, patch_calls, update_calls}
+use Rattle.tree_differences.specs.Updates.{edit_changes, edit_paths, goes, patch_calls, update_calls}
 
 -- each call is accepted, one after the other
 abbrev pub EachAccepted : Machine → List Call → Type 0

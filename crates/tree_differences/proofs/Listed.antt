@@ -12,7 +12,7 @@ use Rattle.plain_trees.specs.Contents.{Entry, is_dir}
 use Rattle.plain_trees.specs.Trees.{Tree, children, IsFileTree}
 use Rattle.plain_trees.proofs.Listings.{listing_law}
 use Rattle.plain_trees.proofs.Lookups.{above}
-use Rattle.tree_updates.specs.Updates.{paths_below, paths_of}
+use Rattle.tree_differences.specs.Updates.{paths_below, paths_of}
 
 -- a list has each path but the root at which something stands in a tree
 abbrev pub IsListing : Tree → List Path → Type 0

@@ -14,11 +14,11 @@ use Rattle.plain_trees.proofs.Edits.{get-put}
 use Rattle.history_machine.specs.Descriptors.{Descriptor, Descriptors, none_open, opened_at_least, truncates}
 use Rattle.history_machine.specs.History.{Past}
 use Rattle.history_machine.specs.Machine.{open_changes, refusal, machine_of, next, after}
-use Rattle.tree_updates.specs.Laws.{EachAccepted}
-use Rattle.tree_updates.specs.Updates.{common_length, editing, for_writing}
-use Rattle.tree_updates.proofs.Assigned.{set_at}
-use Rattle.tree_updates.proofs.Leading.{within, Leads, leads-trans, maybe_made, set_there, undue_made}
-use Rattle.tree_updates.proofs.Pieces.{close_leads, either_made, set_twice, stands_then}
+use Rattle.tree_differences.specs.UpdateLaws.{EachAccepted}
+use Rattle.tree_differences.specs.Updates.{common_length, editing, for_writing}
+use Rattle.tree_differences.proofs.Assigned.{set_at}
+use Rattle.tree_differences.proofs.Leading.{within, Leads, leads-trans, maybe_made, set_there, undue_made}
+use Rattle.tree_differences.proofs.Pieces.{close_leads, either_made, set_twice, stands_then}
 
 -- ---- what two files have in common
 

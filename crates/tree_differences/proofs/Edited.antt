@@ -12,14 +12,14 @@ use Rattle.plain_trees.proofs.Edits.{same_tree}
 use Rattle.history_machine.specs.Descriptors.{none_open}
 use Rattle.history_machine.specs.History.{Past, IsLawful}
 use Rattle.history_machine.specs.Machine.{Machine, after}
-use Rattle.tree_updates.specs.Laws.{Brings, CoverLaw, Covers, EachAccepted, EditLaw, due_after, grouped}
-use Rattle.tree_updates.specs.Updates.{adapting, adapting_at, editing, edit_paths, paths_of}
-use Rattle.tree_updates.proofs.Assigned.{assigned, set_at}
-use Rattle.tree_updates.proofs.Leading.{within, Leads, leads-refl, mkdir_leads}
-use Rattle.tree_updates.proofs.Listed.{listed}
-use Rattle.tree_updates.proofs.Editing.{editing_leads}
-use Rattle.tree_updates.proofs.Pieces.{writing_leads}
-use Rattle.tree_updates.proofs.Updated.{all_covered, at_differing, at_other, changes_lead, come, come_at, gone, gone_at, left, no_changes, same_or_other}
+use Rattle.tree_differences.specs.UpdateLaws.{Brings, CoverLaw, Covers, EachAccepted, EditLaw, due_after, grouped}
+use Rattle.tree_differences.specs.Updates.{adapting, adapting_at, editing, edit_paths, paths_of}
+use Rattle.tree_differences.proofs.Assigned.{assigned, set_at}
+use Rattle.tree_differences.proofs.Leading.{within, Leads, leads-refl, mkdir_leads}
+use Rattle.tree_differences.proofs.Listed.{listed}
+use Rattle.tree_differences.proofs.Editing.{editing_leads}
+use Rattle.tree_differences.proofs.Pieces.{writing_leads}
+use Rattle.tree_differences.proofs.Updated.{all_covered, at_differing, at_other, changes_lead, come, come_at, gone, gone_at, left, no_changes, same_or_other}
 
 module _ (old new : Tree) where
   -- where both trees have a file, and the two differ, the one's bytes stand there, or the other's

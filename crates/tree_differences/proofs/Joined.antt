@@ -6,8 +6,8 @@ use Rattle.fs_types.proofs.Orders.{same_path-is}
 use Rattle.plain_trees.specs.Trees.{Tree, move}
 use Rattle.history_machine.specs.History.{Past}
 use Rattle.history_machine.specs.Machine.{Machine, machine_of, refusal, next, after}
-use Rattle.tree_updates.specs.Laws.{Brings, EachAccepted, JoinLaw, OneRenameLaw, due_after, grouped}
-use Rattle.tree_updates.proofs.Leading.{accepted-parts, after-append}
+use Rattle.tree_differences.specs.UpdateLaws.{Brings, EachAccepted, JoinLaw, OneRenameLaw, due_after, grouped}
+use Rattle.tree_differences.proofs.Leading.{accepted-parts, after-append}
 
 due_both : (xs ys : List Call) (due : Bool) → due_after ys (due_after xs due) ≡ due_after (xs ++ ys) due
 due_both [] ys due = refl

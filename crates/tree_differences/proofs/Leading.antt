@@ -17,8 +17,8 @@ use Rattle.history_machine.specs.Laws.{anew}
 use Rattle.history_machine.specs.Machine.{Machine, machine_with, working_tree, write_file_changes, refusal, machine_of, next, after}
 use Rattle.plain_trees.specs.Files.{file_put}
 use Rattle.history_machine.proofs.WholeFiles.{write_file_law}
-use Rattle.tree_updates.specs.Laws.{EachAccepted}
-use Rattle.tree_updates.proofs.Assigned.{set_at}
+use Rattle.tree_differences.specs.UpdateLaws.{EachAccepted}
+use Rattle.tree_differences.proofs.Assigned.{set_at}
 
 -- a group that has a tree
 abbrev pub group_of : Tree → Bool → Group Tree

@@ -10,11 +10,11 @@ use Rattle.plain_trees.specs.Trees.{Tree, move, IsFileTree}
 use Rattle.plain_trees.proofs.Beneath.{beneath-Some}
 use Rattle.plain_trees.proofs.Edits.{get-moved}
 use Rattle.plain_trees.proofs.Lookups.{above}
-use Rattle.tree_updates.specs.Laws.{Brings, Covers, IsMoved, RenamesLaw, StillCovers, moved_by, renames}
-use Rattle.tree_updates.specs.Updates.{edit_paths, goes}
-use Rattle.tree_updates.proofs.Edited.{cover_law}
-use Rattle.tree_updates.proofs.Joined.{join_law, one_rename_law}
-use Rattle.tree_updates.proofs.Listed.{contains_first, contains_later}
+use Rattle.tree_differences.specs.UpdateLaws.{Brings, Covers, IsMoved, RenamesLaw, StillCovers, moved_by, renames}
+use Rattle.tree_differences.specs.Updates.{edit_paths, goes}
+use Rattle.tree_differences.proofs.Edited.{cover_law}
+use Rattle.tree_differences.proofs.Joined.{join_law, one_rename_law}
+use Rattle.tree_differences.proofs.Listed.{contains_first, contains_later}
 
 -- ---- the renames
 

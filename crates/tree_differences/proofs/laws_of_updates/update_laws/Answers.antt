@@ -1,9 +1,9 @@
-use Rattle.tree_updates.proofs.Edited.{cover_law, edit_law}
-use Rattle.tree_updates.proofs.Joined.{join_law, one_rename_law}
-use Rattle.tree_updates.proofs.Moved.{renames_law}
-use Rattle.tree_updates.proofs.Patched.{patch_law}
-use Rattle.tree_updates.proofs.Updated.{update_law}
-use Rattle.tree_updates.proofs.laws_of_updates.update_laws.Goals as goal
+use Rattle.tree_differences.proofs.Edited.{cover_law, edit_law}
+use Rattle.tree_differences.proofs.Joined.{join_law, one_rename_law}
+use Rattle.tree_differences.proofs.Moved.{renames_law}
+use Rattle.tree_differences.proofs.Patched.{patch_law}
+use Rattle.tree_differences.proofs.Updated.{update_law}
+use Rattle.tree_differences.proofs.laws_of_updates.update_laws.Goals as goal
 
 pub returns-clause-updates : goal.returns-clause-updates
 returns-clause-updates c = update_law

@@ -23,11 +23,11 @@ use Rattle.history_machine.specs.Laws.{anew}
 use Rattle.history_machine.specs.Machine.{Machine, machine_with, open_changes, refusal, machine_of, next, after}
 use Rattle.plain_trees.specs.Files.{file_put}
 use Rattle.history_machine.proofs.Accepted.{open-accepted}
-use Rattle.tree_updates.specs.Laws.{EachAccepted}
-use Rattle.tree_updates.specs.Updates.{piece, writing}
-use Rattle.tree_updates.specs.declared.laws_of_updates.TheConstants.{PIECE_BYTES}
-use Rattle.tree_updates.proofs.Assigned.{set_at}
-use Rattle.tree_updates.proofs.Leading.{group_of, within, opened_anew, opened_with, Leads, leads-refl, leads-trans, after-append, accepted-parts, never, set_there, maybe_made, undue_made, write_leads}
+use Rattle.tree_differences.specs.UpdateLaws.{EachAccepted}
+use Rattle.tree_differences.specs.Updates.{piece, writing}
+use Rattle.tree_differences.specs.declared.laws_of_updates.TheConstants.{PIECE_BYTES}
+use Rattle.tree_differences.proofs.Assigned.{set_at}
+use Rattle.tree_differences.proofs.Leading.{group_of, within, opened_anew, opened_with, Leads, leads-refl, leads-trans, after-append, accepted-parts, never, set_there, maybe_made, undue_made, write_leads}
 
 -- what was put at a path is put over
 pub set_twice : (c : Contents) (p : Path) (x y : Option Entry) → set_at p y (set_at p x c) ≡ set_at p y c

@@ -10,14 +10,14 @@ use Rattle.plain_trees.specs.Trees.{Tree}
 use Rattle.history_machine.specs.Descriptors.{none_open}
 use Rattle.history_machine.specs.History.{Past, IsLawful}
 use Rattle.history_machine.specs.Machine.{Machine, after, present_tree}
-use Rattle.tree_updates.specs.Laws.{EachAccepted, HasOld, PatchLaw}
-use Rattle.tree_updates.specs.Updates.{amending, amending_at, patch_changes, patching, paths_of}
-use Rattle.tree_updates.proofs.Assigned.{assigned, set_at}
-use Rattle.tree_updates.proofs.Edited.{Kept, keeps, gone_kept, come_kept}
-use Rattle.tree_updates.proofs.Leading.{within, Leads, leads-refl, mkdir_leads}
-use Rattle.tree_updates.proofs.Patching.{patching_leads}
-use Rattle.tree_updates.proofs.Pieces.{writing_leads}
-use Rattle.tree_updates.proofs.Updated.{changes_lead, come, come_at, gone_at, group_updates, no_changes}
+use Rattle.tree_differences.specs.UpdateLaws.{EachAccepted, HasOld, PatchLaw}
+use Rattle.tree_differences.specs.Updates.{amending, amending_at, patch_changes, patching, paths_of}
+use Rattle.tree_differences.proofs.Assigned.{assigned, set_at}
+use Rattle.tree_differences.proofs.Edited.{Kept, keeps, gone_kept, come_kept}
+use Rattle.tree_differences.proofs.Leading.{within, Leads, leads-refl, mkdir_leads}
+use Rattle.tree_differences.proofs.Patching.{patching_leads}
+use Rattle.tree_differences.proofs.Pieces.{writing_leads}
+use Rattle.tree_differences.proofs.Updated.{changes_lead, come, come_at, gone_at, group_updates, no_changes}
 
 module _ (old new : Tree) where
   amends : (h : Past Tree) → IsLawful h → (p : Path) (t : Tree) (due : Bool) → Kept old new (get t) → EachAccepted (within h t due none_open) (amending_at old new p)

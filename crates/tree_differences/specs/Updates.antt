@@ -10,7 +10,7 @@ use Rattle.fs_types.specs.declared.open_flags.OpenFlags.{OpenFlags}
 use Rattle.plain_trees.specs.Contents.{Entry, same_bytes}
 use Rattle.plain_trees.specs.Trees.{Tree, children}
 use Rattle.history_machine.specs.Laws.{anew}
-use Rattle.tree_updates.specs.declared.laws_of_updates.TheConstants.{PIECE_BYTES}
+use Rattle.tree_differences.specs.declared.laws_of_updates.TheConstants.{PIECE_BYTES}
 
 -- what stands at a path in the old tree has to go: in the new one nothing stands there, or what is of another kind
 abbrev pub goes : Option Entry → Option Entry → Bool

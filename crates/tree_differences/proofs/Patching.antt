@@ -17,13 +17,13 @@ use Rattle.plain_trees.specs.Trees.{Tree, bytes_of_file}
 use Rattle.history_machine.specs.Descriptors.{none_open}
 use Rattle.history_machine.specs.History.{Past}
 use Rattle.history_machine.specs.Machine.{Machine, refusal, machine_of, next, after}
-use Rattle.tree_updates.specs.Laws.{EachAccepted}
-use Rattle.tree_updates.specs.Updates.{changed_bytes, changed_end, common_length, end_before, for_writing, patching, piece, rewriting}
-use Rattle.tree_updates.specs.declared.laws_of_updates.TheConstants.{PIECE_BYTES}
-use Rattle.tree_updates.proofs.Assigned.{set_at}
-use Rattle.tree_updates.proofs.Editing.{common_within, cuts, holds, long, opened_for, opens, sets, shared_taken, shared_within, writes}
-use Rattle.tree_updates.proofs.Leading.{within, Leads, leads-trans, after-append, accepted-parts}
-use Rattle.tree_updates.proofs.Pieces.{close_leads, either_made, pieces_lead, set_twice, stands_then}
+use Rattle.tree_differences.specs.UpdateLaws.{EachAccepted}
+use Rattle.tree_differences.specs.Updates.{changed_bytes, changed_end, common_length, end_before, for_writing, patching, piece, rewriting}
+use Rattle.tree_differences.specs.declared.laws_of_updates.TheConstants.{PIECE_BYTES}
+use Rattle.tree_differences.proofs.Assigned.{set_at}
+use Rattle.tree_differences.proofs.Editing.{common_within, cuts, holds, long, opened_for, opens, sets, shared_taken, shared_within, writes}
+use Rattle.tree_differences.proofs.Leading.{within, Leads, leads-trans, after-append, accepted-parts}
+use Rattle.tree_differences.proofs.Pieces.{close_leads, either_made, pieces_lead, set_twice, stands_then}
 
 -- ---- what differs
 

@@ -15,7 +15,7 @@ use bad_blocks::BadBlocks;
 use block_ring::Marks;
 use flash_model::Flash;
 use fs_types::{ANCHORS, Fault};
-use history::History;
+use machine_state::History;
 use mounting::marked_on;
 use node_store::Storage;
 use std::alloc::{AllocError, Global};

@@ -3,7 +3,7 @@ ghost use Rattle.std.specs.Prelude.{◌≡◌, ◌++◌, IfOk, OnOk};
 ghost use Rattle.block_usage.specs.OtherRoots.{other_checkpoints, other_roots, other_versions, shows_checkpoint, shows_version};
 
 use fs_types::{CpName, View};
-use history::History;
+use machine_state::History;
 use std::alloc::{AllocError, Global};
 
 /// The roots of the versions, the oldest first, and then of the checkpoints, but for the one that a view

@@ -13,7 +13,7 @@ ghost use Rattle.inquiries.specs.Versions.{AreVersionLines, version_row, row_at,
 use crate::printing::{print_alone, print_kept, print_size};
 use flash_model::Flash;
 use fs_types::{Bytes, CpName, Fault};
-use history::History;
+use machine_state::History;
 use mounting::list_roots;
 use script::{print_name, print_number};
 use std::alloc::{AllocError, Global};

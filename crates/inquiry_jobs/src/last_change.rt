@@ -5,10 +5,10 @@ ghost use Rattle.inquiry_jobs.specs.LastChanges.{HasNoneBefore, IsBefore, LastCh
 
 use crate::asking::tell_with_status;
 use fs_types::{Fault, View};
-use history::History;
 use host_interface::ImageFiles;
 use image_jobs::{Failure, load};
 use inquiries::Inquiry;
+use machine_state::History;
 use script_runs::{Refusal, mount_as_planned};
 use std::alloc::Global;
 use std::io::Write;

@@ -12,7 +12,7 @@ use Rattle.fs_types.specs.declared.call.Version.{Version}
 use Rattle.flash_model.specs.declared.geometry.Geometry.{Geometry}
 use Rattle.block_ring.specs.Ring.{IsDataBlock}
 use Rattle.history_machine.specs.History.{Past}
-use Rattle.history.specs.Kept.{IsKept}
+use Rattle.machine_state.specs.KeptHistories.{IsKept}
 use Rattle.record_format.specs.Payloads.{is_record, has_counts, has_versions, has_checkpoints, serials_ascend, names_ascend}
 use Rattle.mounting.specs.Contents.{checkpoint_of, record_of}
 

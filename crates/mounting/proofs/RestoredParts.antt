@@ -15,7 +15,7 @@ use Rattle.std.specs.declared.cmp.Ordering.{Ordering}
 use Rattle.std.specs.declared.cmp.Ordering.TheVariants.{Less, Equal, Greater}
 use Rattle.fs_types.specs.Names.{Name, name_cmp}
 use Rattle.fs_types.specs.declared.call.Version.{Version}
-use Rattle.history.specs.Kept.{IsKept}
+use Rattle.machine_state.specs.KeptHistories.{IsKept}
 use Rattle.record_format.specs.declared.record.Checkpoint.{Checkpoint}
 use Rattle.record_format.specs.declared.record.Record.{Record}
 use Rattle.record_format.specs.Payloads.{is_record, has_counts, has_versions, serials_ascend, names_ascend}

@@ -9,7 +9,7 @@ ghost use Rattle.mounting.specs.Contents as spec;
 
 use flash_model::Geometry;
 use fs_types::{CpName, Sequence};
-use history::History;
+use machine_state::History;
 use record_format::{Checkpoint, FORMAT, Record};
 use std::alloc::{AllocError, Global};
 use std::collections::BTreeMap;

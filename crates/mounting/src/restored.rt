@@ -11,7 +11,7 @@ ghost use Rattle.mounting.specs.Records.{history_of, roots_of, working_roots};
 
 use bad_blocks::BadBlocks;
 use fs_types::{CpName, Version};
-use history::History;
+use machine_state::History;
 use record_format::{Checkpoint, Record};
 use std::alloc::{AllocError, Global};
 use std::collections::BTreeMap;

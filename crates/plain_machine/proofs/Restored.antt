@@ -7,7 +7,7 @@ use Rattle.std.specs.Prelude.{nat_lt, ◌&&◌, All, AllPairs}
 use Rattle.std.specs.List.{list_all}
 use Rattle.fs_types.specs.declared.limits.TheConstants.{MIN_VERSIONS, MAX_VERSIONS}
 use Rattle.fs_types.specs.declared.call.Version.{Version}
-use Rattle.history.specs.Kept.{IsKept}
+use Rattle.machine_state.specs.KeptHistories.{IsKept}
 use Rattle.history_machine.specs.History.{Past}
 use Rattle.plain_trees.specs.Trees.{Tree}
 use Rattle.plain_machine.specs.Restoring.{history_of_parts, past_serials_ascend, past_has_counts, past_has_versions, is_history}

@@ -7,7 +7,7 @@ use Rattle.history_machine.specs.Descriptors.{Descriptors}
 use Rattle.history_machine.specs.Machine.{Machine, machine_with}
 use Rattle.fs_types.specs.declared.call.Group.{Group}
 use Rattle.fs_types.specs.declared.call.Version.{Version}
-use Rattle.open_files.specs.Codes.{descriptors_code}
+use Rattle.machine_state.specs.FileCodes.{descriptors_code}
 use Rattle.memory_trees.specs.Codes.{tree_code}
 
 abbrev pub version_code : Coded (Version Tree)

@@ -16,9 +16,8 @@ use crate::replies::bytes_at;
 use crate::written_files::{files_change, write_files};
 use bitflags::Flags;
 use fs_types::{Bytes, Call, CpName, Fault, Group, OpenFlags, Path};
-use history::History;
+use machine_state::{History, OpenFile, OpenFiles};
 use memory_trees::{Node, Tree};
-use open_files::{OpenFile, OpenFiles};
 use std::alloc::{AllocError, Global};
 
 /// Whether the call makes a version, where it is not refused: a change outside a group, and an `end` of

@@ -5,7 +5,7 @@ ghost use Rattle.plain_trees.specs.Trees.{bare};
 ghost use Rattle.history_machine.specs.History.{changed, present_root, view_refusal, working_root, seen_root, history_with, group_with, due_root};
 
 use fs_types::{Fault, Group, View};
-use history::History;
+use machine_state::History;
 use memory_trees::Tree;
 
 /// The tree that calls work on: the group's, where one is open, else the present one.

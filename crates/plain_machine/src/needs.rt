@@ -10,9 +10,8 @@ use crate::groups::working_tree;
 use crate::replies::bytes_at;
 use crate::written_files::changed_bodies;
 use fs_types::{Call, Group, NODE_ENTRIES, Name, Path};
-use history::History;
+use machine_state::{History, OpenFiles};
 use memory_trees::Tree;
-use open_files::OpenFiles;
 
 /// How many nodes a directory of so many entries has.
 fn nodes_for(entries: usize) -> u64

@@ -6,7 +6,7 @@ ghost use Rattle.fs_types.specs.declared.limits.TheConstants.{MIN_VERSIONS, MAX_
 ghost use Rattle.plain_machine.specs.Restoring.{history_of_parts, past_serials_ascend, is_history};
 
 use fs_types::{CpName, Fault, MAX_CHECKPOINTS, MAX_VERSIONS, MIN_VERSIONS, Version};
-use history::History;
+use machine_state::History;
 use memory_trees::Tree;
 use std::alloc::Global;
 use std::collections::BTreeMap;

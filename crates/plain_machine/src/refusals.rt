@@ -14,9 +14,8 @@ use crate::groups::{seen_tree, working_tree};
 use crate::written_files::write_files_refusal;
 use bitflags::Flags;
 use fs_types::{Bytes, Call, Fault, Group, MAX_FILE_BYTES, Name, OpenFlags, Path, View};
-use history::History;
+use machine_state::{History, OpenFiles};
 use memory_trees::{Node, Tree};
-use open_files::OpenFiles;
 use plain_trees::{is_beginning, parent};
 
 /// The first refusal of a call, if any.

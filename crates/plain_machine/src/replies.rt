@@ -16,9 +16,8 @@ use crate::entries::entries_after;
 use crate::groups::{seen_tree, working_tree};
 use crate::space::Space;
 use fs_types::{Call, Group, Name, Path, Reply, Sequence, Stat, View};
-use history::History;
+use machine_state::{History, OpenFiles};
 use memory_trees::Tree;
-use open_files::OpenFiles;
 use std::alloc::{AllocError, Global};
 
 /// The bytes of the file at a path; none where no file is.

@@ -14,8 +14,8 @@ ghost use Rattle.plain_machine.specs.Plain.{machine_of_tree};
 
 use crate::needs::body_need;
 use fs_types::{Fault, MAX_ENTRIES, MAX_FILE_BYTES, NamedFile, Path, files_refusal};
+use machine_state::OpenFiles;
 use memory_trees::{Node, Tree};
-use open_files::OpenFiles;
 use std::alloc::{AllocError, Global};
 
 /// Why files are not written in a directory of a tree, with these files open.

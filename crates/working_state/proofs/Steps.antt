@@ -17,7 +17,7 @@ use Rattle.fs_types.specs.declared.call.Version.{Version}
 use Rattle.fs_types.specs.declared.fault.Fault.{Fault}
 use Rattle.fs_types.specs.declared.fault.Fault.TheVariants.{PowerCut}
 use Rattle.node_store.specs.declared.storage.Storage.{Storage}
-use Rattle.history.specs.Answers.{told_nothing}
+use Rattle.machine_state.specs.HistoryAnswers.{told_nothing}
 use Rattle.working_state.specs.Moments.{Moment, machine_at, seen_at, shown_at, IsMountedAt, IsAnswered, Steps, version_tree, moment}
 use Rattle.working_state.specs.Changes.{IsReadOnly, IsOverflow}
 use Rattle.working_state.specs.Facts.{facts_of, group_refusal}

@@ -11,7 +11,7 @@ use crate::checks::{check_change, check_writable};
 use crate::state::root_of;
 use flash_model::Flash;
 use fs_types::{Fault, Group};
-use history::History;
+use machine_state::History;
 use node_store::{Storage, Store};
 use std::alloc::Global;
 use tree_edits::{Edit, apply};

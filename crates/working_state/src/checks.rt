@@ -11,7 +11,7 @@ ghost use Rattle.working_state.specs.Facts.{group_refusal};
 use crate::state::State;
 use bad_blocks::is_read_only;
 use fs_types::{Fault, Group, Request};
-use history::History;
+use machine_state::History;
 use node_store::Storage;
 
 impl State {

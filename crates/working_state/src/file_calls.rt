@@ -24,7 +24,7 @@ use bitflags::Flags;
 use directory::{Found, Trail};
 use flash_model::Flash;
 use fs_types::{Fault, OpenFlags, Path};
-use open_files::OpenFile;
+use machine_state::OpenFile;
 use std::alloc::Global;
 use tree_edits::Edit;
 

@@ -29,8 +29,8 @@ use directory::{Found, Trail};
 use file_bodies::Body;
 use flash_model::Flash;
 use fs_types::{Fault, MAX_FILE_BYTES, OpenFlags, Path};
+use machine_state::OpenFiles;
 use node_store::Storage;
-use open_files::OpenFiles;
 use std::alloc::Global;
 use tree_edits::Edit;
 

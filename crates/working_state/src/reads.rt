@@ -30,8 +30,8 @@ use directory::{Found, lookup};
 use file_bodies::{Body, read_range};
 use flash_model::Flash;
 use fs_types::{Bytes, Fault, OpenFlags, Path, View};
+use machine_state::OpenFiles;
 use node_store::{Nodes, Storage, Store};
-use open_files::OpenFiles;
 use std::alloc::Global;
 
 impl State {

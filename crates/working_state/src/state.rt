@@ -20,11 +20,10 @@ use bad_blocks::BadBlocks;
 use block_ring::Ring;
 use flash_model::{Flash, Geometry};
 use fs_types::{Fault, Group};
-use history::History;
+use machine_state::{History, OpenFiles};
 use node_cache::NodeCache;
 use node_format::empty_directory;
 use node_store::{Storage, write_node};
-use open_files::OpenFiles;
 use std::alloc::Global;
 
 /// All that a mounted system keeps in memory.

@@ -1,0 +1,3 @@
+pub mod HistoryAnswers
+pub mod KeptHistories
+pub mod FileCodes

@@ -9,12 +9,12 @@ use Rattle.node_format.specs.BodyNodes.{HasSlot}
 use Rattle.node_format.specs.Items.{Item}
 use Rattle.node_format.specs.Links.{Link}
 use Rattle.node_format.specs.declared.place.Place.TheVariants.{File}
-use Rattle.block_trees.specs.Bodies.{Blocks, index_of, pointer_of, back, head_index, IsBody, IsChain, IsLinked}
-use Rattle.block_trees.specs.Chains.{link_of, link_items, next_of}
-use Rattle.block_trees.specs.Reached.{Reached, IsFirst, IsNamed, Names, BodyNames}
-use Rattle.block_trees.proofs.Bodies.{back_back, chain_back, chain_node, linked_back}
-use Rattle.block_trees.proofs.Entries.{directory_no_index}
-use Rattle.block_trees.proofs.Reaching.{before_named, reached_own}
+use Rattle.nodes.specs.Bodies.{Blocks, index_of, pointer_of, back, head_index, IsBody, IsChain, IsLinked}
+use Rattle.nodes.specs.Chains.{link_of, link_items, next_of}
+use Rattle.nodes.specs.Reached.{Reached, IsFirst, IsNamed, Names, BodyNames}
+use Rattle.nodes.proofs.Bodies.{back_back, chain_back, chain_node, linked_back}
+use Rattle.nodes.proofs.Entries.{directory_no_index}
+use Rattle.nodes.proofs.Reaching.{before_named, reached_own}
 use Rattle.reclaim.proofs.Marking.{only_one}
 use Rattle.block_usage.specs.Usages.{AreBlocksOf, AreChainBlocks, PlaceReaches}
 

@@ -3,7 +3,7 @@ use Rattle.std.proofs.Common.{◌≡◌, ℕ, suc, ◌+◌, ◌≤◌, Bool, tru
 use Rattle.node_format.specs.Headers.{field, body_magic, body_size, IsNode}
 use Rattle.nodes.specs.Parts.{IsFront}
 use Rattle.nodes.specs.FrontLaws.{front_at}
-use Rattle.block_trees.specs.Bodies.{index_of, pointer_of}
+use Rattle.nodes.specs.Bodies.{index_of, pointer_of}
 
 number_is : (m n : ℕ) → (let o : Option ℕ = Some m in o ≡ Some n) → m ≡ n
 number_is m n e = cc

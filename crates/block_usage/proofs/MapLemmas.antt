@@ -13,8 +13,8 @@ use Rattle.flash_model.specs.Reading.{OnlyReads}
 use Rattle.flash_model.specs.declared.geometry.Geometry.{Geometry}
 use Rattle.history_machine.specs.History.{Past}
 use Rattle.anchors.specs.Reading.{PageReadCause}
-use Rattle.block_trees.specs.Bodies.{Blocks}
-use Rattle.block_trees.specs.Reached.{Reached}
+use Rattle.nodes.specs.Bodies.{Blocks}
+use Rattle.nodes.specs.Reached.{Reached}
 use Rattle.node_store.specs.CachingLaws.{read_truthful}
 use Rattle.node_store.specs.NodePages.{node_of}
 use Rattle.node_store.specs.ReadingLaws.{OnlyReads_nodes}

@@ -9,9 +9,9 @@ use Rattle.fs_types.specs.declared.limits.TheConstants.{ANCHORS}
 use Rattle.block_ring.specs.Ring.{IsDataBlock}
 use Rattle.node_format.specs.Headers.{body_header}
 use Rattle.nodes.specs.Faults.{IsReadFault, IsLookFault}
-use Rattle.block_trees.specs.Bodies.{Blocks, back}
-use Rattle.block_trees.specs.Reached.{Reached, IsFirst}
-use Rattle.block_trees.specs.Trees.{IsRoot}
+use Rattle.nodes.specs.Bodies.{Blocks, back}
+use Rattle.nodes.specs.Reached.{Reached, IsFirst}
+use Rattle.nodes.specs.Trees.{IsRoot}
 use Rattle.reclaim.specs.Passes.{Pass, IsFinished, IsPass}
 use Rattle.reclaim.proofs.Marking.{only_one, pass_marks}
 use Rattle.reclaim.proofs.Soundness.{trees_hold_nodes}

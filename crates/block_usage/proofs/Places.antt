@@ -8,11 +8,11 @@ use Rattle.fs_types.specs.declared.limits.TheConstants.{MAX_ENTRIES, MAX_NAMES}
 use Rattle.node_format.specs.Items.{Item}
 use Rattle.node_format.specs.declared.place.Place.{Place}
 use Rattle.node_format.specs.declared.place.Place.TheVariants.{Dir, File}
-use Rattle.block_trees.specs.Bodies.{Blocks}
-use Rattle.block_trees.specs.Trees.{entries_in, items_in, leads, HasTree, IsRoot}
-use Rattle.block_trees.proofs.ChainCounts.{most_of}
-use Rattle.block_trees.proofs.Chained.{entry_named}
-use Rattle.block_trees.proofs.RootMaps.{leads-append}
+use Rattle.nodes.specs.Bodies.{Blocks}
+use Rattle.nodes.specs.Trees.{entries_in, items_in, leads, HasTree, IsRoot}
+use Rattle.nodes.proofs.ChainCounts.{most_of}
+use Rattle.nodes.proofs.Chained.{entry_named}
+use Rattle.nodes.proofs.RootMaps.{leads-append}
 use Rattle.directory.specs.Places.{placed, places_after}
 use Rattle.node_format.specs.Headers.{body_header}
 use Rattle.block_usage.specs.Usages.{HasRoom, places_at, with_path}

@@ -21,9 +21,9 @@ use Rattle.history_machine.specs.HistoryMaps.{view_refusal-map}
 use Rattle.history_machine.specs.Machine.{found_refusal, refusal, view_tree}
 use Rattle.block_ring.proofs.RingOrder.{contains-insert_same}
 use Rattle.block_ring.specs.Ring.{IsDataBlock}
-use Rattle.block_trees.specs.Bodies.{Blocks}
-use Rattle.block_trees.specs.Reached.{Reached}
-use Rattle.block_trees.specs.Trees.{IsRoot}
+use Rattle.nodes.specs.Bodies.{Blocks}
+use Rattle.nodes.specs.Reached.{Reached}
+use Rattle.nodes.specs.Trees.{IsRoot}
 use Rattle.directory.specs.declared.lookups.Found.TheVariants as found
 use Rattle.node_store.specs.NodePages.{node_of}
 use Rattle.node_store.specs.ReadingLaws.{OnlyReads_nodes}

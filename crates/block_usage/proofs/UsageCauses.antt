@@ -6,8 +6,8 @@ use Rattle.fs_types.specs.Names.{Path}
 use Rattle.fs_types.specs.declared.fault.Fault.{Fault}
 use Rattle.node_format.specs.declared.place.Place.{Place}
 use Rattle.node_format.specs.declared.place.Place.TheVariants.{Dir}
-use Rattle.block_trees.specs.Bodies.{Blocks}
-use Rattle.block_trees.specs.Trees.{leads}
+use Rattle.nodes.specs.Bodies.{Blocks}
+use Rattle.nodes.specs.Trees.{leads}
 use Rattle.nodes.specs.Words.{Looks}
 use Rattle.nodes.specs.declared.nodes.Nodes.{Ghosts}
 use Rattle.block_usage.specs.Usages.{ListCause, ReachMany, UsagesCause, places_at}

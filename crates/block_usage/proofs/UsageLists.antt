@@ -5,7 +5,7 @@ use Rattle.std.specs.FinSet as set
 use Rattle.std.specs.Ordering.{nat_cmp}
 use Rattle.fs_types.specs.Names.{Path}
 use Rattle.node_format.specs.declared.place.Place.{Place}
-use Rattle.block_trees.specs.Bodies.{Blocks}
+use Rattle.nodes.specs.Bodies.{Blocks}
 use Rattle.block_usage.specs.Usages.{AreUsages, IsUsageOf}
 use Rattle.block_usage.specs.declared.usage_list.EntryUsage.{EntryUsage}
 

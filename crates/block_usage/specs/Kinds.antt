@@ -8,7 +8,7 @@ use Rattle.history_machine.specs.History.{Past}
 use Rattle.anchors.specs.declared.best.Found.{Found}
 use Rattle.anchors.specs.Parts.{parts_on, newest_at}
 use Rattle.node_store.specs.NodePages.{node_of}
-use Rattle.block_trees.specs.Reached.{Reached}
+use Rattle.nodes.specs.Reached.{Reached}
 use Rattle.system.specs.CleaningRounds.{IsBlank}
 use Rattle.block_usage.specs.declared.block_kind.BlockKind.{BlockKind}
 

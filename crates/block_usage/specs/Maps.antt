@@ -8,7 +8,7 @@ use Rattle.flash_model.specs.Device.{Device}
 use Rattle.flash_model.specs.Geometry.{IsGeometry}
 use Rattle.flash_model.specs.Reading.{OnlyReads}
 use Rattle.history_machine.specs.History.{Past}
-use Rattle.block_trees.specs.Reached.{Reached}
+use Rattle.nodes.specs.Reached.{Reached}
 use Rattle.node_store.specs.NodePages.{node_of}
 use Rattle.node_store.specs.Fitting.{Fits}
 use Rattle.node_store.specs.declared.storage.Storage.{Storage}

@@ -10,7 +10,7 @@ use Rattle.flash_model.specs.Reading.{OnlyReads}
 use Rattle.history_machine.specs.History.{seen_root}
 use Rattle.history_machine.specs.Machine.{refusal}
 use Rattle.block_ring.specs.Ring.{IsDataBlock}
-use Rattle.block_trees.specs.Reached.{Reached}
+use Rattle.nodes.specs.Reached.{Reached}
 use Rattle.node_store.specs.NodePages.{node_of}
 use Rattle.working_state.specs.Seen.{machine_on}
 use Rattle.working_state.specs.declared.state.State.{State}

@@ -9,9 +9,9 @@ use Rattle.fs_types.specs.declared.fault.Fault.TheVariants.{NoEntry}
 use Rattle.fs_types.specs.declared.limits.TheConstants.{MAX_NAMES}
 use Rattle.node_format.specs.declared.place.Place.{Place}
 use Rattle.node_format.specs.declared.place.Place.TheVariants.{Dir, File}
-use Rattle.block_trees.specs.Bodies.{Blocks, back, head_index}
-use Rattle.block_trees.specs.Reached.{Reached, PlaceNames}
-use Rattle.block_trees.specs.Trees.{items_in, leads}
+use Rattle.nodes.specs.Bodies.{Blocks, back, head_index}
+use Rattle.nodes.specs.Reached.{Reached, PlaceNames}
+use Rattle.nodes.specs.Trees.{items_in, leads}
 use Rattle.directory.specs.Lookups.{look_up}
 use Rattle.directory.specs.declared.lookups.Found.TheVariants as found
 use Rattle.nodes.specs.Faults.{IsLookFault}

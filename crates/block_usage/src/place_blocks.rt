@@ -2,8 +2,8 @@
 ghost use Rattle.std.specs.Prelude.{◌≡◌, ◌+◌, ◌-◌, ◌<◌, [], ◌∷◌, ℕ, Some, length, IfOk, IfErr};
 ghost use Rattle.fs_types.specs.declared.limits.TheConstants.{MAX_NAMES};
 ghost use Rattle.node_format.specs.Headers.{body_header};
-ghost use Rattle.block_trees.specs.Bodies.{back, head_index, index_of, pointer_of, IsBody};
-ghost use Rattle.block_trees.specs.Trees.{HasTree};
+ghost use Rattle.nodes.specs.Bodies.{back, head_index, index_of, pointer_of, IsBody};
+ghost use Rattle.nodes.specs.Trees.{HasTree};
 ghost use Rattle.nodes.specs.Faults.{IsLookFault};
 ghost use Rattle.nodes.specs.Words.{IsRoot, Looks};
 ghost use Rattle.block_usage.specs.Usages as spec;

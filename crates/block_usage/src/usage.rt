@@ -3,7 +3,7 @@ ghost use Rattle.std.specs.Prelude.{◌≡◌, ◌-◌, not, count_by, IfOk, IfE
 ghost use Rattle.std.specs.FinSet as set;
 ghost use Rattle.fs_types.specs.declared.limits.TheConstants.{MAX_NAMES};
 ghost use Rattle.node_format.specs.Headers.{body_header};
-ghost use Rattle.block_trees.specs.Trees.{HasTree};
+ghost use Rattle.nodes.specs.Trees.{HasTree};
 ghost use Rattle.nodes.specs.Faults.{IsLookFault};
 ghost use Rattle.nodes.specs.Words.{Looks};
 ghost use Rattle.block_usage.specs.Usages as spec;

@@ -3,7 +3,7 @@ ghost use Rattle.std.specs.Prelude.{◌≡◌, ◌⊎◌, ◌-◌, ◌≤◌, []
 ghost use Rattle.fs_types.specs.declared.limits.TheConstants.{MAX_NAMES};
 ghost use Rattle.node_format.specs.Headers.{body_header};
 ghost use Rattle.node_format.specs.declared.place.Place.{Place};
-ghost use Rattle.block_trees.specs.Trees.{leads, HasTree};
+ghost use Rattle.nodes.specs.Trees.{leads, HasTree};
 ghost use Rattle.nodes.specs.Faults.{IsLookFault};
 ghost use Rattle.nodes.specs.Words.{IsRoot, Looks};
 ghost use Rattle.block_usage.specs.Usages as spec;

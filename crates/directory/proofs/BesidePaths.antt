@@ -10,8 +10,8 @@ use Rattle.fs_types.proofs.Orders.{same_name-is}
 use Rattle.node_format.specs.Items.{Item, named_place}
 use Rattle.node_format.specs.declared.place.Place.{Place}
 use Rattle.node_format.specs.declared.place.Place.TheVariants.{Dir}
-use Rattle.block_trees.specs.Bodies.{Blocks}
-use Rattle.block_trees.specs.Trees.{entries_in, child, leads}
+use Rattle.nodes.specs.Bodies.{Blocks}
+use Rattle.nodes.specs.Trees.{entries_in, child, leads}
 use Rattle.directory.specs.Lookups.{directory_at, found_of, look_up, way_nodes, ◌>>=◌}
 use Rattle.directory.specs.Moves.{common}
 use Rattle.directory.specs.Beside.{parting, beside_nodes}

@@ -10,10 +10,10 @@ use Rattle.plain_trees.specs.Trees.{nodes_for}
 use Rattle.node_format.specs.Items.{Item, named_place}
 use Rattle.node_format.specs.declared.place.Place.{Place}
 use Rattle.node_format.specs.declared.place.Place.TheVariants.{Dir}
-use Rattle.block_trees.specs.Bodies.{Blocks}
-use Rattle.block_trees.specs.Trees.{entries_in, items_in}
-use Rattle.block_trees.specs.Reached.{Keeps}
-use Rattle.block_trees.specs.Rewritten.{IsDirectoryEdit, IsFreshChain, IsRewritten, IsBranch, IsMoved}
+use Rattle.nodes.specs.Bodies.{Blocks}
+use Rattle.nodes.specs.Trees.{entries_in, items_in}
+use Rattle.nodes.specs.Reached.{Keeps}
+use Rattle.nodes.specs.Rewritten.{IsDirectoryEdit, IsFreshChain, IsRewritten, IsBranch, IsMoved}
 use Rattle.directory.specs.Trails.{IsTrail, IsHeldTrail, takes}
 use Rattle.directory.specs.Counts.{nodes_in, edit_nodes, read_nodes}
 use Rattle.directory.specs.Moves.{IsFork}

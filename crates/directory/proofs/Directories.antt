@@ -7,12 +7,12 @@ use Rattle.fs_types.specs.declared.fault.Fault.{Fault}
 use Rattle.node_format.specs.Items.{Item, named_place}
 use Rattle.node_format.specs.declared.place.Place.{Place}
 use Rattle.node_format.specs.declared.place.Place.TheVariants.{Dir, File}
-use Rattle.block_trees.specs.Bodies.{Blocks}
-use Rattle.block_trees.specs.Chains.{link_of, link_items, entries_after, most_after, entries_in, blocks_after, chain}
-use Rattle.block_trees.specs.Trees.{child}
-use Rattle.block_trees.proofs.Chains.{by_test, AfterParts, none_after, after_parts, first_parts, items_are, listed_after, chain_is}
-use Rattle.block_trees.proofs.Chained.{among_chain}
-use Rattle.block_trees.proofs.ChainCounts.{linked_filled}
+use Rattle.nodes.specs.Bodies.{Blocks}
+use Rattle.nodes.specs.Chains.{link_of, link_items, entries_after, most_after, entries_in, blocks_after, chain}
+use Rattle.nodes.specs.Trees.{child}
+use Rattle.nodes.proofs.Chains.{by_test, AfterParts, none_after, after_parts, first_parts, items_are, listed_after, chain_is}
+use Rattle.nodes.proofs.Chained.{among_chain}
+use Rattle.nodes.proofs.ChainCounts.{linked_filled}
 use Rattle.directory.specs.Seeking.{here_or, seek, entries_along, chain_items}
 use Rattle.directory.specs.Lookups.{place_in, directory_at, below_in, SeekLaw, ◌>>=◌}
 

@@ -10,9 +10,9 @@ use Rattle.fs_types.specs.declared.fault.Fault.{Fault}
 use Rattle.node_format.specs.Items.{Item, named_place}
 use Rattle.node_format.specs.Edits.{IsEdited, edited_count}
 use Rattle.node_format.specs.declared.place.Place.{Place}
-use Rattle.block_trees.specs.Bodies.{Blocks}
-use Rattle.block_trees.specs.Trees.{entries_in, items_in}
-use Rattle.block_trees.specs.Rewritten.{IsFreshChain}
+use Rattle.nodes.specs.Bodies.{Blocks}
+use Rattle.nodes.specs.Trees.{entries_in, items_in}
+use Rattle.nodes.specs.Rewritten.{IsFreshChain}
 use Rattle.directory.specs.Puts.{place_after, count_missing, HasRoomFor, IsPutEach, IsDirectoryPut}
 use Rattle.directory.specs.Reads.{IsReadTo}
 use Rattle.directory.specs.Written.{PutsDirectory}

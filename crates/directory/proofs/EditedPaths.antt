@@ -5,12 +5,12 @@ use Rattle.fs_types.specs.Names.{Path}
 use Rattle.fs_types.specs.declared.fault.Fault.{Fault}
 use Rattle.node_format.specs.declared.place.Place.{Place}
 use Rattle.node_format.specs.declared.place.Place.TheVariants.{Dir}
-use Rattle.block_trees.specs.Bodies.{Blocks}
-use Rattle.block_trees.specs.Reached.{IsHeld, Keeps, Reached, PlaceNames}
-use Rattle.block_trees.specs.Rewritten.{IsFreshNode, IsRewritten}
-use Rattle.block_trees.proofs.EditedTrees.{edit_law}
-use Rattle.block_trees.proofs.EmptyDirectories.{reaches_itself}
-use Rattle.block_trees.proofs.Entries.{place_is}
+use Rattle.nodes.specs.Bodies.{Blocks}
+use Rattle.nodes.specs.Reached.{IsHeld, Keeps, Reached, PlaceNames}
+use Rattle.nodes.specs.Rewritten.{IsFreshNode, IsRewritten}
+use Rattle.nodes.proofs.EditedTrees.{edit_law}
+use Rattle.nodes.proofs.EmptyDirectories.{reaches_itself}
+use Rattle.nodes.proofs.Entries.{place_is}
 use Rattle.directory.specs.Edits.{OnlyReaches}
 use Rattle.directory.specs.Making.{IsNewDirectory}
 

@@ -12,9 +12,9 @@ use Rattle.node_format.specs.Items.{Item, named_place}
 use Rattle.node_format.specs.Edits.{edited_count, IsEdited}
 use Rattle.node_format.specs.declared.place.Place.{Place}
 use Rattle.node_format.specs.declared.place.Place.TheVariants.{Dir}
-use Rattle.block_trees.specs.Bodies.{Blocks}
-use Rattle.block_trees.specs.Trees.{child, leads}
-use Rattle.block_trees.specs.Reached.{IsHeld}
+use Rattle.nodes.specs.Bodies.{Blocks}
+use Rattle.nodes.specs.Trees.{child, leads}
+use Rattle.nodes.specs.Reached.{IsHeld}
 use Rattle.directory.specs.Lookups.{look_up}
 use Rattle.directory.specs.Trails.{IsTrail, has_room, takes}
 use Rattle.directory.specs.Moves.{common, IsFork}

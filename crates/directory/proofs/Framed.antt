@@ -9,11 +9,11 @@ use Rattle.node_format.specs.EntryLaws.{named-contained}
 use Rattle.node_format.specs.Links.{Link}
 use Rattle.node_format.specs.declared.place.Place.{Place}
 use Rattle.node_format.specs.declared.place.Place.TheVariants.{Dir, File}
-use Rattle.block_trees.specs.Bodies.{Blocks}
-use Rattle.block_trees.specs.Chains.{link_of, link_items, next_of, is_later, most_after, blocks_after, chain}
-use Rattle.block_trees.specs.Reached.{Reached, IsNamed, PlaceNames}
-use Rattle.block_trees.proofs.Chains.{by_test, head_of, tail_of, chain_frame, next_is, items_are}
-use Rattle.block_trees.proofs.Chained.{reached_chain}
+use Rattle.nodes.specs.Bodies.{Blocks}
+use Rattle.nodes.specs.Chains.{link_of, link_items, next_of, is_later, most_after, blocks_after, chain}
+use Rattle.nodes.specs.Reached.{Reached, IsNamed, PlaceNames}
+use Rattle.nodes.proofs.Chains.{by_test, head_of, tail_of, chain_frame, next_is, items_are}
+use Rattle.nodes.proofs.Chained.{reached_chain}
 use Rattle.directory.specs.Seeking.{here_or, seek, seek_link, seek_later, seek_first, entries_along, chain_items}
 use Rattle.directory.specs.Lookups.{place_in, directory_at, below_in, ◌>>=◌}
 

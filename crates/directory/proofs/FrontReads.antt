@@ -11,9 +11,9 @@ use Rattle.std.specs.Option.{option_map_or}
 use Rattle.node_format.specs.Items.{Item}
 use Rattle.node_format.specs.Links.{Link, link_at}
 use Rattle.nodes.specs.Parts.{IsFront}
-use Rattle.block_trees.specs.Bodies.{Blocks}
-use Rattle.block_trees.specs.Chains.{link_of, link_items, next_of, most_after, entries_in}
-use Rattle.block_trees.proofs.Chained.{among_chain}
+use Rattle.nodes.specs.Bodies.{Blocks}
+use Rattle.nodes.specs.Chains.{link_of, link_items, next_of, most_after, entries_in}
+use Rattle.nodes.proofs.Chained.{among_chain}
 use Rattle.directory.proofs.Walks.{IsWalk, walk_less, walk_here}
 
 -- a node of a directory, and what its front tells

@@ -2,11 +2,11 @@
 use Rattle.std.proofs.Common.{◌≡◌, ℕ, Bool, Option, unwrap_or, List, [], ◌∷◌, refl, sym, ap, subst}
 use Rattle.node_format.specs.Items.{Item}
 use Rattle.node_format.specs.declared.place.Place.TheVariants.{Dir}
-use Rattle.block_trees.specs.Bodies.{Blocks}
-use Rattle.block_trees.specs.Chains.{entries_in, items_in, chain}
-use Rattle.block_trees.specs.Reached.{IsHeld, Keeps, Reached, IsFirst, IsNamed, Names}
-use Rattle.block_trees.proofs.Chains.{chain_frame}
-use Rattle.block_trees.proofs.Chained.{reached_chain}
+use Rattle.nodes.specs.Bodies.{Blocks}
+use Rattle.nodes.specs.Chains.{entries_in, items_in, chain}
+use Rattle.nodes.specs.Reached.{IsHeld, Keeps, Reached, IsFirst, IsNamed, Names}
+use Rattle.nodes.proofs.Chains.{chain_frame}
+use Rattle.nodes.proofs.Chained.{reached_chain}
 
 reached_before : (f g : Blocks) (root : ℕ) → ((b : ℕ) → Reached f (root ∷ []) b → g b ≡ f b) → {b : ℕ} → Reached g (root ∷ []) b → Reached f (root ∷ []) b
 reached_before f g root same (IsFirst first) = IsFirst first

@@ -8,10 +8,10 @@ use Rattle.std.proofs.lemmas.Bool.{true≢false, eqb-true, ltb-true, ltb-false, 
 use Rattle.block_ring.specs.BlockSet.{BlockSet}
 use Rattle.node_format.specs.Items.{Item}
 use Rattle.node_format.specs.Order.{both_true}
-use Rattle.block_trees.specs.Bodies.{Blocks}
-use Rattle.block_trees.specs.Chains.{link_of, link_items, next_of, most_after, entries_in, blocks_after, chain}
-use Rattle.block_trees.proofs.Chains.{by_test, head_of, either_of, next_is, items_are}
-use Rattle.block_trees.proofs.Chained.{among_chain, held_chain}
+use Rattle.nodes.specs.Bodies.{Blocks}
+use Rattle.nodes.specs.Chains.{link_of, link_items, next_of, most_after, entries_in, blocks_after, chain}
+use Rattle.nodes.proofs.Chains.{by_test, head_of, either_of, next_is, items_are}
+use Rattle.nodes.proofs.Chained.{among_chain, held_chain}
 use Rattle.directory.specs.Depths.{count_below, is_directory_at, names_directory, is_left, IsSeen, AreFoundBelow, NamesWhole, AreOf, AreAmong, AreNamedBy, HasDirectories, is_loud}
 use Rattle.directory.proofs.Counting.{count_put, count_most, loud_put}
 use Rattle.directory.proofs.Levels.{any_contains, contains_insert}

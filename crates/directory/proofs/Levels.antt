@@ -13,13 +13,13 @@ use Rattle.fs_types.proofs.Orders.{same_name-own}
 use Rattle.node_format.specs.Items.{Item, named_place}
 use Rattle.node_format.specs.declared.place.Place.{Place}
 use Rattle.node_format.specs.declared.place.Place.TheVariants.{Dir, File}
-use Rattle.block_trees.specs.Bodies.{Blocks}
-use Rattle.block_trees.specs.Chains.{link_of, link_items, and_after, entries_after, most_after, in_order}
-use Rattle.block_trees.specs.Trees.{child, leads, entries_in, items_in}
-use Rattle.block_trees.specs.Laws.{IsShallow}
-use Rattle.block_trees.proofs.Chains.{by_test}
-use Rattle.block_trees.proofs.Chained.{entry_named}
-use Rattle.block_trees.proofs.RootMaps.{leads-append}
+use Rattle.nodes.specs.Bodies.{Blocks}
+use Rattle.nodes.specs.Chains.{link_of, link_items, and_after, entries_after, most_after, in_order}
+use Rattle.nodes.specs.Trees.{child, leads, entries_in, items_in}
+use Rattle.nodes.specs.TreeLaws.{IsShallow}
+use Rattle.nodes.proofs.Chains.{by_test}
+use Rattle.nodes.proofs.Chained.{entry_named}
+use Rattle.nodes.proofs.RootMaps.{leads-append}
 use Rattle.directory.specs.Lookups.{LeadsToDirectories}
 use Rattle.directory.proofs.Directories.{empty_first}
 use Rattle.directory.specs.Depths.{IsDeeper, is_directory_at, names_directory, AreNamedBy, HasBlocks}

@@ -15,12 +15,12 @@ use Rattle.node_format.specs.EntryLaws.{same_name-true, contained-named_place}
 use Rattle.node_format.specs.Order.{both_true, and_true, AreParts, ascending_parts}
 use Rattle.node_format.specs.declared.place.Place.{Place}
 use Rattle.node_format.specs.declared.place.Place.TheVariants.{Dir}
-use Rattle.block_trees.specs.Bodies.{Blocks}
-use Rattle.block_trees.specs.Chains.{entries_in, items_in}
-use Rattle.block_trees.specs.Reached.{IsHeld}
-use Rattle.block_trees.specs.Rewritten.{IsDirectoryEdit, IsSecondEdit, IsFreshChain}
-use Rattle.block_trees.proofs.Chains.{by_test, first_parts}
-use Rattle.block_trees.proofs.Chained.{reached_chain}
+use Rattle.nodes.specs.Bodies.{Blocks}
+use Rattle.nodes.specs.Chains.{entries_in, items_in}
+use Rattle.nodes.specs.Reached.{IsHeld}
+use Rattle.nodes.specs.Rewritten.{IsDirectoryEdit, IsSecondEdit, IsFreshChain}
+use Rattle.nodes.proofs.Chains.{by_test, first_parts}
+use Rattle.nodes.proofs.Chained.{reached_chain}
 use Rattle.directory.specs.Counts.{edit_nodes, written_nodes, entries_to}
 use Rattle.directory.specs.Moves.{IsEditedTwice}
 use Rattle.directory.specs.Reads.{IsReadTo, IsEnough}

@@ -3,9 +3,9 @@ use Rattle.std.proofs.Common.{◌≡◌, ℕ, ◌+◌, ◌-◌, ◌<◌, ◌≤�
 use Rattle.std.proofs.lemmas.List.{map-append}
 use Rattle.fs_types.specs.Names.{Name}
 use Rattle.node_format.specs.Items.{Item, is_dir_place}
-use Rattle.block_trees.specs.Bodies.{Blocks}
-use Rattle.block_trees.specs.Chains.{link_of, link_items, next_of, most_after, entries_in, chain}
-use Rattle.block_trees.specs.Trees.{names_of}
+use Rattle.nodes.specs.Bodies.{Blocks}
+use Rattle.nodes.specs.Chains.{link_of, link_items, next_of, most_after, entries_in, chain}
+use Rattle.nodes.specs.Trees.{names_of}
 use Rattle.directory.specs.Seeking.{entries_along}
 use Rattle.directory.proofs.Walks.{IsWalk, one_along, more_along, walk_begun, walk_on, walk_less, walk_over, walk_more, walk_here}
 use Rattle.directory.proofs.Directories.{along_chain, no_directory}

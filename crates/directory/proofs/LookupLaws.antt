@@ -10,9 +10,9 @@ use Rattle.fs_types.specs.declared.fault.Fault.TheVariants.{NoEntry, NotDirector
 use Rattle.node_format.specs.Items.{Item, named_place}
 use Rattle.node_format.specs.declared.place.Place.{Place}
 use Rattle.node_format.specs.declared.place.Place.TheVariants.{Dir, File}
-use Rattle.block_trees.specs.Bodies.{Blocks}
-use Rattle.block_trees.specs.Trees.{entries_in, items_in, child, leads, entry_at, tree, HasTree, IsRoot}
-use Rattle.block_trees.proofs.RootMaps.{leads-append}
+use Rattle.nodes.specs.Bodies.{Blocks}
+use Rattle.nodes.specs.Trees.{entries_in, items_in, child, leads, entry_at, tree, HasTree, IsRoot}
+use Rattle.nodes.proofs.RootMaps.{leads-append}
 use Rattle.directory.specs.declared.lookups.Found.{Found}
 use Rattle.directory.specs.declared.lookups.Found.TheVariants as variant
 use Rattle.directory.specs.Seeking.{chain_items}

@@ -8,13 +8,13 @@ use Rattle.fs_types.specs.declared.fault.Fault.{Fault}
 use Rattle.fs_types.proofs.Orders.{same_name-is, same_name-own}
 use Rattle.node_format.specs.declared.place.Place.{Place}
 use Rattle.node_format.specs.declared.place.Place.TheVariants.{Dir}
-use Rattle.block_trees.specs.Bodies.{Blocks}
-use Rattle.block_trees.specs.Chains.{entries_in, chain}
-use Rattle.block_trees.specs.Trees.{child, leads}
-use Rattle.block_trees.specs.Reached.{IsHeld, Keeps, Reached, PlaceNames}
-use Rattle.block_trees.specs.Rewritten.{IsFreshNode, IsFreshChain, IsSecondEdit, IsBranch, IsMoved}
-use Rattle.block_trees.proofs.Reaching.{held_child}
-use Rattle.block_trees.proofs.MovedTrees.{move_law}
+use Rattle.nodes.specs.Bodies.{Blocks}
+use Rattle.nodes.specs.Chains.{entries_in, chain}
+use Rattle.nodes.specs.Trees.{child, leads}
+use Rattle.nodes.specs.Reached.{IsHeld, Keeps, Reached, PlaceNames}
+use Rattle.nodes.specs.Rewritten.{IsFreshNode, IsFreshChain, IsSecondEdit, IsBranch, IsMoved}
+use Rattle.nodes.proofs.Reaching.{held_child}
+use Rattle.nodes.proofs.MovedTrees.{move_law}
 use Rattle.directory.specs.Edits.{OnlyReaches}
 use Rattle.directory.proofs.Held.{held_later, same_held}
 use Rattle.directory.proofs.NewDirectories.{child_is, fresh_before, rewritten_before}

@@ -6,12 +6,12 @@ use Rattle.fs_types.specs.declared.fault.Fault.{Fault}
 use Rattle.node_format.specs.Items.{Item, named_place}
 use Rattle.node_format.specs.declared.place.Place.{Place}
 use Rattle.node_format.specs.declared.place.Place.TheVariants.{Dir}
-use Rattle.block_trees.specs.Bodies.{Blocks}
-use Rattle.block_trees.specs.Chains.{entries_in}
-use Rattle.block_trees.specs.Trees.{child}
-use Rattle.block_trees.specs.Reached.{IsHeld, Keeps}
-use Rattle.block_trees.specs.Rewritten.{IsDirectoryEdit, IsFreshChain, IsRewritten}
-use Rattle.block_trees.proofs.Reaching.{held_child}
+use Rattle.nodes.specs.Bodies.{Blocks}
+use Rattle.nodes.specs.Chains.{entries_in}
+use Rattle.nodes.specs.Trees.{child}
+use Rattle.nodes.specs.Reached.{IsHeld, Keeps}
+use Rattle.nodes.specs.Rewritten.{IsDirectoryEdit, IsFreshChain, IsRewritten}
+use Rattle.nodes.proofs.Reaching.{held_child}
 use Rattle.directory.specs.declared.lookups.Found.{Found}
 use Rattle.directory.specs.Lookups.{◌>>=◌}
 use Rattle.directory.proofs.Held.{same_held}

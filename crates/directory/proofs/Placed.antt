@@ -8,8 +8,8 @@ use Rattle.std.proofs.lemmas.List.Elements.{filter-append}
 use Rattle.fs_types.specs.Names.{Name, is_after}
 use Rattle.node_format.specs.Items.{Item}
 use Rattle.node_format.specs.declared.place.Place.{Place}
-use Rattle.block_trees.specs.Bodies.{Blocks}
-use Rattle.block_trees.specs.Chains.{link_items, next_of, most_after, entries_in, blocks_after, chain}
+use Rattle.nodes.specs.Bodies.{Blocks}
+use Rattle.nodes.specs.Chains.{link_items, next_of, most_after, entries_in, blocks_after, chain}
 use Rattle.directory.specs.Places.{placed, places_after, is_read}
 use Rattle.directory.specs.Seeking.{entries_along}
 use Rattle.directory.proofs.Walks.{IsWalk, append_none, one_along, more_along, walk_begun, walk_on, walk_less, walk_over}

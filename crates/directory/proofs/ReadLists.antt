@@ -11,10 +11,10 @@ use Rattle.node_format.specs.Items.{Item, named_place, are_ascending}
 use Rattle.node_format.specs.Links.{Link}
 use Rattle.node_format.specs.Order.{both_true, ascending_parts}
 use Rattle.node_format.specs.declared.place.Place.{Place}
-use Rattle.block_trees.specs.Bodies.{Blocks}
-use Rattle.block_trees.specs.Chains.{link_of, entries_after, blocks_after, most_after, is_later, entries_in, items_in}
-use Rattle.block_trees.proofs.Chains.{by_test, tail_of, none_after, HasNodeAfter, after_parts, first_parts, listed_after, chain_is}
-use Rattle.block_trees.proofs.ChainCounts.{linked_filled, most_of}
+use Rattle.nodes.specs.Bodies.{Blocks}
+use Rattle.nodes.specs.Chains.{link_of, entries_after, blocks_after, most_after, is_later, entries_in, items_in}
+use Rattle.nodes.proofs.Chains.{by_test, tail_of, none_after, HasNodeAfter, after_parts, first_parts, listed_after, chain_is}
+use Rattle.nodes.proofs.ChainCounts.{linked_filled, most_of}
 use Rattle.directory.specs.Counts.{entries_to, read_nodes}
 use Rattle.directory.specs.Reads.{IsReadTo, MayAppend, IsAppended, is_enough, IsEnough}
 

@@ -4,9 +4,9 @@ use Rattle.std.specs.Option.{option_map_or, option_and_then}
 use Rattle.fs_types.specs.Names.{Name}
 use Rattle.node_format.specs.Items.{Item, is_dir_place}
 use Rattle.node_format.specs.Links.{Link, link_at}
-use Rattle.block_trees.specs.Bodies.{Blocks}
-use Rattle.block_trees.specs.Chains.{link_of, link_items}
-use Rattle.block_trees.specs.Trees.{names_of}
+use Rattle.nodes.specs.Bodies.{Blocks}
+use Rattle.nodes.specs.Chains.{link_of, link_items}
+use Rattle.nodes.specs.Trees.{names_of}
 
 -- the node in the bytes that were lent
 pub link_shown : (f : Blocks) (block : ℕ) (shown bytes : List ℕ) (link : Option Link) → f block ≡ Some shown → bytes ≡ shown → link ≡ link_at bytes → link_of (f block) ≡ link

@@ -4,12 +4,12 @@ use Rattle.std.specs.Prelude.{Contains}
 use Rattle.fs_types.specs.Names.{Name, Path}
 use Rattle.node_format.specs.declared.place.Place.{Place}
 use Rattle.node_format.specs.declared.place.Place.TheVariants.{Dir}
-use Rattle.block_trees.specs.Bodies.{Blocks}
-use Rattle.block_trees.specs.Chains.{entries_in, chain, is_chained}
-use Rattle.block_trees.specs.Trees.{child}
-use Rattle.block_trees.specs.Reached.{Keeps}
-use Rattle.block_trees.specs.Rewritten.{IsDirectoryEdit, IsFreshChain, IsRewritten}
-use Rattle.block_trees.proofs.Chains.{chain_frame}
+use Rattle.nodes.specs.Bodies.{Blocks}
+use Rattle.nodes.specs.Chains.{entries_in, chain, is_chained}
+use Rattle.nodes.specs.Trees.{child}
+use Rattle.nodes.specs.Reached.{Keeps}
+use Rattle.nodes.specs.Rewritten.{IsDirectoryEdit, IsFreshChain, IsRewritten}
+use Rattle.nodes.proofs.Chains.{chain_frame}
 use Rattle.directory.proofs.NewDirectories.{edit_before}
 
 -- ---- what was written stays while other nodes are written

@@ -4,8 +4,8 @@ use Rattle.std.specs.Prelude.{IsSome}
 use Rattle.std.specs.Option.{option_and_then}
 use Rattle.node_format.specs.declared.place.Place.{Place}
 use Rattle.node_format.specs.declared.place.Place.TheVariants.{Dir}
-use Rattle.block_trees.specs.Trees.{leads}
-use Rattle.block_trees.proofs.RootMaps.{leads-append}
+use Rattle.nodes.specs.Trees.{leads}
+use Rattle.nodes.proofs.RootMaps.{leads-append}
 use Rattle.directory.specs.Depths.{AsDeepLaw, FileLaw}
 
 pub as_deep : AsDeepLaw

@@ -7,8 +7,8 @@ use Rattle.fs_types.specs.declared.fault.Fault.TheVariants.{Damaged}
 use Rattle.node_format.specs.Items.{Item}
 use Rattle.node_format.specs.Links.{Link}
 use Rattle.node_format.specs.declared.place.Place.{Place}
-use Rattle.block_trees.specs.Bodies.{Blocks}
-use Rattle.block_trees.specs.Chains.{link_of, link_items, next_of, is_later, most_after, chain}
+use Rattle.nodes.specs.Bodies.{Blocks}
+use Rattle.nodes.specs.Chains.{link_of, link_items, next_of, is_later, most_after, chain}
 use Rattle.directory.specs.Seeking.{here_or, seek, seek_later, seek_first, place_in, entries_along, chain_items, Sees, is_over}
 use Rattle.directory.proofs.Walks.{IsWalk, one_along, more_along, walk_begun, walk_on, walk_less, walk_over, walk_most, walk_more}
 

@@ -16,13 +16,13 @@ use Rattle.plain_trees.proofs.Needs.{nodes_for-le, sum_below-le}
 use Rattle.node_format.specs.Items.{Item, named_place}
 use Rattle.node_format.specs.declared.place.Place.{Place}
 use Rattle.node_format.specs.declared.place.Place.TheVariants.{Dir, File}
-use Rattle.block_trees.specs.Bodies.{Blocks}
-use Rattle.block_trees.specs.Chains.{chain}
-use Rattle.block_trees.specs.Trees.{child, leads, entries_in, items_in}
-use Rattle.block_trees.specs.Reached.{IsHeld, Keeps, Reached}
-use Rattle.block_trees.specs.Rewritten.{IsDirectoryEdit, IsFreshChain, IsRewritten}
-use Rattle.block_trees.proofs.Chained.{reached_chain}
-use Rattle.block_trees.proofs.Reaching.{held_child, held_leads, reached_via}
+use Rattle.nodes.specs.Bodies.{Blocks}
+use Rattle.nodes.specs.Chains.{chain}
+use Rattle.nodes.specs.Trees.{child, leads, entries_in, items_in}
+use Rattle.nodes.specs.Reached.{IsHeld, Keeps, Reached}
+use Rattle.nodes.specs.Rewritten.{IsDirectoryEdit, IsFreshChain, IsRewritten}
+use Rattle.nodes.proofs.Chained.{reached_chain}
+use Rattle.nodes.proofs.Reaching.{held_child, held_leads, reached_via}
 use Rattle.directory.specs.Counts.{nodes_in, edit_nodes, read_nodes, path_nodes}
 use Rattle.directory.specs.Lookups.{directory_at, below_in, found_of, found_in, look_up, ◌>>=◌}
 use Rattle.directory.specs.Seeking.{place_in, chain_items}

@@ -4,8 +4,8 @@ use Rattle.std.specs.Prelude.{Contains}
 use Rattle.std.proofs.lemmas.List.Concat.{flat_map-append}
 use Rattle.std.proofs.lemmas.List.Elements.{Contains-append_right}
 use Rattle.node_format.specs.Items.{Item}
-use Rattle.block_trees.specs.Bodies.{Blocks}
-use Rattle.block_trees.specs.Chains.{next_of, link_items, most_after, blocks_after, chain}
+use Rattle.nodes.specs.Bodies.{Blocks}
+use Rattle.nodes.specs.Chains.{next_of, link_items, most_after, blocks_after, chain}
 use Rattle.directory.specs.Seeking.{entries_along}
 
 -- so many nodes of a directory were read, in these blocks; those that are left are at most so many, from a block on

@@ -12,12 +12,12 @@ use Rattle.plain_trees.specs.Trees.{Tree, children, entry_count, nodes_for, dire
 use Rattle.node_format.specs.Items.{Item, is_dir_place}
 use Rattle.node_format.specs.declared.place.Place.{Place}
 use Rattle.node_format.specs.declared.place.Place.TheVariants.{Dir}
-use Rattle.block_trees.specs.Bodies.{Blocks}
-use Rattle.block_trees.specs.Chains.{next_of, most_after, items_in, blocks_after, chain}
-use Rattle.block_trees.specs.Trees.{child, leads, root_tree, names_of}
-use Rattle.block_trees.proofs.ChainCounts.{count_law}
-use Rattle.block_trees.proofs.Chains.{by_test}
-use Rattle.block_trees.proofs.RootMaps.{leads-append, map_law}
+use Rattle.nodes.specs.Bodies.{Blocks}
+use Rattle.nodes.specs.Chains.{next_of, most_after, items_in, blocks_after, chain}
+use Rattle.nodes.specs.Trees.{child, leads, root_tree, names_of}
+use Rattle.nodes.proofs.ChainCounts.{count_law}
+use Rattle.nodes.proofs.Chains.{by_test}
+use Rattle.nodes.proofs.RootMaps.{leads-append, map_law}
 use Rattle.directory.specs.Lookups.{below_in, nodes_on_way, way_nodes, LeadsToDirectories, MostNodesLaw, TreeNodesLaw}
 use Rattle.directory.proofs.LookupLaws.{rooted_leads}
 use Rattle.directory.proofs.Directories.{child_below}

@@ -8,9 +8,9 @@ use Rattle.fs_types.specs.Names.{Path}
 use Rattle.fs_types.specs.declared.fault.Fault.{Fault}
 use Rattle.node_format.specs.declared.place.Place.{Place}
 use Rattle.node_format.specs.declared.place.Place.TheVariants.{Dir}
-use Rattle.block_trees.specs.Bodies.{Blocks}
-use Rattle.block_trees.specs.Trees.{child, leads}
-use Rattle.block_trees.proofs.RootMaps.{leads-append}
+use Rattle.nodes.specs.Bodies.{Blocks}
+use Rattle.nodes.specs.Trees.{child, leads}
+use Rattle.nodes.proofs.RootMaps.{leads-append}
 use Rattle.directory.specs.Lookups.{below_in, look_up, LeadsToDirectories, ◌>>=◌}
 use Rattle.directory.specs.Trails.{IsTrail, IsWay}
 

@@ -9,10 +9,10 @@ use Rattle.fs_types.specs.declared.limits.TheConstants.{ANCHORS, NODE_ENTRIES}
 use Rattle.fs_types.specs.declared.fault.Fault.{Fault}
 use Rattle.node_format.specs.Items.{Item, are_ascending}
 use Rattle.node_format.specs.Links.{Link, link, link_at}
-use Rattle.block_trees.specs.Bodies.{Blocks}
-use Rattle.block_trees.specs.Chains.{link_of, is_chained, next_of, is_later, entries_after, blocks_after, most_after, entries_in, chain}
-use Rattle.block_trees.specs.Rewritten.{IsFreshNode}
-use Rattle.block_trees.proofs.Chains.{after_same, step_law, first_law, none_after, AfterParts, after_parts, listed_after, chain_is, after_raise}
+use Rattle.nodes.specs.Bodies.{Blocks}
+use Rattle.nodes.specs.Chains.{link_of, is_chained, next_of, is_later, entries_after, blocks_after, most_after, entries_in, chain}
+use Rattle.nodes.specs.Rewritten.{IsFreshNode}
+use Rattle.nodes.proofs.Chains.{after_same, step_law, first_law, none_after, AfterParts, after_parts, listed_after, chain_is, after_raise}
 use Rattle.directory.specs.Written.{IsOneMore, IsKeptAfter, IsPut, PutsBefore, IsDirectoryPut, PutsDirectory}
 
 none_some : (bytes : List ℕ) (found : Option (List ℕ)) → found ≡ None → found ≡ Some bytes → ⊥

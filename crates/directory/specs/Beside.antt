@@ -1,7 +1,7 @@
 -- A look up of a path beside another one that was looked up before.
 use Rattle.std.specs.Prelude.{ℕ, ◌-◌, min, List, length, drop, slice_index_or}
 use Rattle.fs_types.specs.Names.{Path}
-use Rattle.block_trees.specs.Bodies.{Blocks}
+use Rattle.nodes.specs.Bodies.{Blocks}
 use Rattle.directory.specs.Lookups.{way_nodes}
 use Rattle.directory.specs.Moves.{common}
 

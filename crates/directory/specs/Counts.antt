@@ -7,8 +7,8 @@ use Rattle.plain_trees.specs.Trees.{nodes_for}
 use Rattle.node_format.specs.Items.{Item, named_place}
 use Rattle.node_format.specs.Edits.{edited_count}
 use Rattle.node_format.specs.declared.place.Place.{Place}
-use Rattle.block_trees.specs.Bodies.{Blocks}
-use Rattle.block_trees.specs.Chains.{items_in}
+use Rattle.nodes.specs.Bodies.{Blocks}
+use Rattle.nodes.specs.Chains.{items_in}
 use Rattle.directory.specs.Moves.{common}
 
 -- how many nodes the directory that begins in a block has

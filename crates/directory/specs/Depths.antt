@@ -8,10 +8,10 @@ use Rattle.fs_types.specs.declared.limits.TheConstants.{MAX_NAMES}
 use Rattle.node_format.specs.Items.{Item}
 use Rattle.node_format.specs.declared.place.Place.{Place}
 use Rattle.node_format.specs.declared.place.Place.TheVariants.{Dir, File}
-use Rattle.block_trees.specs.Bodies.{Blocks}
-use Rattle.block_trees.specs.Chains.{link_items, next_of}
-use Rattle.block_trees.specs.Trees.{entries_in, items_in, leads, IsRoot}
-use Rattle.block_trees.specs.Laws.{IsShallow}
+use Rattle.nodes.specs.Bodies.{Blocks}
+use Rattle.nodes.specs.Chains.{link_items, next_of}
+use Rattle.nodes.specs.Trees.{entries_in, items_in, leads, IsRoot}
+use Rattle.nodes.specs.TreeLaws.{IsShallow}
 
 -- some path below a place has more names than these
 abbrev pub IsDeeper : Blocks → Place → ℕ → Type 0

@@ -1,9 +1,9 @@
 -- What the root of a path of directories written anew reaches.
 use Rattle.std.specs.Prelude.{◌≡◌, ◌⊎◌, ℕ, Bool, Option, Some, [], ◌∷◌}
 use Rattle.node_format.specs.declared.place.Place.{Place}
-use Rattle.block_trees.specs.Bodies.{Blocks}
-use Rattle.block_trees.specs.Reached.{Reached, PlaceNames}
-use Rattle.block_trees.specs.Rewritten.{IsFreshNode}
+use Rattle.nodes.specs.Bodies.{Blocks}
+use Rattle.nodes.specs.Reached.{Reached, PlaceNames}
+use Rattle.nodes.specs.Rewritten.{IsFreshNode}
 
 -- each block that the new root reaches was reached by the old one, or is a new node of a chain in one that was not kept, or is
 -- reached from the new entry

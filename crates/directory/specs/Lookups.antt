@@ -10,9 +10,9 @@ use Rattle.nodes.specs.Faults.{is_read_fault}
 use Rattle.node_format.specs.Items.{Item, named_place}
 use Rattle.node_format.specs.declared.place.Place.{Place}
 use Rattle.node_format.specs.declared.place.Place.TheVariants.{Dir, File}
-use Rattle.block_trees.specs.Bodies.{Blocks, body}
-use Rattle.block_trees.specs.Chains.{chain}
-use Rattle.block_trees.specs.Trees.{entries_in, leads, tree, root_tree, IsRoot}
+use Rattle.nodes.specs.Bodies.{Blocks, body}
+use Rattle.nodes.specs.Chains.{chain}
+use Rattle.nodes.specs.Trees.{entries_in, leads, tree, root_tree, IsRoot}
 use Rattle.directory.specs.Seeking.{chain_items}
 pub use Rattle.directory.specs.Seeking.{place_in}
 use Rattle.directory.specs.declared.lookups.Found.{Found}

@@ -2,9 +2,9 @@
 use Rattle.std.specs.Prelude.{◌≡◌, ℕ, Bool, true, Some, []}
 use Rattle.fs_types.specs.Names.{Path}
 use Rattle.node_format.specs.declared.place.Place.TheVariants.{Dir}
-use Rattle.block_trees.specs.Bodies.{Blocks}
-use Rattle.block_trees.specs.Trees.{entries_in}
-use Rattle.block_trees.specs.Rewritten.{IsFreshNode, IsRewritten}
+use Rattle.nodes.specs.Bodies.{Blocks}
+use Rattle.nodes.specs.Trees.{entries_in}
+use Rattle.nodes.specs.Rewritten.{IsFreshNode, IsRewritten}
 
 -- the path leads to a new empty directory, one node of a chain in a block that was not kept and is now, and each directory along
 -- it was written anew

@@ -6,9 +6,9 @@ use Rattle.node_format.specs.Items.{Item, are_entries, named_place, is_place}
 use Rattle.node_format.specs.Edits.{edited_count}
 use Rattle.node_format.specs.declared.place.Place.{Place}
 use Rattle.node_format.specs.declared.place.Place.TheVariants.{Dir}
-use Rattle.block_trees.specs.Bodies.{Blocks}
-use Rattle.block_trees.specs.Reached.{IsHeld}
-use Rattle.block_trees.specs.Trees.{child, leads, entries_in}
+use Rattle.nodes.specs.Bodies.{Blocks}
+use Rattle.nodes.specs.Reached.{IsHeld}
+use Rattle.nodes.specs.Trees.{child, leads, entries_in}
 use Rattle.directory.specs.Lookups.{look_up}
 use Rattle.directory.specs.Trails.{IsTrail, IsHeldTrail, TakesName, has_room, takes}
 

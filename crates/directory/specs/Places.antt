@@ -5,8 +5,8 @@ use Rattle.fs_types.specs.declared.call.Stat.{Stat}
 use Rattle.node_format.specs.Items.{Item}
 use Rattle.node_format.specs.declared.place.Place.{Place}
 use Rattle.node_format.specs.declared.place.Place.TheVariants.{Dir, File}
-use Rattle.block_trees.specs.Bodies.{Blocks}
-use Rattle.block_trees.specs.Chains.{entries_in, items_in, chain}
+use Rattle.nodes.specs.Bodies.{Blocks}
+use Rattle.nodes.specs.Chains.{entries_in, items_in, chain}
 
 -- an entry by its name and its place
 abbrev pub placed : Item → Name × Place

@@ -5,8 +5,8 @@ use Rattle.fs_types.specs.declared.limits.TheConstants.{MAX_ENTRIES}
 use Rattle.node_format.specs.Items.{Item, are_entries, is_place, named_place}
 use Rattle.node_format.specs.declared.place.Place.{Place}
 use Rattle.node_format.specs.declared.place.Place.TheVariants.{Dir}
-use Rattle.block_trees.specs.Bodies.{Blocks}
-use Rattle.block_trees.specs.Trees.{child, entries_in}
+use Rattle.nodes.specs.Bodies.{Blocks}
+use Rattle.nodes.specs.Trees.{child, entries_in}
 use Rattle.directory.specs.declared.directory_puts.NamedPlace.{NamedPlace}
 
 -- what a name leads to once names were put in order, which led to this before

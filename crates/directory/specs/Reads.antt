@@ -5,8 +5,8 @@ use Rattle.fs_types.specs.declared.limits.TheConstants.{NODE_ENTRIES, CHAIN_NODE
 use Rattle.fs_types.specs.Names.{Name}
 use Rattle.node_format.specs.Items.{Item, named_place, are_ascending}
 use Rattle.node_format.specs.Links.{Link}
-use Rattle.block_trees.specs.Bodies.{Blocks}
-use Rattle.block_trees.specs.Chains.{entries_after, blocks_after, entries_in, chain}
+use Rattle.nodes.specs.Bodies.{Blocks}
+use Rattle.nodes.specs.Chains.{entries_after, blocks_after, entries_in, chain}
 use Rattle.plain_trees.specs.Trees.{nodes_for}
 use Rattle.directory.specs.Counts.{entries_to}
 

@@ -8,8 +8,8 @@ use Rattle.fs_types.specs.declared.fault.Fault.TheVariants.{Damaged}
 use Rattle.node_format.specs.Items.{Item, named_place}
 use Rattle.node_format.specs.declared.place.Place.{Place}
 use Rattle.node_format.specs.Links.{Link}
-use Rattle.block_trees.specs.Bodies.{Blocks}
-use Rattle.block_trees.specs.Chains.{link_of, link_items, is_later, most_after, chain}
+use Rattle.nodes.specs.Bodies.{Blocks}
+use Rattle.nodes.specs.Chains.{link_of, link_items, is_later, most_after, chain}
 
 -- the place in this node, or what the nodes after it say
 abbrev pub here_or : Option Place → Result (Option Place) Fault → Result (Option Place) Fault

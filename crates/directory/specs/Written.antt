@@ -3,9 +3,9 @@ use Rattle.std.specs.Prelude.{◌≡◌, ◌⊎◌, ℕ, ◌+◌, ◌<◌, ◌�
 use Rattle.fs_types.specs.declared.limits.TheConstants.{CHAIN_NODES}
 use Rattle.node_format.specs.Items.{Item, are_ascending}
 use Rattle.node_format.specs.Links.{link}
-use Rattle.block_trees.specs.Bodies.{Blocks}
-use Rattle.block_trees.specs.Chains.{link_of, entries_after, blocks_after, entries_in, chain}
-use Rattle.block_trees.specs.Rewritten.{IsFreshNode}
+use Rattle.nodes.specs.Bodies.{Blocks}
+use Rattle.nodes.specs.Chains.{link_of, entries_after, blocks_after, entries_in, chain}
+use Rattle.nodes.specs.Rewritten.{IsFreshNode}
 use Rattle.plain_trees.specs.Trees.{nodes_for}
 
 -- the nodes from a block on, at most so many, have these entries, and are kept

@@ -2,8 +2,8 @@
 ghost use Rattle.std.specs.Prelude.{◌≡◌, ℕ, ◌+◌, ◌-◌, ◌*◌, ◌≤◌, ◌<◌, true, false, ◌||◌, ◌&&◌, nat_lt, List, Contains, length, Some, OnOk, OnErr, IfOk, IfErr, if◌then◌else◌};
 ghost use Rattle.std.specs.FinSet as set;
 ghost use Rattle.node_format.specs.declared.place.Place.TheVariants.{Dir};
-ghost use Rattle.block_trees.specs.Chains.{link_items, next_of};
-ghost use Rattle.block_trees.specs.Laws.{IsShallow};
+ghost use Rattle.nodes.specs.Chains.{link_items, next_of};
+ghost use Rattle.nodes.specs.TreeLaws.{IsShallow};
 ghost use Rattle.directory.specs.Lookups.{LeadsToDirectories};
 ghost use Rattle.directory.specs.Depths as spec;
 ghost use Rattle.nodes.specs.Faults.{IsLookFault};

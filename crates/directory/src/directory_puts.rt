@@ -1,8 +1,8 @@
 //! Many entries of a directory put at once: it is read once and written once.
 ghost use Rattle.std.specs.Prelude.{◌+◌, ◌<◌, length, IfOk, IsSome};
 ghost use Rattle.plain_trees.specs.Trees.{nodes_for};
-ghost use Rattle.block_trees.specs.Trees.{entries_in, items_in};
-ghost use Rattle.block_trees.specs.Rewritten.{IsFreshChain};
+ghost use Rattle.nodes.specs.Trees.{entries_in, items_in};
+ghost use Rattle.nodes.specs.Rewritten.{IsFreshChain};
 ghost use Rattle.directory.specs.Counts.{nodes_in};
 ghost use Rattle.directory.specs.Puts as spec;
 ghost use Rattle.directory.specs.Trails.{IsChangeFault};

@@ -4,8 +4,8 @@ ghost use Rattle.std.specs.Prelude.{◌≡◌, ◌+◌, ◌<◌, true, false, le
 ghost use Rattle.std.specs.Option.{is_some};
 ghost use Rattle.node_format.specs.Items.{is_place};
 ghost use Rattle.node_format.specs.declared.place.Place.TheVariants.{Dir};
-ghost use Rattle.block_trees.specs.Trees.{leads, entries_in, items_in};
-ghost use Rattle.block_trees.specs.Rewritten.{IsDirectoryEdit, IsFreshChain, IsRewritten};
+ghost use Rattle.nodes.specs.Trees.{leads, entries_in, items_in};
+ghost use Rattle.nodes.specs.Rewritten.{IsDirectoryEdit, IsFreshChain, IsRewritten};
 ghost use Rattle.directory.specs.Counts.{edit_nodes, read_nodes, path_nodes, written_nodes};
 ghost use Rattle.directory.specs.Lookups.{look_up};
 ghost use Rattle.directory.specs.declared.lookups.Found.TheVariants.{Missing};

@@ -5,8 +5,8 @@ ghost use Rattle.fs_types.specs.declared.limits.TheConstants.{NODE_ENTRIES};
 ghost use Rattle.nodes.specs.Faults.{IsReadFault};
 ghost use Rattle.nodes.specs.Words.{LooksWithin};
 ghost use Rattle.node_format.specs.Items.{Item};
-ghost use Rattle.block_trees.specs.Chains.{link_of, link_items, next_of, chain};
-ghost use Rattle.block_trees.specs.Trees.{entries_in, names_of};
+ghost use Rattle.nodes.specs.Chains.{link_of, link_items, next_of, chain};
+ghost use Rattle.nodes.specs.Trees.{entries_in, names_of};
 
 use crate::lookups::MOST_AFTER;
 use fs_types::{Fault, Name, Sequence};

@@ -4,7 +4,7 @@ ghost use Rattle.fs_types.specs.declared.fault.Fault.TheVariants.{NoEntry, NotDi
 ghost use Rattle.fs_types.specs.declared.limits.TheConstants.{NODE_ENTRIES};
 ghost use Rattle.nodes.specs.Faults.{IsReadFault};
 ghost use Rattle.nodes.specs.Words.{LooksWithin};
-ghost use Rattle.block_trees.specs.Chains.{link_of, chain};
+ghost use Rattle.nodes.specs.Chains.{link_of, chain};
 ghost use Rattle.directory.specs.Seeking as seeking;
 ghost use Rattle.directory.specs.Lookups as spec;
 

@@ -7,7 +7,7 @@ ghost use Rattle.nodes.specs.Faults.{IsLookFault};
 ghost use Rattle.nodes.specs.Words.{LooksWithin};
 ghost use Rattle.node_format.specs.Items.{is_place, named_place};
 ghost use Rattle.node_format.specs.Edits.{IsEdited};
-ghost use Rattle.block_trees.specs.Chains.{entries_in, items_in, link_of};
+ghost use Rattle.nodes.specs.Chains.{entries_in, items_in, link_of};
 ghost use Rattle.directory.specs.Counts.{read_nodes};
 ghost use Rattle.directory.specs.Moves.{IsEditedTwice};
 ghost use Rattle.directory.specs.Reads as spec;

@@ -6,8 +6,8 @@ ghost use Rattle.nodes.specs.Faults.{IsLookFault};
 ghost use Rattle.nodes.specs.Words.{Looks};
 ghost use Rattle.node_format.specs.Items.{Item};
 ghost use Rattle.node_format.specs.Links.{Link};
-ghost use Rattle.block_trees.specs.Chains.{link_of, link_items, items_in, next_of, chain};
-ghost use Rattle.block_trees.specs.Trees.{entries_in};
+ghost use Rattle.nodes.specs.Chains.{link_of, link_items, items_in, next_of, chain};
+ghost use Rattle.nodes.specs.Trees.{entries_in};
 ghost use Rattle.directory.specs.Places as spec;
 
 use crate::lookups::MOST_AFTER;

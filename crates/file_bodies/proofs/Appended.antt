@@ -3,13 +3,13 @@ use Rattle.std.proofs.Common.{◌≡◌, ℕ, zero, suc, ◌+◌, ◌-◌, ◌*�
 use Rattle.std.proofs.lemmas.List.{take_all}
 use Rattle.std.proofs.lemmas.Nat.{pow_pos, div-mul-add}
 use Rattle.std.specs.Prelude.{Contains}
-use Rattle.block_trees.specs.Bodies.{Blocks, index_of, pointer_of, data_of, back, data_to, head_index, body, IsChain, IsLinked, IsBody}
+use Rattle.nodes.specs.Bodies.{Blocks, index_of, pointer_of, data_of, back, data_to, head_index, body, IsChain, IsLinked, IsBody}
 use Rattle.std.specs.Option.{option_map_or}
 use Rattle.node_format.specs.Links.{Link}
-use Rattle.block_trees.specs.Chains.{link_of}
-use Rattle.block_trees.specs.Reached.{Reached, Names, BodyNames}
-use Rattle.block_trees.proofs.Entries.{directory_no_index}
-use Rattle.block_trees.proofs.Reaching.{IsReachedBy, reached_by}
+use Rattle.nodes.specs.Chains.{link_of}
+use Rattle.nodes.specs.Reached.{Reached, Names, BodyNames}
+use Rattle.nodes.proofs.Entries.{directory_no_index}
+use Rattle.nodes.proofs.Reaching.{IsReachedBy, reached_by}
 use Rattle.file_bodies.specs.Writing.{slot_before}
 use Rattle.file_bodies.proofs.Parts.{data_length}
 use Rattle.file_bodies.proofs.Fronts.{reached_back, HasHead, has_head, is_body, body_taken}

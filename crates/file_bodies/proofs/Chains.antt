@@ -3,8 +3,8 @@ use Rattle.std.proofs.Common.{◌≡◌, ℕ, zero, suc, ◌+◌, ◌-◌, ◌*�
 use Rattle.std.proofs.lemmas.Bool.{eqb-true, ltb-true}
 use Rattle.node_format.specs.Headers.{field, body_magic, body_size, IsNode}
 use Rattle.node_format.specs.BodyNodes.{IsBodyNode, HasSlot}
-use Rattle.block_trees.specs.Bodies.{Blocks, index_of, pointer_of, back, IsChain, IsLinked}
-use Rattle.block_trees.proofs.Bodies.{back_back, chain_back, linked_back}
+use Rattle.nodes.specs.Bodies.{Blocks, index_of, pointer_of, back, IsChain, IsLinked}
+use Rattle.nodes.proofs.Bodies.{back_back, chain_back, linked_back}
 use Rattle.file_bodies.specs.Reading.{IsUseful, IsLargest, HasDigits}
 use Rattle.file_bodies.proofs.Hops.{Hops, next_hop}
 

@@ -1,7 +1,7 @@
 -- A node of a body, beside the part of the bytes that it is compared with.
 use Rattle.std.proofs.Common.{◌≡◌, ℕ, ◌+◌, ◌-◌, ◌*◌, ◌/◌, ◌<◌, ◌≤◌, min, List, length, take, drop, sym, ap, ◌∙◌, arith}
 use Rattle.std.proofs.lemmas.List.{length-take-le, length-drop}
-use Rattle.block_trees.specs.Bodies.{Blocks, data_of, back, body, IsBody}
+use Rattle.nodes.specs.Bodies.{Blocks, data_of, back, body, IsBody}
 use Rattle.file_bodies.proofs.Growth.{starts_within}
 use Rattle.file_bodies.proofs.Kept.{part_of}
 

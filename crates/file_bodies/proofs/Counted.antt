@@ -5,7 +5,7 @@ use Rattle.std.proofs.lemmas.Bool.{cases_lt}
 use Rattle.std.proofs.lemmas.Nat.{mul-le, le-div, div-add-mod', mod_below}
 use Rattle.std.proofs.Math.Nat.{div-mul-le_self}
 use Rattle.plain_trees.specs.Contents.{nodes_from}
-use Rattle.block_trees.specs.Bodies.{head_index}
+use Rattle.nodes.specs.Bodies.{head_index}
 use Rattle.file_bodies.specs.Reading.{nodes_between, HasDigits}
 use Rattle.file_bodies.specs.Writing.{KeepsNone}
 use Rattle.file_bodies.proofs.Parts.{count_some, count_none, div_mono}

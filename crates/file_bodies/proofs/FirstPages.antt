@@ -6,7 +6,7 @@ use Rattle.node_format.specs.Headers.{field, IsNode}
 use Rattle.nodes.specs.Faults.{IsLookFault, IsWriteFault}
 use Rattle.nodes.specs.Parts.{IsFront}
 use Rattle.nodes.specs.FrontLaws.{front_at}
-use Rattle.block_trees.specs.Bodies.{index_of, pointer_of}
+use Rattle.nodes.specs.Bodies.{index_of, pointer_of}
 use Rattle.file_bodies.specs.Writing.{IsWritingFault}
 use Rattle.file_bodies.proofs.Chains.{body_at}
 

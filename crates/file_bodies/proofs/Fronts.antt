@@ -2,12 +2,12 @@
 use Rattle.std.proofs.Common.{◌≡◌, ℕ, zero, suc, ◌+◌, ◌-◌, ◌*◌, ◌<◌, ◌≤◌, [], ◌∷◌, length, take, refl, sym, ap, subst, ◌∙◌, arith, suc-mul}
 use Rattle.std.proofs.lemmas.List.{take-append-le, take-take, length-take, length-take-le}
 use Rattle.std.proofs.lemmas.Nat.{le-div}
-use Rattle.block_trees.specs.Bodies.{Blocks, pointer_of, data_of, back, data_to, head_index, body, IsChain, IsLinked, IsBody}
-use Rattle.block_trees.specs.Reached.{Reached}
+use Rattle.nodes.specs.Bodies.{Blocks, pointer_of, data_of, back, data_to, head_index, body, IsChain, IsLinked, IsBody}
+use Rattle.nodes.specs.Reached.{Reached}
 use Rattle.file_bodies.specs.Writing.{IsBodyFront}
 use Rattle.file_bodies.proofs.Parts.{data_length}
-use Rattle.block_trees.proofs.Reaching.{reached_below, before_named}
-use Rattle.block_trees.proofs.Bodies.{chain_back, linked_back}
+use Rattle.nodes.proofs.Reaching.{reached_below, before_named}
+use Rattle.nodes.proofs.Bodies.{chain_back, linked_back}
 
 -- ---- steps back
 

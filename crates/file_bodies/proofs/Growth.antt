@@ -8,13 +8,13 @@ use Rattle.plain_trees.specs.Contents.{Entry, read_from}
 use Rattle.node_format.specs.Headers.{field, body_header, body_magic, IsNode}
 use Rattle.node_format.specs.BodyNodes.{IsBodySpelling, HasSlot}
 use Rattle.node_format.specs.declared.place.Place.TheVariants.{Dir, File}
-use Rattle.block_trees.specs.Bodies.{Blocks, index_of, data_of, head_index, body, IsChain, IsBody, back, pointer_of}
-use Rattle.block_trees.specs.Trees.{leads, HasTree, IsWholePlace}
-use Rattle.block_trees.specs.Reached.{Reached, IsHeld, Keeps, PlaceNames}
-use Rattle.block_trees.proofs.Entries.{place_is}
-use Rattle.block_trees.proofs.Frames.{frame_law}
-use Rattle.block_trees.proofs.Reaching.{reached_own, reached_below, before_named}
-use Rattle.block_trees.proofs.Bodies.{chain_node}
+use Rattle.nodes.specs.Bodies.{Blocks, index_of, data_of, head_index, body, IsChain, IsBody, back, pointer_of}
+use Rattle.nodes.specs.Trees.{leads, HasTree, IsWholePlace}
+use Rattle.nodes.specs.Reached.{Reached, IsHeld, Keeps, PlaceNames}
+use Rattle.nodes.proofs.Entries.{place_is}
+use Rattle.nodes.proofs.Frames.{frame_law}
+use Rattle.nodes.proofs.Reaching.{reached_own, reached_below, before_named}
+use Rattle.nodes.proofs.Bodies.{chain_node}
 use Rattle.file_bodies.specs.declared.body.Body.{Body}
 use Rattle.file_bodies.specs.declared.change.Change.{Change}
 use Rattle.file_bodies.specs.declared.start.Start.{Start}

@@ -5,8 +5,8 @@ use Rattle.std.proofs.lemmas.Bool.Decides.{nat_tests}
 use Rattle.std.proofs.lemmas.Bool.{cases_lt}
 use Rattle.std.proofs.lemmas.List.{get_or_append_left, get_or-append_right, get_or-take, get_or-drop, get_or_past, get_or-replicate, length-take-le, drop_at, ext_get_or}
 use Rattle.plain_trees.specs.Contents.{read_from}
-use Rattle.block_trees.specs.Bodies.{Blocks, pointer_of, data_of, back, data_to, head_index, body, IsChain, IsBody}
-use Rattle.block_trees.proofs.Bodies.{back_back, chain_node}
+use Rattle.nodes.specs.Bodies.{Blocks, pointer_of, data_of, back, data_to, head_index, body, IsChain, IsBody}
+use Rattle.nodes.proofs.Bodies.{back_back, chain_node}
 use Rattle.file_bodies.specs.Reading.{AreBlocks}
 use Rattle.file_bodies.specs.Writing.{edited, byte_after}
 use Rattle.file_bodies.proofs.EditedBytes.{edited_length, edited_at, byte_of}

@@ -4,8 +4,8 @@ use Rattle.std.specs.Option.{ForSome}
 use Rattle.std.specs.Prelude.{IfOk}
 use Rattle.std.proofs.lemmas.Result.{IfOk-weaker}
 use Rattle.fs_types.specs.declared.fault.Fault.{Fault}
-use Rattle.block_trees.specs.Bodies.{Blocks, back, head_index, IsBody, IsChain, IsLinked}
-use Rattle.block_trees.proofs.Bodies.{back_back, chain_back, linked_back}
+use Rattle.nodes.specs.Bodies.{Blocks, back, head_index, IsBody, IsChain, IsLinked}
+use Rattle.nodes.proofs.Bodies.{back_back, chain_back, linked_back}
 use Rattle.file_bodies.specs.declared.body.Body.{Body}
 use Rattle.file_bodies.specs.declared.known_node.KnownNode.{KnownNode}
 use Rattle.file_bodies.specs.Reading.{HasDigits, IsNodeOf}

@@ -7,8 +7,8 @@ use Rattle.std.proofs.lemmas.List.{get_or-set_same, get_or-set_other}
 use Rattle.std.proofs.lemmas.Nat.{pow_pos, mul-le, le-div, mod_below, mod-mul-add, div-add-mod'}
 use Rattle.std.proofs.Math.Nat.{div-mul-le_self}
 use Rattle.std.proofs.Math.Pow.{pow_mono}
-use Rattle.block_trees.specs.Bodies.{Blocks, pointer_of, back, IsChain, IsLinked}
-use Rattle.block_trees.proofs.Bodies.{back_back, chain_node}
+use Rattle.nodes.specs.Bodies.{Blocks, pointer_of, back, IsChain, IsLinked}
+use Rattle.nodes.proofs.Bodies.{back_back, chain_node}
 use Rattle.file_bodies.specs.Writing.{slot_before, AreLinked, IsTable}
 use Rattle.file_bodies.proofs.Chains.{pointer_back}
 use Rattle.file_bodies.proofs.Fronts.{front_chain, front_linked}

@@ -3,7 +3,7 @@ use Rattle.std.proofs.Common.{◌≡◌, ℕ, ◌+◌, ◌-◌, ◌≤◌, Bool,
 use Rattle.std.specs.Prelude.{nat_le, nat_lt}
 use Rattle.std.proofs.lemmas.Bool.{leb-true}
 use Rattle.node_format.specs.Headers.{field, body_header, body_magic, directory_magic, chain_magic, body_size, directory_size, IsNode}
-use Rattle.block_trees.specs.Bodies.{index_of, data_of}
+use Rattle.nodes.specs.Bodies.{index_of, data_of}
 
 if_some : {A : Type 0} (b : Bool) (o : Option A) (x : A) → (if b then o else None) ≡ Some x → (b ≡ true) × (o ≡ Some x)
 if_some true o x e = (refl, e)

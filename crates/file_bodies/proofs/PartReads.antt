@@ -6,7 +6,7 @@ use Rattle.fs_types.specs.declared.fault.Fault.{Fault}
 use Rattle.node_format.specs.Headers.{body_header, IsNode}
 use Rattle.nodes.specs.SizeLaws.{size_within}
 use Rattle.nodes.specs.Parts.{HasPart, LacksPart}
-use Rattle.block_trees.specs.Bodies.{index_of, data_of}
+use Rattle.nodes.specs.Bodies.{index_of, data_of}
 use Rattle.file_bodies.proofs.Chains.{body_at}
 
 -- a node has so many data bytes from a place on

@@ -7,8 +7,8 @@ use Rattle.std.proofs.lemmas.Bool.{cases_lt, lt-ltb, le-ltb}
 use Rattle.std.proofs.lemmas.Nat.{le-div, div-mul-add, mul-le}
 use Rattle.std.proofs.lemmas.List.{length-append, length-drop, length-take-le, take-append-le, drop-append-le, drop_at, drop-drop, take-append-drop, take_min, append-nil}
 use borrow.Rule.Slice.PartMut.{put_mid}
-use Rattle.block_trees.specs.Bodies.{Blocks, pointer_of, data_of, back, data_to, head_index, body, IsChain, IsLinked, IsBody}
-use Rattle.block_trees.proofs.Bodies.{chain_back}
+use Rattle.nodes.specs.Bodies.{Blocks, pointer_of, data_of, back, data_to, head_index, body, IsChain, IsLinked, IsBody}
+use Rattle.nodes.proofs.Bodies.{chain_back}
 use Rattle.plain_trees.specs.Contents.{read_from}
 use Rattle.file_bodies.specs.Reading.{nodes_between, nodes_of_range}
 

@@ -3,7 +3,7 @@ use Rattle.std.proofs.Common.{◌≡◌, ℕ, ◌+◌, ◌-◌, ◌*◌, ◌/◌
 use Rattle.std.proofs.lemmas.Bool.{cases_lt}
 use Rattle.std.proofs.lemmas.Nat.{pow_pos, pow-add, mod-mul-add, div-add-mod'}
 use Rattle.node_format.specs.BodyNodes.{HasSlot, Divides}
-use Rattle.block_trees.specs.Bodies.{index_of}
+use Rattle.nodes.specs.Bodies.{index_of}
 
 -- ---- which powers of 2 divide an index
 

@@ -1,7 +1,7 @@
 -- Reading a range of a file's bytes: which pointers lead to its last node, and how many nodes hold it.
 use Rattle.std.specs.Prelude.{◌≡◌, ◌<◌, List, length, slice_index, ℕ, ◌+◌, ◌-◌, ◌/◌, ◌%◌, ◌^◌, ◌≤◌, min, nat_lt, if◌then◌else◌, Option, Some}
 use Rattle.std.specs.Option.{option_map}
-use Rattle.block_trees.specs.Bodies.{Blocks, back, data_to, head_index, IsBody, IsChain}
+use Rattle.nodes.specs.Bodies.{Blocks, back, data_to, head_index, IsBody, IsChain}
 use Rattle.node_format.specs.Headers.{body_header}
 use Rattle.node_format.specs.BodyNodes.{HasSlot}
 use Rattle.node_format.specs.declared.headers.TheConstants.{SLOTS}

@@ -5,9 +5,9 @@ use Rattle.fs_types.specs.declared.fault.Fault.TheVariants.{FlashFull, ReadOnly,
 use Rattle.fs_types.specs.declared.limits.TheConstants.{MAX_FILE_BYTES}
 use Rattle.plain_trees.specs.Contents.{resized, overwritten, read_from}
 use Rattle.node_format.specs.declared.place.Place.TheVariants.{File}
-use Rattle.block_trees.specs.Bodies as bodies
-use Rattle.block_trees.specs.Bodies.{Blocks, back, head_index, IsChain, IsLinked, IsBody}
-use Rattle.block_trees.specs.Reached.{Reached, IsHeld, PlaceNames}
+use Rattle.nodes.specs.Bodies as bodies
+use Rattle.nodes.specs.Bodies.{Blocks, back, head_index, IsChain, IsLinked, IsBody}
+use Rattle.nodes.specs.Reached.{Reached, IsHeld, PlaceNames}
 use Rattle.file_bodies.specs.declared.body.Body.{Body}
 use Rattle.file_bodies.specs.declared.change.Change.{Change}
 use Rattle.file_bodies.specs.declared.start.Start.{Start}

@@ -4,7 +4,7 @@ ghost use Rattle.node_format.specs.Headers.{body_header, IsNode};
 ghost use Rattle.node_format.specs.BodyNodes.{HasSlot, IsBodySpelling};
 ghost use Rattle.node_format.specs.declared.headers.TheConstants.{SLOTS};
 ghost use Rattle.plain_trees.specs.Contents.{read_from};
-ghost use Rattle.block_trees.specs.Bodies.{head_index};
+ghost use Rattle.nodes.specs.Bodies.{head_index};
 ghost use Rattle.nodes.specs.Faults.{IsWriteFault};
 ghost use Rattle.nodes.specs.Words.{WorksWithin};
 ghost use Rattle.file_bodies.specs.Calls.{LooksAlong, WorksAlong};

@@ -3,8 +3,8 @@
 ghost use Rattle.std.specs.Prelude.{ℕ, ◌+◌, ◌-◌, ◌*◌, ◌^◌, ◌<◌, ◌≤◌, min, max, length, IfOk};
 ghost use Rattle.node_format.specs.Headers.{body_header};
 ghost use Rattle.plain_trees.specs.Contents.{nodes_from, pwrite_need, ftruncate_need, resized, overwritten};
-ghost use Rattle.block_trees.specs.Bodies as bodies;
-ghost use Rattle.block_trees.specs.Bodies.{head_index};
+ghost use Rattle.nodes.specs.Bodies as bodies;
+ghost use Rattle.nodes.specs.Bodies.{head_index};
 ghost use Rattle.file_bodies.specs.Calls.{WorksAlong};
 ghost use Rattle.file_bodies.specs.Reading.{nodes_between, HoldsBody};
 ghost use Rattle.file_bodies.specs.Writing as spec;

@@ -2,8 +2,8 @@
 ghost use Rattle.std.specs.Prelude.{◌≡◌, ℕ, ◌+◌, ◌-◌, ◌*◌, ◌≤◌, ◌<◌, length, take, drop, Some, OnOk, IfOk};
 ghost use Rattle.node_format.specs.Headers.{body_header};
 ghost use Rattle.plain_trees.specs.Contents.{same_bytes};
-ghost use Rattle.block_trees.specs.Bodies as trees;
-ghost use Rattle.block_trees.specs.Bodies.{index_of, data_of, head_index, IsBody};
+ghost use Rattle.nodes.specs.Bodies as trees;
+ghost use Rattle.nodes.specs.Bodies.{index_of, data_of, head_index, IsBody};
 ghost use Rattle.nodes.specs.Faults.{IsLookFault};
 ghost use Rattle.nodes.specs.Words.{LooksWithin};
 ghost use Rattle.nodes.specs.PageCounts.{pages_for, pages_of_range};

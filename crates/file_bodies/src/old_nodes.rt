@@ -1,8 +1,8 @@
 //! The nodes of an old body of which an edit keeps bytes: listed by one walk, and read once each.
 ghost use Rattle.std.specs.Prelude.{◌≡◌, ℕ, ◌+◌, ◌-◌, ◌*◌, ◌/◌, ◌^◌, ◌<◌, ◌≤◌, ◌⊎◌, length, replicate, slice_index, OnOk, IfOk};
 ghost use Rattle.node_format.specs.Headers.{body_header};
-ghost use Rattle.block_trees.specs.Bodies as trees;
-ghost use Rattle.block_trees.specs.Bodies.{back, head_index, IsChain, IsLinked, IsBody};
+ghost use Rattle.nodes.specs.Bodies as trees;
+ghost use Rattle.nodes.specs.Bodies.{back, head_index, IsChain, IsLinked, IsBody};
 ghost use Rattle.file_bodies.specs.Calls.{LooksAlong};
 ghost use Rattle.file_bodies.specs.Reading as spec;
 ghost use Rattle.file_bodies.specs.Reading.{nodes_between, HoldsBody};

@@ -1,6 +1,6 @@
 //! What the nodes of a changed body are written after: found by reads alone.
 ghost use Rattle.std.specs.Prelude.{◌≡◌, ℕ, ◌+◌, ◌*◌, ◌≤◌, ◌^◌, IfOk};
-ghost use Rattle.block_trees.specs.Bodies.{head_index};
+ghost use Rattle.nodes.specs.Bodies.{head_index};
 ghost use Rattle.file_bodies.specs.Calls.{LooksAlong};
 ghost use Rattle.file_bodies.specs.Reading.{nodes_between, AsksPageEach, HoldsBody};
 ghost use Rattle.file_bodies.specs.Writing as spec;

@@ -1,6 +1,6 @@
 //! The slots of the next node of a chain, kept while nodes are written.
 ghost use Rattle.std.specs.Prelude.{◌≡◌, ℕ, ◌+◌, ◌-◌, ◌*◌, ◌/◌, ◌%◌, ◌^◌, ◌<◌, ◌≤◌, ◌==◌, if◌then◌else◌, length, slice_index, IfOk};
-ghost use Rattle.block_trees.specs.Bodies.{back, IsChain, IsLinked};
+ghost use Rattle.nodes.specs.Bodies.{back, IsChain, IsLinked};
 ghost use Rattle.node_format.specs.declared.headers.TheConstants.{SLOTS};
 ghost use Rattle.file_bodies.specs.Reading.{AsksPageEach};
 ghost use Rattle.file_bodies.specs.Writing as spec;

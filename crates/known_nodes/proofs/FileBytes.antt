@@ -4,7 +4,7 @@ use Rattle.std.specs.Prelude.{reverse}
 use Rattle.std.specs.List.{flat_map}
 use Rattle.std.proofs.lemmas.List.{append-nil, append_assoc, reverse-append}
 use Rattle.std.proofs.lemmas.List.Concat.{flat_map-append}
-use Rattle.block_trees.specs.Bodies.{Blocks, body, data_of, data_to, head_index, pointer_of}
+use Rattle.nodes.specs.Bodies.{Blocks, body, data_of, data_to, head_index, pointer_of}
 use Rattle.known_nodes.specs.FileBytes.{blocks_back, data_in}
 
 pub data_back : (f : Blocks) (i block : ℕ) → flat_map (data_in f) (reverse (blocks_back f i block)) ≡ data_to f i block

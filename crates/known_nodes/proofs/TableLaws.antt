@@ -4,7 +4,7 @@ use Rattle.std.specs.Prelude.{◌&&◌}
 use Rattle.std.specs.Option.{option_map_or}
 use Rattle.std.proofs.lemmas.Bool.{cases_lt}
 use Rattle.std.proofs.lemmas.List.{get_or_past}
-use Rattle.block_trees.specs.Bodies.{Blocks, index_of, pointer_of}
+use Rattle.nodes.specs.Bodies.{Blocks, index_of, pointer_of}
 use Rattle.known_nodes.specs.Tables.{blocks_in, marks_in}
 use Rattle.known_nodes.specs.WholeFiles.{is_after, is_step, are_steps, is_linked}
 use Rattle.known_nodes.proofs.WholeFileLaws.{linked_at}

@@ -8,8 +8,8 @@ use Rattle.std.proofs.lemmas.List.FromFn.{length-range_with_len, get_or-range_wi
 use Rattle.std.proofs.lemmas.List.Recursion.{and_at, and_from_places, and_fails_at}
 use Rattle.fs_types.specs.declared.limits.TheConstants.{MAX_FILE_BYTES}
 use Rattle.node_format.specs.BodyNodes.{HasSlot}
-use Rattle.block_trees.specs.Bodies.{Blocks, index_of, pointer_of, data_of, back, head_index, IsChain, IsLinked, IsBody}
-use Rattle.block_trees.proofs.Bodies.{chain_node}
+use Rattle.nodes.specs.Bodies.{Blocks, index_of, pointer_of, data_of, back, head_index, IsChain, IsLinked, IsBody}
+use Rattle.nodes.proofs.Bodies.{chain_node}
 use Rattle.reclaim.specs.Naming.{has_slot}
 use Rattle.reclaim.specs.Sound.{AreStepped}
 use Rattle.reclaim.proofs.Chains.{data_length, fewer_slots}

@@ -1,6 +1,6 @@
 -- The nodes of a file, from its head back to the first.
 use Rattle.std.specs.Prelude.{ℕ, zero, suc, List, [], ◌∷◌}
-use Rattle.block_trees.specs.Bodies.{Blocks, data_of, pointer_of}
+use Rattle.nodes.specs.Bodies.{Blocks, data_of, pointer_of}
 
 -- the blocks of the nodes from that of an index in a block down to the first
 unfoldable pub blocks_back : Blocks → ℕ → ℕ → List ℕ

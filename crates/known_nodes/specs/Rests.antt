@@ -10,8 +10,8 @@ use Rattle.node_format.specs.Links.{Link}
 use Rattle.node_format.specs.declared.place.Place.{Place}
 use Rattle.node_format.specs.declared.place.Place.TheVariants.{Dir, File}
 use Rattle.node_store.specs.NodePages.{node_of}
-use Rattle.block_trees.specs.Bodies.{Blocks, body}
-use Rattle.block_trees.specs.Chains.{link_of, most_after}
+use Rattle.nodes.specs.Bodies.{Blocks, body}
+use Rattle.nodes.specs.Chains.{link_of, most_after}
 use Rattle.reclaim.specs.Looks.{last_name, may_follow}
 use Rattle.working_state.specs.Seen.{capacity_of}
 use Rattle.known_nodes.specs.WholeFiles.{is_file}

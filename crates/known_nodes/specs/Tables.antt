@@ -1,6 +1,6 @@
 -- Tables by block.
 use Rattle.std.specs.Prelude.{ℕ, Bool, false, Option, None, List, slice_index_or}
-use Rattle.block_trees.specs.Bodies.{Blocks}
+use Rattle.nodes.specs.Bodies.{Blocks}
 
 -- the nodes in blocks, of a list that has each at its place; none past the last
 abbrev pub blocks_in : List (Option (List ℕ)) → Blocks

@@ -3,7 +3,7 @@ use Rattle.std.specs.Prelude.{◌≡◌, ◌↔◌, ℕ, zero, suc, ◌-◌, ◌
 use Rattle.std.specs.Option.{is_some, option_map_or}
 use Rattle.std.specs.List.{list_all, range_with_len}
 use Rattle.fs_types.specs.declared.limits.TheConstants.{MAX_FILE_BYTES}
-use Rattle.block_trees.specs.Bodies.{Blocks, index_of, pointer_of, data_of, head_index, IsBody}
+use Rattle.nodes.specs.Bodies.{Blocks, index_of, pointer_of, data_of, head_index, IsBody}
 use Rattle.reclaim.specs.Naming.{has_slot}
 
 -- the node of a body has this index

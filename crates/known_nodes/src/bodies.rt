@@ -1,8 +1,8 @@
 //! The bytes of files.
 ghost use Rattle.std.specs.Prelude.{◌≡◌, ◌<◌, ◌++◌, IfOk, OnOk};
 ghost use Rattle.std.specs.List.{flat_map};
-ghost use Rattle.block_trees.specs.Bodies as bodies;
-ghost use Rattle.block_trees.specs.Bodies.{data_to};
+ghost use Rattle.nodes.specs.Bodies as bodies;
+ghost use Rattle.nodes.specs.Bodies.{data_to};
 ghost use Rattle.known_nodes.specs.FileBytes as spec;
 ghost use Rattle.known_nodes.specs.Tables.{blocks_in};
 

@@ -1,8 +1,8 @@
 //! What is known of the nodes of a flash.
 ghost use Rattle.std.specs.Prelude.{◌≡◌, ℕ, ◌<◌, ◌≤◌, [], Some, None, slice_get, IfOk};
 ghost use Rattle.std.specs.Option.{option_map};
-ghost use Rattle.block_trees.specs.Bodies as bodies;
-ghost use Rattle.block_trees.specs.Chains.{link_of};
+ghost use Rattle.nodes.specs.Bodies as bodies;
+ghost use Rattle.nodes.specs.Chains.{link_of};
 ghost use Rattle.reclaim.specs.Looks as looks;
 ghost use Rattle.known_nodes.specs.Rests as rests;
 ghost use Rattle.known_nodes.specs.Tables.{blocks_in};

@@ -4,8 +4,8 @@ ghost use Rattle.std.specs.Option.{option_map};
 ghost use Rattle.nodes.specs.Faults.{IsLookFault};
 ghost use Rattle.nodes.specs.Frames.{OnlyLooks};
 ghost use Rattle.node_format.specs.declared.headers.TheConstants.{SLOTS};
-ghost use Rattle.block_trees.specs.Bodies.{index_of, pointer_of, data_of};
-ghost use Rattle.block_trees.specs.Chains.{link_of};
+ghost use Rattle.nodes.specs.Bodies.{index_of, pointer_of, data_of};
+ghost use Rattle.nodes.specs.Chains.{link_of};
 ghost use Rattle.known_nodes.specs.Tables.{blocks_in};
 
 use fields::u32_at;

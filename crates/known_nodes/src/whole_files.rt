@@ -1,7 +1,7 @@
 //! Which files are whole bodies.
 ghost use Rattle.std.specs.Prelude.{◌≡◌, ℕ, ◌+◌, ◌<◌, ◌≤◌, None, IfOk};
 ghost use Rattle.node_format.specs.declared.headers.TheConstants.{SLOTS};
-ghost use Rattle.block_trees.specs.Bodies.{pointer_of};
+ghost use Rattle.nodes.specs.Bodies.{pointer_of};
 ghost use Rattle.reclaim.specs.Naming.{has_slot};
 ghost use Rattle.known_nodes.specs.Tables.{blocks_in, marks_in};
 ghost use Rattle.known_nodes.specs.WholeFiles as spec;

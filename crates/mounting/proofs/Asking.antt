@@ -6,7 +6,7 @@ use Rattle.flash_model.specs.Geometry.{block_bytes}
 use Rattle.node_store.specs.NodePages.{node_of}
 use Rattle.node_store.specs.Stores.{Follows}
 use Rattle.node_store.specs.declared.store.Store.{Store}
-use Rattle.block_trees.specs.Bodies.{Blocks}
+use Rattle.nodes.specs.Bodies.{Blocks}
 use Rattle.reclaim.specs.Passes.{AreReached}
 use Rattle.reclaim.specs.Verified.{HasCost, all_pages}
 use Rattle.mounting.specs.Costs.{ReadsEach, AsksEach, AsksToVerify}

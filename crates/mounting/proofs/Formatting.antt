@@ -20,8 +20,8 @@ use Rattle.bad_blocks.specs.Mode.{bad_anchors, is_read_only}
 use Rattle.block_ring.specs.Ring.{IsDataBlock}
 use Rattle.node_format.specs.Headers.{body_header}
 use Rattle.node_store.specs.NodePages.{node_of}
-use Rattle.block_trees.specs.Bodies.{Blocks}
-use Rattle.block_trees.specs.Trees.{IsRoot}
+use Rattle.nodes.specs.Bodies.{Blocks}
+use Rattle.nodes.specs.Trees.{IsRoot}
 use Rattle.record_format.specs.declared.record.Record.{Record}
 use Rattle.record_format.specs.declared.record.Checkpoint.{Checkpoint}
 use Rattle.anchors.specs.declared.anchors.Anchors.{Anchors}

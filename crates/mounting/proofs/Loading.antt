@@ -26,10 +26,10 @@ use Rattle.node_format.specs.Headers.{body_header}
 use Rattle.node_store.specs.Fitting.{Fits}
 use Rattle.node_store.specs.NodePages.{node_of}
 use Rattle.node_store.specs.ReadingLaws.{OnlyReads_nodes}
-use Rattle.block_trees.specs.Bodies.{Blocks}
-use Rattle.block_trees.specs.Reached.{Reached, IsFirst, IsNamed}
-use Rattle.block_trees.specs.Trees.{IsRoot}
-use Rattle.block_trees.proofs.FileTrees.{all_file_trees}
+use Rattle.nodes.specs.Bodies.{Blocks}
+use Rattle.nodes.specs.Reached.{Reached, IsFirst, IsNamed}
+use Rattle.nodes.specs.Trees.{IsRoot}
+use Rattle.nodes.proofs.FileTrees.{all_file_trees}
 use Rattle.reclaim.specs.Sound.{IsPlain}
 use Rattle.reclaim.specs.Verified.{AreRoots}
 use Rattle.record_format.specs.declared.record.Record.{Record}

@@ -14,8 +14,8 @@ use Rattle.node_store.specs.NodePages.{node_of}
 use Rattle.node_store.specs.Faults.{IsReadFault}
 use Rattle.node_store.specs.Stores.{Causes}
 use Rattle.node_store.specs.declared.store.Store.{Store}
-use Rattle.block_trees.specs.Bodies.{Blocks}
-use Rattle.block_trees.specs.Reached.{Reached, IsFirst}
+use Rattle.nodes.specs.Bodies.{Blocks}
+use Rattle.nodes.specs.Reached.{Reached, IsFirst}
 use Rattle.reclaim.specs.Passes.{Pass, AreReached, HasRead}
 use Rattle.reclaim.specs.Verified.{AreRoots}
 use Rattle.reclaim.proofs.Soundness.{trees_hold_nodes}

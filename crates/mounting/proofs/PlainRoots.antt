@@ -5,9 +5,9 @@ use Rattle.std.proofs.lemmas.Bool.{true≢false}
 use Rattle.std.specs.Prelude.{◌==◌}
 use Rattle.record_format.specs.declared.formats.TheConstants.{FORMAT, OLD_FORMAT}
 use Rattle.record_format.specs.declared.record.Record.{Record}
-use Rattle.block_trees.specs.Bodies.{Blocks}
-use Rattle.block_trees.specs.Chains.{link_of}
-use Rattle.block_trees.specs.Reached.{Reached}
+use Rattle.nodes.specs.Bodies.{Blocks}
+use Rattle.nodes.specs.Chains.{link_of}
+use Rattle.nodes.specs.Reached.{Reached}
 use Rattle.reclaim.specs.Sound.{IsPlain}
 use Rattle.reclaim.proofs.Marking.{reached_back}
 use Rattle.mounting.specs.Records.{knows_plain_only}

@@ -9,9 +9,9 @@ use Rattle.node_format.specs.Headers.{body_header}
 use Rattle.node_store.specs.NodePages.{node_of, node_at}
 use Rattle.node_store.specs.NodeLaws.{node_of-same}
 use Rattle.block_ring.specs.Ring.{Ring}
-use Rattle.block_trees.specs.Bodies.{Blocks}
-use Rattle.block_trees.specs.Reached.{IsHeld}
-use Rattle.block_trees.specs.Trees.{IsRoot, root_tree}
+use Rattle.nodes.specs.Bodies.{Blocks}
+use Rattle.nodes.specs.Reached.{IsHeld}
+use Rattle.nodes.specs.Trees.{IsRoot, root_tree}
 use Rattle.node_format.specs.declared.place.Place.TheVariants.{Dir}
 use Rattle.working_state.specs.Seen.{capacity_of, tree_on}
 use Rattle.working_state.specs.Mounted.{IsStanding}

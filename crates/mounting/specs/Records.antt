@@ -10,7 +10,7 @@ use Rattle.fs_types.specs.declared.fault.Fault.TheVariants.{Damaged, ReadFailed,
 use Rattle.flash_model.specs.Device.{Device}
 use Rattle.flash_model.specs.Geometry.{block_bytes}
 use Rattle.node_store.specs.NodePages.{node_of}
-use Rattle.block_trees.specs.Reached.{Reached}
+use Rattle.nodes.specs.Reached.{Reached}
 use Rattle.reclaim.specs.Sound.{IsPlain}
 use Rattle.reclaim.specs.Verified.{AreRoots}
 use Rattle.record_format.specs.declared.formats.TheConstants.{OLD_FORMAT}

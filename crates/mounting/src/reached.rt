@@ -7,7 +7,7 @@ ghost use Rattle.node_store.specs.Fitting.{Fits, StillFits};
 ghost use Rattle.node_store.specs.NodePages.{node_of};
 ghost use Rattle.node_store.specs.Storage as parts;
 ghost use Rattle.node_store.specs.Stores.{IsSoundStore, Follows};
-ghost use Rattle.block_trees.specs.Reached.{Reached};
+ghost use Rattle.nodes.specs.Reached.{Reached};
 ghost use Rattle.reclaim.specs.Verified.{AreRoots, HasCost, all_reads};
 ghost use Rattle.tree_counts.specs.FirstRoots.{AreFirstRoots};
 ghost use Rattle.working_state.specs.Leaves.{HasLooked};

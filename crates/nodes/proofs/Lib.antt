@@ -1,1 +1,16 @@
 pub mod PageCountLaws
+pub mod Bodies
+pub mod ChainCounts
+pub mod Chained
+pub mod Chains
+pub mod EditedMaps
+pub mod EditedTrees
+pub mod EmptyDirectories
+pub mod Entries
+pub mod FileTrees
+pub mod FilePuts
+pub mod Frames
+pub mod MovedTrees
+pub mod Reaching
+pub mod RootMaps
+pub mod TooDeep

@@ -7,3 +7,11 @@ pub mod PageCounts
 pub mod Parts
 pub mod SizeLaws
 pub mod FrontLaws
+pub mod Bodies
+pub mod ChainLaws
+pub mod Chains
+pub mod TreeLaws
+pub mod Puts
+pub mod Reached
+pub mod Rewritten
+pub mod Trees

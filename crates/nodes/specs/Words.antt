@@ -3,8 +3,8 @@ use Rattle.std.specs.Prelude.{ℕ, ◌+◌, ◌-◌, ◌≤◌, Result, IfErr}
 use Rattle.fs_types.specs.declared.fault.Fault.{Fault}
 use Rattle.node_format.specs.Headers.{body_header}
 use Rattle.node_format.specs.declared.place.Place.{Place}
-use Rattle.block_trees.specs.Reached as reached
-use Rattle.block_trees.specs.Trees as trees
+use Rattle.nodes.specs.Reached as reached
+use Rattle.nodes.specs.Trees as trees
 use Rattle.nodes.specs.Faults.{IsLookFault}
 use Rattle.nodes.specs.Frames as frames
 use Rattle.nodes.specs.declared.nodes.Nodes.{Ghosts}

@@ -6,10 +6,10 @@ use Rattle.std.proofs.lemmas.Nat.{pow_pos, mul-le}
 use Rattle.fs_types.specs.declared.limits.TheConstants.{MAX_FILE_BYTES}
 use Rattle.node_format.specs.BodyNodes.{Divides, HasSlot}
 use Rattle.node_format.specs.declared.headers.TheConstants.{SLOTS}
-use Rattle.block_trees.specs.Bodies.{Blocks, index_of, pointer_of, data_of, back, IsChain, IsLinked}
-use Rattle.block_trees.specs.Reached.{BodyNames, Reached, IsNamed, Names}
-use Rattle.block_trees.proofs.Bodies.{chain_back, chain_node}
-use Rattle.block_trees.proofs.Reaching.{before_named}
+use Rattle.nodes.specs.Bodies.{Blocks, index_of, pointer_of, data_of, back, IsChain, IsLinked}
+use Rattle.nodes.specs.Reached.{BodyNames, Reached, IsNamed, Names}
+use Rattle.nodes.proofs.Bodies.{chain_back, chain_node}
+use Rattle.nodes.proofs.Reaching.{before_named}
 use Rattle.reclaim.specs.Naming.{has_slot}
 use Rattle.reclaim.specs.Sound.{HoldsSlot, IsSoundBody}
 use Rattle.reclaim.specs.Tops.{top_by, top_of, steps_by, steps_of, FitsTop}

@@ -8,9 +8,9 @@ use Rattle.node_format.specs.Items.{Item}
 use Rattle.node_format.specs.Links.{Link}
 use Rattle.node_format.specs.declared.place.Place.TheVariants.{Dir}
 use Rattle.nodes.specs.Parts.{HasBodyHeader, IsFront}
-use Rattle.block_trees.specs.Bodies.{index_of}
-use Rattle.block_trees.specs.Chains.{link_of}
-use Rattle.block_trees.specs.Reached.{Names}
+use Rattle.nodes.specs.Bodies.{index_of}
+use Rattle.nodes.specs.Chains.{link_of}
+use Rattle.nodes.specs.Reached.{Names}
 use Rattle.reclaim.specs.Facts.{AreFacts}
 use Rattle.reclaim.specs.Looks.{Says, edge_of}
 use Rattle.reclaim.specs.declared.facts.Facts.{Facts}

@@ -2,8 +2,8 @@
 use Rattle.std.proofs.Common.{◌≡◌, ℕ, zero, suc, ◌+◌, ◌-◌, ◌*◌, ◌^◌, ◌<◌, ◌≤◌, length, sym, ap, subst, ◌∙◌, arith, suc-mul}
 use Rattle.std.proofs.lemmas.List.{length-append}
 use Rattle.std.proofs.lemmas.Nat.{pow_pos}
-use Rattle.block_trees.specs.Bodies.{Blocks, pointer_of, data_of, data_to, back, IsChain}
-use Rattle.block_trees.proofs.Bodies.{back_back}
+use Rattle.nodes.specs.Bodies.{Blocks, pointer_of, data_of, data_to, back, IsChain}
+use Rattle.nodes.proofs.Bodies.{back_back}
 use Rattle.node_format.specs.BodyNodes.{Divides, HasSlot}
 
 pub data_length : (capacity : ℕ) (f : Blocks) (i block : ℕ) → IsChain capacity f i block → length (data_to f i block) ≡ i * capacity + length (data_of (f block))

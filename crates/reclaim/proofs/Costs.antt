@@ -15,10 +15,10 @@ use Rattle.nodes.specs.PageCounts.{pages_for}
 use Rattle.node_format.specs.Links.{Link}
 use Rattle.node_format.specs.declared.place.Place.{Place}
 use Rattle.node_format.specs.declared.place.Place.TheVariants.{Dir}
-use Rattle.block_trees.specs.Bodies.{Blocks}
-use Rattle.block_trees.specs.Chains.{link_of, next_of, link_items}
-use Rattle.block_trees.specs.Reached.{Reached, PlaceNames, IsFirst, IsNamed}
-use Rattle.block_trees.proofs.Chained.{among_chain}
+use Rattle.nodes.specs.Bodies.{Blocks}
+use Rattle.nodes.specs.Chains.{link_of, next_of, link_items}
+use Rattle.nodes.specs.Reached.{Reached, PlaceNames, IsFirst, IsNamed}
+use Rattle.nodes.proofs.Chained.{among_chain}
 use Rattle.directory.specs.Depths.{HasDirectories, names_directory, is_directory_at, loud_of}
 use Rattle.directory.proofs.Counting.{filter_has}
 use Rattle.directory.proofs.Levels.{any_contains, directory_is}

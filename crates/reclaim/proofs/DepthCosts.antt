@@ -6,9 +6,9 @@ use Rattle.std.specs.Ordering.{nat_cmp}
 use Rattle.std.specs.Prelude.{Contains}
 use Rattle.std.proofs.lemmas.List.Elements.{All-contains}
 use Rattle.node_format.specs.Links.{Link}
-use Rattle.block_trees.specs.Bodies.{Blocks}
-use Rattle.block_trees.specs.Chains.{link_of}
-use Rattle.block_trees.specs.Reached.{Reached}
+use Rattle.nodes.specs.Bodies.{Blocks}
+use Rattle.nodes.specs.Chains.{link_of}
+use Rattle.nodes.specs.Reached.{Reached}
 use Rattle.directory.specs.Depths.{HasDirectories, loud_of}
 use Rattle.nodes.specs.PageCounts.{pages_for}
 use Rattle.nodes.specs.Words.{Looks}

@@ -9,10 +9,10 @@ use Rattle.node_format.specs.Items.{Item, is_before, are_ascending}
 use Rattle.node_format.specs.Order.{both_true, and_true, all_after, ascending_parts}
 use Rattle.node_format.specs.Links.{Link}
 use Rattle.node_format.proofs.LinkLaws.{link_ascending}
-use Rattle.block_trees.specs.Bodies.{Blocks}
-use Rattle.block_trees.specs.Chains.{link_of, is_later, entries_after, most_after}
-use Rattle.block_trees.proofs.Chains.{by_test, same_items, first_parts, first_law}
-use Rattle.block_trees.proofs.ChainCounts.{linked_filled}
+use Rattle.nodes.specs.Bodies.{Blocks}
+use Rattle.nodes.specs.Chains.{link_of, is_later, entries_after, most_after}
+use Rattle.nodes.proofs.Chains.{by_test, same_items, first_parts, first_law}
+use Rattle.nodes.proofs.ChainCounts.{linked_filled}
 use Rattle.reclaim.specs.Looks.{last_name, are_after, may_follow, edge_of}
 use Rattle.reclaim.specs.Sound.{IsDirectoryAt}
 

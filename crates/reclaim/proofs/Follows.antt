@@ -7,7 +7,7 @@ use Rattle.fs_types.specs.Names.{Name}
 use Rattle.node_format.specs.Items.{Item, is_before}
 use Rattle.node_format.specs.Links.{Link, link_at, first_of}
 use Rattle.nodes.specs.Parts.{IsFront}
-use Rattle.block_trees.specs.Chains.{link_of}
+use Rattle.nodes.specs.Chains.{link_of}
 use Rattle.reclaim.specs.Looks.{may_follow, are_after}
 
 -- a node comes after a name where its first entry does

@@ -4,8 +4,8 @@ use Rattle.std.specs.Prelude.{◌==◌, nat_lt, nat_le, Contains}
 use Rattle.node_format.specs.Headers.{field, body_magic, body_header, body_size, directory_magic, chain_magic, directory_size, IsNode}
 use Rattle.node_format.proofs.HeaderLaws.{field-take}
 use Rattle.nodes.specs.Parts.{IsFront}
-use Rattle.block_trees.specs.Bodies.{index_of, pointer_of}
-use Rattle.block_trees.specs.Reached.{Names, BodyNames}
+use Rattle.nodes.specs.Bodies.{index_of, pointer_of}
+use Rattle.nodes.specs.Reached.{Names, BodyNames}
 use Rattle.reclaim.specs.Kinds.{NamesBody}
 use Rattle.reclaim.proofs.Soundness.{no_entry, no_next}
 

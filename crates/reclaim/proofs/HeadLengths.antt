@@ -17,10 +17,10 @@ use Rattle.node_format.specs.Links.{Link}
 use Rattle.node_format.specs.Directories.{size_of}
 use Rattle.node_format.specs.declared.place.Place.{Place}
 use Rattle.node_format.specs.declared.place.Place.TheVariants.{Dir, File}
-use Rattle.block_trees.specs.Bodies.{Blocks, index_of, pointer_of, data_of, head_index}
-use Rattle.block_trees.specs.Chains.{link_of, link_items}
-use Rattle.block_trees.specs.Reached.{Reached}
-use Rattle.block_trees.proofs.Entries.{directory_no_index}
+use Rattle.nodes.specs.Bodies.{Blocks, index_of, pointer_of, data_of, head_index}
+use Rattle.nodes.specs.Chains.{link_of, link_items}
+use Rattle.nodes.specs.Reached.{Reached}
+use Rattle.nodes.proofs.Entries.{directory_no_index}
 use Rattle.reclaim.specs.Heads.{fits, in_word, longest, longest_by, length_before, before_told, told_in, told_by, FitsHead, FitHeads, IsKept, KeepsHeads, places_read, HeadsAreTold}
 use Rattle.reclaim.specs.Looks.{IsSoundFile, places_of, used_of, Says}
 use Rattle.reclaim.specs.Passes.{Pass, IsPass, Advances}

@@ -12,7 +12,7 @@ use Rattle.std.proofs.lemmas.Cmp.{nat_cmp_total}
 use Rattle.block_ring.proofs.RingOrder.{contains-insert_same, contains-kept}
 use Rattle.node_format.specs.declared.place.Place.{Place}
 use Rattle.node_format.specs.declared.place.Place.TheVariants.{Dir, File}
-use Rattle.block_trees.specs.Bodies.{head_index}
+use Rattle.nodes.specs.Bodies.{head_index}
 use Rattle.reclaim.specs.Heads.{fits, FitsHead, FitHeads, IsKept, KeepsHeads, IsNew, KeepsLinks, longest_by}
 use Rattle.reclaim.specs.Passes.{AreNoted}
 use Rattle.reclaim.specs.Tables.{IsSized, TakesIn}

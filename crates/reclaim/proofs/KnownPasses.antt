@@ -11,8 +11,8 @@ use Rattle.std.proofs.lemmas.List.Elements.{Contains-get_or, Contains-push, Cont
 use Rattle.node_format.specs.Headers.{body_header}
 use Rattle.node_format.specs.declared.place.Place.{Place}
 use Rattle.node_format.specs.declared.place.Place.TheVariants.{Dir, File}
-use Rattle.block_trees.specs.Bodies.{Blocks, index_of}
-use Rattle.block_trees.specs.Reached.{Reached, Names, PlaceNames, Agrees}
+use Rattle.nodes.specs.Bodies.{Blocks, index_of}
+use Rattle.nodes.specs.Reached.{Reached, Names, PlaceNames, Agrees}
 use Rattle.reclaim.specs.Kinds.{HoldsBodyNode, FileNames, NamesBody, IsKnownMarking, Knows, read_pages, mark_pages, HasAsked}
 use Rattle.reclaim.specs.Passes.{Pass, Begins, IsMarked, IsPass, AreNoted}
 use Rattle.reclaim.specs.Verified.{AreRoots}

@@ -14,8 +14,8 @@ use Rattle.node_format.specs.declared.place.Place.{Place}
 use Rattle.node_format.specs.declared.place.Place.TheVariants.{Dir, File}
 use Rattle.fields.specs.Numbers.{byte_at, number_at}
 use Rattle.fields.proofs.Found.{bind_some, passed, chosen, some_is}
-use Rattle.block_trees.specs.Bodies.{head_index}
-use Rattle.block_trees.specs.Chains.{link_items}
+use Rattle.nodes.specs.Bodies.{head_index}
+use Rattle.nodes.specs.Chains.{link_items}
 use Rattle.fs_types.specs.declared.limits.TheConstants.{MAX_FILE_BYTES}
 
 -- ---- files

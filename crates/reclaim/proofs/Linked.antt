@@ -5,8 +5,8 @@ use Rattle.std.specs.Option.{option_map_or}
 use Rattle.std.proofs.lemmas.Bool.{true≢false, eqb-true, eq-eqb, and_parts, and_from}
 use Rattle.fs_types.specs.Names.{Name}
 use Rattle.node_format.specs.Links.{Link}
-use Rattle.block_trees.specs.Bodies.{Blocks}
-use Rattle.block_trees.specs.Chains.{link_of, next_of}
+use Rattle.nodes.specs.Bodies.{Blocks}
+use Rattle.nodes.specs.Chains.{link_of, next_of}
 use Rattle.reclaim.specs.Looks.{edge_of, last_name, may_follow, IsFollowed}
 use Rattle.reclaim.specs.Sound.{HoldsLink, IsDirectoryAt}
 use Rattle.reclaim.specs.Tables.{ends_from}

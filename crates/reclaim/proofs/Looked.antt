@@ -11,9 +11,9 @@ use Rattle.node_format.specs.declared.place.Place.{Place}
 use Rattle.node_format.specs.declared.place.Place.TheVariants.{Dir, File}
 use Rattle.fs_types.specs.declared.limits.TheConstants.{MAX_FILE_BYTES}
 use Rattle.node_format.specs.BodyNodes.{HasSlot}
-use Rattle.block_trees.specs.Bodies.{Blocks, index_of, pointer_of, data_of}
-use Rattle.block_trees.specs.Chains.{link_of, next_of, link_items, most_after}
-use Rattle.block_trees.specs.Reached.{Reached, IsNamed, Names, PlaceNames}
+use Rattle.nodes.specs.Bodies.{Blocks, index_of, pointer_of, data_of}
+use Rattle.nodes.specs.Chains.{link_of, next_of, link_items, most_after}
+use Rattle.nodes.specs.Reached.{Reached, IsNamed, Names, PlaceNames}
 use Rattle.reclaim.specs.Looks.{NextHoldsLink, IsSoundFile, IsLooked}
 use Rattle.reclaim.specs.Passes.{Pass, IsPass, IsFinished}
 use Rattle.reclaim.specs.Sound.{HoldsLink, IsSoundPlace, IsSoundBody, IsSoundNode, IsPlain, IsPlainNode}

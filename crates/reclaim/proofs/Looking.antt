@@ -7,8 +7,8 @@ use Rattle.fs_types.specs.declared.fault.Fault.{Fault}
 use Rattle.fs_types.specs.declared.fault.Fault.TheVariants.{ReadFailed, PowerCut, NoMemory, Damaged}
 use Rattle.nodes.specs.Faults.{IsLookFault, IsReadFault}
 use Rattle.node_format.specs.Links.{Link}
-use Rattle.block_trees.specs.Bodies.{Blocks, index_of}
-use Rattle.block_trees.specs.Chains.{link_of, next_of}
+use Rattle.nodes.specs.Bodies.{Blocks, index_of}
+use Rattle.nodes.specs.Chains.{link_of, next_of}
 use Rattle.reclaim.specs.declared.edge.Edge.{Edge}
 use Rattle.reclaim.specs.declared.looks.Parts.{Parts}
 use Rattle.reclaim.specs.Sound.{IsPlainNode}

@@ -16,8 +16,8 @@ use Rattle.fs_types.specs.declared.fault.Fault.TheVariants.{NoMemory, Damaged}
 use Rattle.fs_types.specs.declared.limits.TheConstants.{ANCHORS}
 use Rattle.block_ring.specs.BlockSet.{BlockSet}
 use Rattle.block_ring.specs.Ring.{IsDataBlock}
-use Rattle.block_trees.specs.Bodies.{Blocks}
-use Rattle.block_trees.specs.Reached.{Reached, IsFirst, IsNamed, Names, Agrees}
+use Rattle.nodes.specs.Bodies.{Blocks}
+use Rattle.nodes.specs.Reached.{Reached, IsFirst, IsNamed, Names, Agrees}
 use Rattle.reclaim.specs.Passes.{Pass, IsOrder, AreDistinct, Begins, IsMarked, IsPass, IsFinished, IsMarkFault, PassStays, PassMarks}
 
 -- ---- lists that begin alike

@@ -5,9 +5,9 @@ use Rattle.std.specs.Prelude.{Contains}
 use Rattle.std.specs.FinSet as set
 use Rattle.std.specs.Ordering.{nat_cmp}
 use Rattle.node_format.specs.Headers.{body_header}
-use Rattle.block_trees.specs.Bodies.{Blocks, index_of}
-use Rattle.block_trees.specs.Reached.{Reached, IsFirst, IsNamed, Names}
-use Rattle.block_trees.specs.Trees.{IsRoot}
+use Rattle.nodes.specs.Bodies.{Blocks, index_of}
+use Rattle.nodes.specs.Reached.{Reached, IsFirst, IsNamed, Names}
+use Rattle.nodes.specs.Trees.{IsRoot}
 use Rattle.reclaim.specs.Kinds.{IsKnownMarking, Knows}
 use Rattle.reclaim.specs.Passes.{Pass, IsMarked, IsPass}
 use Rattle.reclaim.specs.Verified.{AreRoots}

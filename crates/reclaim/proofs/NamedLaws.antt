@@ -8,9 +8,9 @@ use Rattle.std.proofs.lemmas.List.Elements.{Contains-append_left, Contains-appen
 use Rattle.node_format.specs.Items.{Item}
 use Rattle.node_format.specs.declared.place.Place.{Place}
 use Rattle.node_format.specs.declared.place.Place.TheVariants.{Dir, File}
-use Rattle.block_trees.specs.Bodies.{index_of, pointer_of}
-use Rattle.block_trees.specs.Chains.{link_items, next_of}
-use Rattle.block_trees.specs.Reached.{PlaceNames, BodyNames, Names}
+use Rattle.nodes.specs.Bodies.{index_of, pointer_of}
+use Rattle.nodes.specs.Chains.{link_items, next_of}
+use Rattle.nodes.specs.Reached.{PlaceNames, BodyNames, Names}
 use Rattle.reclaim.specs.Kinds.{FileNames, NamesBody}
 use Rattle.reclaim.specs.Naming.{place_names, item_names, place_heads, item_heads, place_directories, item_directories, next_names, has_slot, slots_named, body_named}
 use Rattle.reclaim.specs.Tables.{NamesDirectory}

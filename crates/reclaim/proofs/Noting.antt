@@ -4,8 +4,8 @@ use Rattle.std.specs.Prelude.{IsTrue, Contains, is_some, option_map, slice_index
 use Rattle.std.proofs.lemmas.Bool.{true≢false, cases_lt}
 use Rattle.node_format.specs.Headers.{IsNode}
 use Rattle.node_format.specs.Links.{Link}
-use Rattle.block_trees.specs.Bodies.{Blocks}
-use Rattle.block_trees.specs.Reached.{Reached, Names}
+use Rattle.nodes.specs.Bodies.{Blocks}
+use Rattle.nodes.specs.Reached.{Reached, Names}
 use Rattle.nodes.specs.Words.{Looks}
 use Rattle.nodes.specs.declared.nodes.Nodes.{Ghosts}
 use Rattle.reclaim.specs.Facts.{AreFacts}

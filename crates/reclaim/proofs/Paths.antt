@@ -11,12 +11,12 @@ use Rattle.node_format.specs.EntryLaws.{named-contained}
 use Rattle.node_format.specs.Links.{Link}
 use Rattle.node_format.specs.declared.place.Place.{Place}
 use Rattle.node_format.specs.declared.place.Place.TheVariants.{Dir, File}
-use Rattle.block_trees.specs.Bodies.{Blocks}
-use Rattle.block_trees.specs.Chains.{link_of, link_items, entries_after, most_after, entries_in, items_in}
-use Rattle.block_trees.specs.Laws.{IsShallow}
-use Rattle.block_trees.specs.Reached.{Reached, IsFirst, PlaceNames}
-use Rattle.block_trees.specs.Trees.{leads}
-use Rattle.block_trees.proofs.Chains.{AfterParts, after_parts, first_parts, items_are}
+use Rattle.nodes.specs.Bodies.{Blocks}
+use Rattle.nodes.specs.Chains.{link_of, link_items, entries_after, most_after, entries_in, items_in}
+use Rattle.nodes.specs.TreeLaws.{IsShallow}
+use Rattle.nodes.specs.Reached.{Reached, IsFirst, PlaceNames}
+use Rattle.nodes.specs.Trees.{leads}
+use Rattle.nodes.proofs.Chains.{AfterParts, after_parts, first_parts, items_are}
 use Rattle.reclaim.specs.Levels.{level, GoesOn, Stands, StandsIn, AreLeveled}
 use Rattle.reclaim.specs.Looks.{places_of}
 use Rattle.reclaim.specs.Passes.{Pass, IsPass, IsFinished, Advances}

@@ -11,15 +11,15 @@ use Rattle.node_format.specs.EntryLaws.{named-contained}
 use Rattle.node_format.specs.Links.{Link}
 use Rattle.node_format.specs.declared.place.Place.{Place}
 use Rattle.node_format.specs.declared.place.Place.TheVariants.{Dir, File}
-use Rattle.block_trees.specs.Bodies.{Blocks, index_of, pointer_of, back, head_index, IsChain, IsLinked, IsBody}
-use Rattle.block_trees.specs.Chains.{link_of, next_of, link_items, chain, entries_in, items_in}
-use Rattle.block_trees.specs.Trees.{child, leads, IsWholePlace, HasTree, IsRoot}
-use Rattle.block_trees.specs.Reached.{PlaceNames, BodyNames, Names, Reached, IsFirst, IsNamed}
-use Rattle.block_trees.proofs.Chains.{tail_law}
-use Rattle.block_trees.proofs.Chained.{entry_named, IsAmong, among_chain, held_chain, reached_chain, child_names}
-use Rattle.block_trees.proofs.Entries.{directory_no_index, place_is}
-use Rattle.block_trees.proofs.Reaching.{before_named, reached_via}
-use Rattle.block_trees.proofs.Bodies.{chain_back, chain_node, linked_back}
+use Rattle.nodes.specs.Bodies.{Blocks, index_of, pointer_of, back, head_index, IsChain, IsLinked, IsBody}
+use Rattle.nodes.specs.Chains.{link_of, next_of, link_items, chain, entries_in, items_in}
+use Rattle.nodes.specs.Trees.{child, leads, IsWholePlace, HasTree, IsRoot}
+use Rattle.nodes.specs.Reached.{PlaceNames, BodyNames, Names, Reached, IsFirst, IsNamed}
+use Rattle.nodes.proofs.Chains.{tail_law}
+use Rattle.nodes.proofs.Chained.{entry_named, IsAmong, among_chain, held_chain, reached_chain, child_names}
+use Rattle.nodes.proofs.Entries.{directory_no_index, place_is}
+use Rattle.nodes.proofs.Reaching.{before_named, reached_via}
+use Rattle.nodes.proofs.Bodies.{chain_back, chain_node, linked_back}
 use Rattle.directory.specs.Lookups.{LeadsToDirectories}
 use Rattle.reclaim.specs.Sound.{HoldsLink, IsDirectoryAt, IsHead, IsSoundPlace, HoldsSlot, AreStepped, IsSoundBody, IsSoundNode, SoundHasTrees, TreesAreSound, TreesHoldNodes}
 use Rattle.reclaim.specs.Kinds.{HoldsBodyNode, FileNames, NamesBody}

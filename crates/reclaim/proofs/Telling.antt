@@ -15,9 +15,9 @@ use Rattle.node_format.specs.declared.place.Place.TheVariants.{Dir}
 use Rattle.directory.specs.Depths.{AreQuiet, names_directory, is_directory_at}
 use Rattle.directory.proofs.Levels.{any_contains, directory_is}
 use Rattle.node_format.specs.Links.{Link}
-use Rattle.block_trees.specs.Bodies.{Blocks}
-use Rattle.block_trees.specs.Chains.{link_of, next_of, link_items}
-use Rattle.block_trees.specs.Reached.{Reached}
+use Rattle.nodes.specs.Bodies.{Blocks}
+use Rattle.nodes.specs.Chains.{link_of, next_of, link_items}
+use Rattle.nodes.specs.Reached.{Reached}
 use Rattle.block_ring.proofs.RingOrder.{contains-insert_same, contains-kept}
 use Rattle.reclaim.specs.Passes.{Pass, IsPass, Advances, AreNoted}
 use Rattle.reclaim.specs.Looks.{NextHoldsLink, IsLooked}

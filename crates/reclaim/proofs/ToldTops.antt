@@ -9,8 +9,8 @@ use Rattle.std.proofs.lemmas.List.{flat_map_more}
 use Rattle.std.proofs.lemmas.List.Elements.{Contains-append_cases}
 use Rattle.node_format.specs.BodyNodes.{HasSlot}
 use Rattle.node_format.specs.declared.headers.TheConstants.{SLOTS}
-use Rattle.block_trees.specs.Bodies.{Blocks, index_of, pointer_of}
-use Rattle.block_trees.specs.Reached.{Reached}
+use Rattle.nodes.specs.Bodies.{Blocks, index_of, pointer_of}
+use Rattle.nodes.specs.Reached.{Reached}
 use Rattle.reclaim.specs.Looks.{Says}
 use Rattle.reclaim.specs.Naming.{has_slot}
 use Rattle.reclaim.specs.Passes.{Pass, IsPass, Advances}

@@ -8,9 +8,9 @@ use Rattle.std.proofs.lemmas.List.Elements.{All-more, All-contains, All-contains
 use Rattle.fs_types.specs.declared.limits.TheConstants.{ANCHORS}
 use Rattle.node_format.specs.declared.place.Place.TheVariants.{Dir}
 use Rattle.block_ring.specs.Ring.{IsDataBlock}
-use Rattle.block_trees.specs.Bodies.{Blocks}
-use Rattle.block_trees.specs.Laws.{IsShallow}
-use Rattle.block_trees.specs.Reached.{Reached, IsFirst}
+use Rattle.nodes.specs.Bodies.{Blocks}
+use Rattle.nodes.specs.TreeLaws.{IsShallow}
+use Rattle.nodes.specs.Reached.{Reached, IsFirst}
 use Rattle.directory.specs.Depths.{IsDeeper}
 use Rattle.reclaim.specs.Passes.{Pass}
 use Rattle.reclaim.specs.Verified.{AreRoots}

@@ -1,6 +1,6 @@
 -- What the node in a block tells: the blocks that it names, and all that a verification asks of it.
 use Rattle.std.specs.Prelude.{◌↔◌, ℕ, Option, List, Contains}
-use Rattle.block_trees.specs.Reached.{Names}
+use Rattle.nodes.specs.Reached.{Names}
 use Rattle.reclaim.specs.Looks.{Says}
 use Rattle.reclaim.specs.Tables.{NamesDirectory}
 use Rattle.reclaim.specs.Kinds.{NamesBody}

@@ -6,7 +6,7 @@ use Rattle.std.specs.FinSet as set
 use Rattle.fs_types.specs.declared.limits.TheConstants.{MAX_FILE_BYTES}
 use Rattle.node_format.specs.declared.place.Place.{Place}
 use Rattle.node_format.specs.declared.place.Place.TheVariants.{Dir, File}
-use Rattle.block_trees.specs.Bodies.{Blocks, index_of, pointer_of, data_of, head_index}
+use Rattle.nodes.specs.Bodies.{Blocks, index_of, pointer_of, data_of, head_index}
 use Rattle.reclaim.specs.Looks.{places_of}
 use Rattle.reclaim.specs.Passes.{Pass}
 use Rattle.reclaim.specs.declared.looks.Parts.{Parts}

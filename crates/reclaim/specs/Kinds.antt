@@ -7,9 +7,9 @@ use Rattle.node_format.specs.Items.{Item}
 use Rattle.node_format.specs.declared.place.Place.{Place}
 use Rattle.node_format.specs.declared.place.Place.TheVariants.{Dir, File}
 use Rattle.nodes.specs.PageCounts.{pages_for}
-use Rattle.block_trees.specs.Bodies.{Blocks, index_of, pointer_of}
-use Rattle.block_trees.specs.Chains.{link_items}
-use Rattle.block_trees.specs.Reached.{BodyNames}
+use Rattle.nodes.specs.Bodies.{Blocks, index_of, pointer_of}
+use Rattle.nodes.specs.Chains.{link_items}
+use Rattle.nodes.specs.Reached.{BodyNames}
 use Rattle.reclaim.specs.Passes.{Pass, IsPass}
 use Rattle.reclaim.specs.Verified.{AreRoots}
 

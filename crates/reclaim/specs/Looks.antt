@@ -7,8 +7,8 @@ use Rattle.node_format.specs.Items.{Item, is_before}
 use Rattle.node_format.specs.Headers.{field}
 use Rattle.node_format.specs.Links.{Link}
 use Rattle.node_format.specs.declared.place.Place.{Place}
-use Rattle.block_trees.specs.Bodies.{Blocks, index_of, pointer_of}
-use Rattle.block_trees.specs.Chains.{link_of, next_of, link_items, is_later}
+use Rattle.nodes.specs.Bodies.{Blocks, index_of, pointer_of}
+use Rattle.nodes.specs.Chains.{link_of, next_of, link_items, is_later}
 use Rattle.reclaim.specs.Sound.{HoldsLink, IsHead, IsPlainNode}
 use Rattle.reclaim.specs.declared.edge.Edge.{Edge}
 use Rattle.reclaim.specs.declared.looks.Parts.{Parts}

@@ -7,8 +7,8 @@ use Rattle.fs_types.specs.declared.fault.Fault.{Fault}
 use Rattle.fs_types.specs.declared.fault.Fault.TheVariants.{NoMemory, Damaged}
 use Rattle.block_ring.specs.BlockSet.{BlockSet}
 use Rattle.block_ring.specs.Ring.{IsDataBlock}
-use Rattle.block_trees.specs.Bodies.{Blocks}
-use Rattle.block_trees.specs.Reached.{Reached, Names, Agrees}
+use Rattle.nodes.specs.Bodies.{Blocks}
+use Rattle.nodes.specs.Reached.{Reached, Names, Agrees}
 
 -- how many blocks the flash has, the roots, the marked blocks in order of marking, how many of these were read: the first
 -- ones, and the blocks that were noted as those of bodies

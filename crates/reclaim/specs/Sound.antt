@@ -5,11 +5,11 @@ use Rattle.node_format.specs.Items.{Item}
 use Rattle.node_format.specs.Links.{Link}
 use Rattle.node_format.specs.declared.place.Place.{Place}
 use Rattle.node_format.specs.declared.place.Place.TheVariants.{Dir, File}
-use Rattle.block_trees.specs.Bodies.{Blocks, index_of, pointer_of, data_of, head_index}
-use Rattle.block_trees.specs.Chains.{link_of, entries_in}
-use Rattle.block_trees.specs.Trees.{IsRoot}
-use Rattle.block_trees.specs.Reached.{Reached}
-use Rattle.block_trees.specs.Laws.{IsShallow}
+use Rattle.nodes.specs.Bodies.{Blocks, index_of, pointer_of, data_of, head_index}
+use Rattle.nodes.specs.Chains.{link_of, entries_in}
+use Rattle.nodes.specs.Trees.{IsRoot}
+use Rattle.nodes.specs.Reached.{Reached}
+use Rattle.nodes.specs.TreeLaws.{IsShallow}
 use Rattle.fs_types.specs.declared.limits.TheConstants.{MAX_FILE_BYTES, MAX_NAMES}
 use Rattle.node_format.specs.BodyNodes.{HasSlot}
 

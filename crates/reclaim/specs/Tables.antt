@@ -5,8 +5,8 @@ use Rattle.std.specs.Option.{option_map}
 use Rattle.std.specs.FinSet as set
 use Rattle.node_format.specs.Items.{Item}
 use Rattle.node_format.specs.declared.place.Place.TheVariants.{Dir}
-use Rattle.block_trees.specs.Bodies.{Blocks}
-use Rattle.block_trees.specs.Chains.{link_items, next_of, most_after}
+use Rattle.nodes.specs.Bodies.{Blocks}
+use Rattle.nodes.specs.Chains.{link_items, next_of, most_after}
 use Rattle.reclaim.specs.Sound.{HoldsLink}
 use Rattle.reclaim.specs.Passes.{Pass, AreNoted}
 use Rattle.reclaim.specs.declared.looks.Parts.{Parts}

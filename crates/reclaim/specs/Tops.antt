@@ -3,7 +3,7 @@ use Rattle.std.specs.Prelude.{◌≡◌, ◌≢◌, ℕ, zero, suc, ◌≤◌, B
 use Rattle.std.specs.List.{flat_map}
 use Rattle.std.specs.FinSet as set
 use Rattle.node_format.specs.declared.headers.TheConstants.{SLOTS}
-use Rattle.block_trees.specs.Bodies.{Blocks, index_of, pointer_of}
+use Rattle.nodes.specs.Bodies.{Blocks, index_of, pointer_of}
 use Rattle.reclaim.specs.Naming.{has_slot}
 use Rattle.reclaim.specs.Passes.{Pass}
 use Rattle.reclaim.specs.declared.tops.Tops.{Tops}

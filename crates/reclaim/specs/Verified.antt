@@ -3,12 +3,12 @@ use Rattle.std.specs.Prelude.{◌≡◌, ℕ, ◌+◌, ◌-◌, ◌*◌, ◌≤�
 use Rattle.std.specs.Option.{option_map_or}
 use Rattle.std.specs.List.{sum_by, list_any}
 use Rattle.node_format.specs.Items.{Item, is_dir_place}
-use Rattle.block_trees.specs.Bodies.{Blocks}
-use Rattle.block_trees.specs.Chains.{link_of}
-use Rattle.block_trees.specs.Trees.{IsRoot}
+use Rattle.nodes.specs.Bodies.{Blocks}
+use Rattle.nodes.specs.Chains.{link_of}
+use Rattle.nodes.specs.Trees.{IsRoot}
 use Rattle.reclaim.specs.Looks.{look_reads, NextHoldsLink, IsLooked}
 use Rattle.reclaim.specs.Passes.{Pass, AreReached}
-use Rattle.block_trees.specs.Reached.{Reached}
+use Rattle.nodes.specs.Reached.{Reached}
 use Rattle.reclaim.specs.Sound.{HoldsLink, IsSoundNode, IsPlain}
 use Rattle.reclaim.specs.Tables.{HasSeen}
 use Rattle.node_format.specs.Headers.{body_header}

@@ -2,7 +2,7 @@
 ghost use Rattle.std.specs.Prelude.{◌≡◌, ◌≢◌, ℕ, ◌+◌, ◌≤◌, true, [], List, length, Some, IfOk, IfErr};
 ghost use Rattle.std.specs.Option.{option_map};
 ghost use Rattle.node_format.specs.Links.{Link, link_at};
-ghost use Rattle.block_trees.specs.Chains.{link_of};
+ghost use Rattle.nodes.specs.Chains.{link_of};
 ghost use Rattle.nodes.specs.Parts.{IsFront};
 ghost use Rattle.nodes.specs.Faults.{IsLookFault};
 ghost use Rattle.nodes.specs.Words.{LooksWithin};

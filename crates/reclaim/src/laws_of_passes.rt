@@ -1,6 +1,6 @@
 //! The laws of passes. Each function does nothing: its contract is the law.
 ghost use Rattle.std.specs.Prelude.{◌≡◌, ℕ, true};
-ghost use Rattle.block_trees.specs.Reached.{Reached};
+ghost use Rattle.nodes.specs.Reached.{Reached};
 ghost use Rattle.reclaim.specs.Passes.{Pass as Marking, IsPass, PassStays, PassMarks};
 ghost use Rattle.reclaim.specs.Sound.{SoundHasTrees, TreesAreSound, TreesHoldNodes};
 

@@ -4,8 +4,8 @@ ghost use Rattle.std.specs.Prelude.{◌≡◌, ◌≢◌, ℕ, ◌+◌, ◌*◌,
 ghost use Rattle.fs_types.specs.declared.limits.TheConstants.{MAX_FILE_BYTES};
 ghost use Rattle.node_format.specs.Headers.{field};
 ghost use Rattle.node_format.specs.declared.headers.TheConstants.{SLOTS};
-ghost use Rattle.block_trees.specs.Bodies.{index_of, pointer_of};
-ghost use Rattle.block_trees.specs.Chains.{link_items};
+ghost use Rattle.nodes.specs.Bodies.{index_of, pointer_of};
+ghost use Rattle.nodes.specs.Chains.{link_items};
 ghost use Rattle.reclaim.specs.Sound.{HoldsSlot, IsSoundBody};
 ghost use Rattle.reclaim.specs.Looks as spec;
 ghost use Rattle.reclaim.specs.Naming.{has_slot};

@@ -2,9 +2,9 @@
 ghost use Rattle.std.specs.Prelude.{◌≡◌, ◌≢◌, ℕ, ◌+◌, ◌≤◌, ◌↔◌, ◌++◌, true, false, Some, None, OnOk, IfOk, IfErr, IsErrOf, Contains, option_to_list};
 ghost use Rattle.std.specs.List.{flat_map};
 ghost use Rattle.node_format.specs.declared.headers.TheConstants.{SLOTS};
-ghost use Rattle.block_trees.specs.Bodies.{index_of, pointer_of};
-ghost use Rattle.block_trees.specs.Chains.{link_items, next_of};
-ghost use Rattle.block_trees.specs.Reached.{Names};
+ghost use Rattle.nodes.specs.Bodies.{index_of, pointer_of};
+ghost use Rattle.nodes.specs.Chains.{link_items, next_of};
+ghost use Rattle.nodes.specs.Reached.{Names};
 ghost use Rattle.nodes.specs.Faults.{IsReadFault};
 ghost use Rattle.nodes.specs.Words.{LooksWithin};
 ghost use Rattle.reclaim.specs.Facts.{AreNamed};

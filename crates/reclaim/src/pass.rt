@@ -2,9 +2,9 @@
 ghost use Rattle.std.specs.Prelude.{◌≡◌, ◌≢◌, ◌↔◌, ℕ, ◌+◌, ◌-◌, ◌^◌, ◌<◌, ◌≤◌, [], ◌∷◌, true, false, length, slice_index, Contains, OnOk, IfOk, IfErr, IfSome, IfNone, IsErrOf, None, Ok, Err};
 ghost use Rattle.std.specs.FinSet as set;
 ghost use Rattle.block_ring.specs.Ring.{IsDataBlock};
-ghost use Rattle.block_trees.specs.Bodies.{Blocks};
-ghost use Rattle.block_trees.specs.Reached.{Reached, Names};
-ghost use Rattle.block_trees.specs.Trees.{IsRoot};
+ghost use Rattle.nodes.specs.Bodies.{Blocks};
+ghost use Rattle.nodes.specs.Reached.{Reached, Names};
+ghost use Rattle.nodes.specs.Trees.{IsRoot};
 ghost use Rattle.node_format.specs.Headers.{body_header};
 ghost use Rattle.nodes.specs.Faults.{IsReadFault};
 ghost use Rattle.nodes.specs.Words.{LooksWithin};

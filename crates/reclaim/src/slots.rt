@@ -1,6 +1,6 @@
 //! The index and the slots of any bytes with the magic of a body node.
 ghost use Rattle.std.specs.Prelude.{◌≡◌, ℕ, ◌+◌, ◌*◌, ◌^◌, ◌<◌, Some};
-ghost use Rattle.block_trees.specs.Bodies.{index_of, pointer_of};
+ghost use Rattle.nodes.specs.Bodies.{index_of, pointer_of};
 ghost use Rattle.node_format.specs.Headers.{field};
 ghost use Rattle.node_format.specs.declared.headers.TheConstants.{SLOTS};
 ghost use Rattle.reclaim.specs.Naming as spec;

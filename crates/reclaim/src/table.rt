@@ -5,7 +5,7 @@ ghost use Rattle.std.specs.Option.{option_map, option_map_or};
 ghost use Rattle.node_format.specs.declared.headers.TheConstants.{SLOTS};
 ghost use Rattle.node_format.specs.declared.place.Place.{Place};
 ghost use Rattle.node_format.specs.declared.place.Place.TheVariants.{File};
-ghost use Rattle.block_trees.specs.Chains.{most_after};
+ghost use Rattle.nodes.specs.Chains.{most_after};
 ghost use Rattle.reclaim.specs.Heads as heads;
 ghost use Rattle.reclaim.specs.Passes.{AreNoted};
 ghost use Rattle.reclaim.specs.Tables as spec;

@@ -2,7 +2,7 @@
 ghost use Rattle.std.specs.Prelude.{◌≡◌, ◌↔◌, ℕ, ◌+◌, ◌≤◌, ◌<◌, true, length, slice_index, All, Contains, IsTrue, IfOk, IsErrOf};
 ghost use Rattle.block_ring.specs.Ring.{IsDataBlock};
 ghost use Rattle.node_format.specs.declared.place.Place.TheVariants.{Dir};
-ghost use Rattle.block_trees.specs.Laws.{IsShallow};
+ghost use Rattle.nodes.specs.TreeLaws.{IsShallow};
 ghost use Rattle.directory.specs.Depths.{AreQuiet};
 ghost use Rattle.directory.specs.Lookups.{LeadsToDirectories};
 ghost use Rattle.nodes.specs.Faults.{IsLookFault, IsReadFault};

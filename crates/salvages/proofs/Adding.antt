@@ -8,8 +8,8 @@ use Rattle.std.proofs.lemmas.List.Concat.{flat_map-append}
 use Rattle.std.proofs.lemmas.List.Sums.{sum_by-append}
 use Rattle.node_format.specs.Items.{Item}
 use Rattle.node_format.specs.Links.{Link}
-use Rattle.block_trees.specs.Bodies.{Blocks}
-use Rattle.block_trees.specs.Chains.{link_of, most_after}
+use Rattle.nodes.specs.Bodies.{Blocks}
+use Rattle.nodes.specs.Chains.{link_of, most_after}
 use Rattle.known_nodes.specs.Rests.{link_after, items_from, is_cut_from}
 use Rattle.salvages.specs.Losses.{Adds, Uncounted, losses_cost, lost_item, ways_item, item_cost, lost_entries, lost_of_link, ways_of_link, link_cost, loss, lost_in, ways_in, cost_in}
 use Rattle.salvages.specs.declared.found.Found.{Found}

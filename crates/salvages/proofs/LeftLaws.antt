@@ -11,8 +11,8 @@ use Rattle.node_format.specs.Items.{Item}
 use Rattle.node_format.specs.Links.{Link}
 use Rattle.node_format.specs.declared.place.Place.{Place}
 use Rattle.node_format.specs.declared.place.Place.TheVariants.{Dir, File}
-use Rattle.block_trees.specs.Bodies.{Blocks}
-use Rattle.block_trees.specs.Chains.{link_of, most_after}
+use Rattle.nodes.specs.Bodies.{Blocks}
+use Rattle.nodes.specs.Chains.{link_of, most_after}
 use Rattle.salvages.specs.Lefts.{left, left_item, left_in, next_left, left_from, left_of}
 use Rattle.known_nodes.specs.Rests.{items_from, items_left, leads_left}
 use Rattle.salvages.specs.declared.lefts.Left.{Left}

@@ -3,7 +3,7 @@ use Rattle.std.proofs.Common.{◌≡◌, ℕ, suc, ◌+◌, List, ◌++◌, refl
 use Rattle.std.specs.Prelude.{sum_by}
 use Rattle.std.specs.List.{flat_map}
 use Rattle.std.proofs.lemmas.List.{append_assoc}
-use Rattle.block_trees.specs.Bodies.{Blocks}
+use Rattle.nodes.specs.Bodies.{Blocks}
 use Rattle.salvages.specs.Losses.{lost_in, ways_in, lost_under, lost_from, cost_in, cost_under, cost_from, Uncounted}
 use Rattle.salvages.specs.declared.found.Way.{Way}
 use Rattle.salvages.specs.declared.losses.Loss.{Loss}

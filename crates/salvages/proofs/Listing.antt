@@ -11,7 +11,7 @@ use Rattle.fs_types.specs.declared.call.Call.{Call}
 use Rattle.plain_trees.specs.Contents.{Entry}
 use Rattle.node_format.specs.Items.{Item}
 use Rattle.node_format.specs.Links.{Link}
-use Rattle.block_trees.specs.Bodies.{Blocks}
+use Rattle.nodes.specs.Bodies.{Blocks}
 use Rattle.salvages.specs.Lefts.{left_from, left_item, made_at, next_left}
 use Rattle.known_nodes.specs.Rests.{link_after, items_from}
 use Rattle.salvages.specs.declared.lefts.Left.{Left}

@@ -16,8 +16,8 @@ use Rattle.node_format.specs.Order.{both_true, and_true, all_after}
 use Rattle.node_format.specs.declared.place.Place.{Place}
 use Rattle.node_format.specs.declared.place.Place.TheVariants.{Dir, File}
 use Rattle.node_format.proofs.LinkLaws.{link_ascending}
-use Rattle.block_trees.specs.Bodies.{Blocks}
-use Rattle.block_trees.specs.Chains.{link_of, most_after, is_later}
+use Rattle.nodes.specs.Bodies.{Blocks}
+use Rattle.nodes.specs.Chains.{link_of, most_after, is_later}
 use Rattle.reclaim.specs.Looks.{last_name, are_after, may_follow}
 use Rattle.salvages.specs.LossLaws.{path_bytes, IsLostAt, LossLaw}
 use Rattle.salvages.specs.Losses.{path_to, loss, way, lost_at, lost_item, ways_at, ways_item, lost_entries, lost_of_link, lost_in, ways_of_link, ways_in, lost_under, lost_from, lost_of}

@@ -7,7 +7,7 @@ use Rattle.flash_model.specs.Device.{Device}
 use Rattle.flash_model.specs.Geometry.{IsGeometry, block_bytes}
 use Rattle.flash_model.specs.Reading.{OnlyReads}
 use Rattle.node_store.specs.ReadingLaws.{OnlyReads_nodes}
-use Rattle.block_trees.specs.Bodies.{Blocks}
+use Rattle.nodes.specs.Bodies.{Blocks}
 use Rattle.reclaim.specs.Verified.{AreAllowed}
 use Rattle.salvages.specs.Kept.{is_lost}
 use Rattle.salvages.specs.Wholes.{IsWhole, AreLost}

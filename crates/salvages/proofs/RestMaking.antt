@@ -17,8 +17,8 @@ use Rattle.history_machine.specs.Machine.{Machine, after}
 use Rattle.node_format.specs.Links.{Link}
 use Rattle.node_format.specs.declared.place.Place.{Place}
 use Rattle.node_format.specs.declared.place.Place.TheVariants.{Dir}
-use Rattle.block_trees.specs.Bodies.{Blocks}
-use Rattle.block_trees.specs.Chains.{link_of}
+use Rattle.nodes.specs.Bodies.{Blocks}
+use Rattle.nodes.specs.Chains.{link_of}
 use Rattle.tree_differences.specs.UpdateLaws.{Brings, EachAccepted, due_after, grouped}
 use Rattle.tree_differences.proofs.Assigned.{assigned, all_assigned, all_have, all_miss}
 use Rattle.tree_differences.proofs.Leading.{within, Leads, leads-refl, leads-trans, accepted-parts, after-append, mkdir_leads, write_leads}

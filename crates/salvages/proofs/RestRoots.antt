@@ -6,7 +6,7 @@ use Rattle.std.specs.Option.{option_map, option_and_then}
 use Rattle.std.proofs.lemmas.Option.{same_Some, none-some}
 use Rattle.fs_types.specs.declared.call.Version.{Version}
 use Rattle.record_format.specs.declared.record.Record.{Record}
-use Rattle.block_trees.specs.Bodies.{Blocks}
+use Rattle.nodes.specs.Bodies.{Blocks}
 use Rattle.flash_model.specs.Device.{Device}
 use Rattle.plain_trees.specs.Contents.{Contents}
 use Rattle.node_store.specs.NodePages.{node_of}

@@ -18,8 +18,8 @@ use Rattle.flash_model.specs.Reading.{OnlyReads}
 use Rattle.node_format.specs.Headers.{body_header}
 use Rattle.node_store.specs.NodePages.{node_of, node_at}
 use Rattle.node_store.specs.NodeLaws.{node_of-same}
-use Rattle.block_trees.specs.Bodies.{Blocks}
-use Rattle.block_trees.specs.Trees.{IsRoot, root_tree}
+use Rattle.nodes.specs.Bodies.{Blocks}
+use Rattle.nodes.specs.Trees.{IsRoot, root_tree}
 use Rattle.record_format.proofs.ItsFlash.{means_its_flash}
 use Rattle.record_format.specs.Payloads.{is_record, payload_at, written}
 use Rattle.record_format.specs.declared.record.Checkpoint.{Checkpoint}

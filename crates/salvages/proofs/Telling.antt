@@ -8,7 +8,7 @@ use Rattle.node_store.specs.NodePages.{node_of}
 use Rattle.node_store.specs.ReadingLaws.{OnlyReads_nodes}
 use Rattle.flash_model.specs.Geometry.{block_bytes}
 use Rattle.node_format.specs.Headers.{body_header}
-use Rattle.block_trees.specs.Bodies.{Blocks}
+use Rattle.nodes.specs.Bodies.{Blocks}
 use Rattle.record_format.specs.declared.record.Record.{Record}
 use Rattle.anchors.proofs.Committed.{committed_stays}
 use Rattle.working_state.specs.Seen.{capacity_of}

@@ -8,7 +8,7 @@ use Rattle.plain_trees.specs.Contents.{Entry}
 use Rattle.node_format.specs.Items.{Item}
 use Rattle.node_format.specs.declared.place.Place.{Place}
 use Rattle.node_format.specs.declared.place.Place.TheVariants.{Dir, File}
-use Rattle.block_trees.specs.Bodies.{Blocks}
+use Rattle.nodes.specs.Bodies.{Blocks}
 use Rattle.known_nodes.specs.Rests.{items_left, entry_left}
 use Rattle.known_nodes.specs.WholeFiles.{is_file}
 use Rattle.salvages.specs.declared.lefts.Left.{Left}

@@ -5,8 +5,8 @@ use Rattle.fs_types.specs.declared.limits.TheConstants.{MAX_NAMES}
 use Rattle.fs_types.specs.Names.{Path}
 use Rattle.node_format.specs.Links.{Link}
 use Rattle.node_format.specs.declared.place.Place.TheVariants.{Dir, File}
-use Rattle.block_trees.specs.Bodies.{Blocks}
-use Rattle.block_trees.specs.Chains.{link_of, most_after}
+use Rattle.nodes.specs.Bodies.{Blocks}
+use Rattle.nodes.specs.Chains.{link_of, most_after}
 use Rattle.salvages.specs.Losses.{lost_of}
 use Rattle.known_nodes.specs.Rests.{leads_left, is_cut_from}
 use Rattle.known_nodes.specs.WholeFiles.{is_file}

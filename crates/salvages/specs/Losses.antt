@@ -8,8 +8,8 @@ use Rattle.node_format.specs.Items.{Item}
 use Rattle.node_format.specs.Links.{Link}
 use Rattle.node_format.specs.declared.place.Place.{Place}
 use Rattle.node_format.specs.declared.place.Place.TheVariants.{Dir, File}
-use Rattle.block_trees.specs.Bodies.{Blocks}
-use Rattle.block_trees.specs.Chains.{link_of, most_after}
+use Rattle.nodes.specs.Bodies.{Blocks}
+use Rattle.nodes.specs.Chains.{link_of, most_after}
 use Rattle.known_nodes.specs.Rests.{items_from, is_cut_from}
 use Rattle.known_nodes.specs.WholeFiles.{is_file}
 use Rattle.salvages.specs.declared.found.Found.{Found}

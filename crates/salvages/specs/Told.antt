@@ -5,8 +5,8 @@ use Rattle.std.specs.List.{find}
 use Rattle.fs_types.specs.declared.call.Version.{Version}
 use Rattle.flash_model.specs.Device.{Device}
 use Rattle.node_store.specs.NodePages.{node_of}
-use Rattle.block_trees.specs.Bodies.{Blocks}
-use Rattle.block_trees.specs.Chains.{link_of}
+use Rattle.nodes.specs.Bodies.{Blocks}
+use Rattle.nodes.specs.Chains.{link_of}
 use Rattle.record_format.specs.declared.record.Record.{Record}
 use Rattle.anchors.specs.Newest.{committed_on}
 use Rattle.mounting.specs.Records.{knows_plain_only}

@@ -21,7 +21,7 @@ use Rattle.node_store.specs.FittingLaws.{still_fits}
 use Rattle.record_format.specs.declared.formats.TheConstants.{FORMAT}
 use Rattle.record_format.specs.declared.record.Record.{Record}
 use Rattle.block_ring.specs.BlockSet.{BlockSet}
-use Rattle.block_trees.specs.Bodies.{Blocks}
+use Rattle.nodes.specs.Bodies.{Blocks}
 use Rattle.node_store.specs.NodePages.{node_of}
 use Rattle.reclaim.specs.Sound.{IsPlain}
 use Rattle.anchors.specs.declared.anchors.Anchors.{Anchors}

@@ -22,10 +22,10 @@ use Rattle.node_format.specs.declared.place.Place.TheVariants.{Dir}
 use Rattle.node_store.specs.NodePages.{node_of}
 use Rattle.node_store.specs.NodeLaws.{node_of-same}
 use Rattle.node_store.specs.declared.storage.Storage.{Storage}
-use Rattle.block_trees.specs.Laws.{FrameLaw}
-use Rattle.block_trees.specs.Reached.{Reached}
-use Rattle.block_trees.specs.Trees.{IsRoot, root_tree}
-use Rattle.block_trees.proofs.Frames.{frame_law}
+use Rattle.nodes.specs.TreeLaws.{FrameLaw}
+use Rattle.nodes.specs.Reached.{Reached}
+use Rattle.nodes.specs.Trees.{IsRoot, root_tree}
+use Rattle.nodes.proofs.Frames.{frame_law}
 use Rattle.system.specs.CleaningRounds.{CleanEnds, CleansBlocks, ErasesFree, is_free}
 use Rattle.system.proofs.PreparingLemmas.{looked_frees}
 use Rattle.reclaim.specs.Passes.{Pass}

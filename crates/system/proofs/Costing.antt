@@ -14,7 +14,7 @@ use Rattle.node_store.specs.NodePages.{node_of}
 use Rattle.node_store.specs.ReadingLaws.{OnlyReads_nodes}
 use Rattle.node_store.specs.Stores.{Follows}
 use Rattle.node_store.specs.declared.store.Store.{Store}
-use Rattle.block_trees.specs.Bodies.{Blocks}
+use Rattle.nodes.specs.Bodies.{Blocks}
 use Rattle.reclaim.specs.Passes.{Pass, IsPass, AreReached, HasRead}
 use Rattle.reclaim.specs.Verified.{all_pages}
 use Rattle.record_format.specs.declared.record.Record.{Record}

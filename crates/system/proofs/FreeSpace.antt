@@ -13,7 +13,7 @@ use Rattle.flash_model.specs.Device.{Device}
 use Rattle.bad_blocks.specs.Mode.{bad_anchors}
 use Rattle.block_ring.specs.Ring.{data_blocks}
 use Rattle.node_store.specs.NodePages.{node_of}
-use Rattle.block_trees.specs.Reached.{Reached}
+use Rattle.nodes.specs.Reached.{Reached}
 use Rattle.reclaim.proofs.MoreRoots.{reached_more}
 use Rattle.tree_counts.specs.Counts.{CountsFree}
 use Rattle.working_state.specs.Mounted.{IsMounted}

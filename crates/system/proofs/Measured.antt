@@ -22,8 +22,8 @@ use Rattle.bad_blocks.specs.Mode.{bad_anchors}
 use Rattle.block_ring.specs.Ring.{data_blocks}
 use Rattle.node_store.specs.NodePages.{node_of}
 use Rattle.node_store.specs.ReadingLaws.{OnlyReads_nodes}
-use Rattle.block_trees.specs.Bodies.{Blocks}
-use Rattle.block_trees.specs.Reached.{Reached, IsFirst, IsNamed}
+use Rattle.nodes.specs.Bodies.{Blocks}
+use Rattle.nodes.specs.Reached.{Reached, IsFirst, IsNamed}
 use Rattle.reclaim.specs.Verified.{AreRoots}
 use Rattle.working_state.specs.Moments.{Moment, machine_at, seen_at, shown_at, IsMountedAt, IsStep}
 use Rattle.working_state.specs.Mounted.{IsMounted, StateStep}

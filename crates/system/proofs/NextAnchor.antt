@@ -12,7 +12,7 @@ use Rattle.flash_model.specs.Device.{Device, block_of}
 use Rattle.block_ring.specs.Ring.{AreDataBlocks}
 use Rattle.bad_blocks.specs.Mode.{is_read_only}
 use Rattle.node_store.specs.NodePages.{node_of}
-use Rattle.block_trees.specs.Reached.{Reached}
+use Rattle.nodes.specs.Reached.{Reached}
 use Rattle.system.specs.CleaningRounds.{is_free}
 use Rattle.record_format.specs.declared.record.Record.{Record}
 use Rattle.anchors.specs.declared.anchors.Anchors.{Anchors}

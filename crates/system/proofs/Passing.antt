@@ -26,9 +26,9 @@ use Rattle.node_store.specs.NodePages.{node_of}
 use Rattle.node_store.specs.Stores.{Causes}
 use Rattle.node_store.specs.declared.store.Store.{Store}
 use Rattle.node_store.specs.declared.storage.Storage.{Storage}
-use Rattle.block_trees.specs.Bodies.{Blocks}
-use Rattle.block_trees.specs.Reached.{Reached}
-use Rattle.block_trees.specs.Trees.{IsRoot}
+use Rattle.nodes.specs.Bodies.{Blocks}
+use Rattle.nodes.specs.Reached.{Reached}
+use Rattle.nodes.specs.Trees.{IsRoot}
 use Rattle.reclaim.specs.Kinds.{Knows}
 use Rattle.reclaim.specs.Passes.{Pass, IsPass, IsFinished}
 use Rattle.reclaim.proofs.KnownPasses.{begins_known}

@@ -13,8 +13,8 @@ use Rattle.block_ring.specs.Ring.{Ring}
 use Rattle.bad_blocks.specs.Mode.{is_read_only}
 use Rattle.node_store.specs.NodePages.{node_of}
 use Rattle.node_store.specs.declared.storage.Storage.{Storage}
-use Rattle.block_trees.specs.Bodies.{Blocks}
-use Rattle.block_trees.specs.Reached.{Reached}
+use Rattle.nodes.specs.Bodies.{Blocks}
+use Rattle.nodes.specs.Reached.{Reached}
 use Rattle.system.specs.CleaningRounds.{is_free}
 use Rattle.system.specs.Preparations.{Preparation, PreparesBlocks, next_unprepared, preparation}
 use Rattle.record_format.specs.declared.record.Record.{Record}

@@ -21,8 +21,8 @@ use Rattle.flash_model.specs.Device.{Device, block_of}
 use Rattle.node_store.specs.NodePages.{node_of}
 use Rattle.node_store.specs.Storage.{storage}
 use Rattle.node_store.specs.StoreLaws.{Evolved_node}
-use Rattle.block_trees.specs.Bodies.{Blocks}
-use Rattle.block_trees.specs.Reached.{Reached}
+use Rattle.nodes.specs.Bodies.{Blocks}
+use Rattle.nodes.specs.Reached.{Reached}
 use Rattle.reclaim.proofs.Marking.{reached_same, reached_back}
 use Rattle.bad_blocks.specs.Mode.{is_read_only}
 use Rattle.working_state.specs.Mounted.{KeepsPages}

@@ -8,8 +8,8 @@ use Rattle.flash_model.specs.declared.geometry.Geometry.{Geometry}
 use Rattle.flash_model.specs.Device.{Device}
 use Rattle.flash_model.specs.Geometry.{block_bytes}
 use Rattle.node_store.specs.NodePages.{node_of}
-use Rattle.block_trees.specs.Bodies.{Blocks}
-use Rattle.block_trees.specs.Reached.{Reached, Agrees}
+use Rattle.nodes.specs.Bodies.{Blocks}
+use Rattle.nodes.specs.Reached.{Reached, Agrees}
 use Rattle.reclaim.specs.Kinds.{IsKnownMarking}
 use Rattle.reclaim.specs.Passes.{Pass, IsPass}
 use Rattle.reclaim.specs.Verified.{AreRoots}

@@ -25,8 +25,8 @@ use Rattle.history_machine.specs.Machine.{Space}
 use Rattle.flash_model.specs.Device.{Device}
 use Rattle.block_ring.specs.Ring.{data_blocks}
 use Rattle.node_store.specs.NodePages.{node_of}
-use Rattle.block_trees.specs.Bodies.{Blocks}
-use Rattle.block_trees.specs.Reached.{Reached}
+use Rattle.nodes.specs.Bodies.{Blocks}
+use Rattle.nodes.specs.Reached.{Reached}
 use Rattle.tree_counts.specs.Counts.{IsAlone}
 use Rattle.working_state.specs.Roots.{IsSpace}
 use Rattle.working_state.specs.Seen.{tree_on}

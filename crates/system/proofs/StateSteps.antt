@@ -17,8 +17,8 @@ use Rattle.node_format.specs.Headers.{body_header}
 use Rattle.node_store.specs.NodePages.{node_of}
 use Rattle.node_store.specs.Storage.{Storage, storage, Evolved}
 use Rattle.node_store.specs.StoreLaws.{Evolved_node}
-use Rattle.block_trees.specs.Reached.{Reached}
-use Rattle.block_trees.specs.Trees.{IsRoot}
+use Rattle.nodes.specs.Reached.{Reached}
+use Rattle.nodes.specs.Trees.{IsRoot}
 use Rattle.reclaim.specs.Passes.{Pass}
 use Rattle.reclaim.specs.Verified.{AreRoots}
 use Rattle.reclaim.proofs.Marking.{reached_back}

@@ -20,8 +20,8 @@ use Rattle.fs_types.specs.declared.limits.TheConstants.{ANCHORS}
 use Rattle.flash_model.specs.Device.{Device, block_of}
 use Rattle.block_ring.specs.Ring.{Ring, is_busy, free_count}
 use Rattle.bad_blocks.specs.Mode.{is_read_only}
-use Rattle.block_trees.specs.Bodies.{Blocks}
-use Rattle.block_trees.specs.Reached.{Reached, IsFirst, IsNamed}
+use Rattle.nodes.specs.Bodies.{Blocks}
+use Rattle.nodes.specs.Reached.{Reached, IsFirst, IsNamed}
 use Rattle.record_format.specs.declared.record.Record.{Record}
 use Rattle.node_store.specs.NodePages.{node_of}
 use Rattle.anchors.specs.declared.best.Found.{Found}

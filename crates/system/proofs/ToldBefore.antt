@@ -14,8 +14,8 @@ use Rattle.bad_blocks.specs.Mode.{bad_anchors}
 use Rattle.block_ring.specs.Ring.{data_blocks}
 use Rattle.node_store.specs.NodePages.{node_of}
 use Rattle.node_store.specs.ReadingLaws.{OnlyReads_nodes}
-use Rattle.block_trees.specs.Bodies.{Blocks}
-use Rattle.block_trees.specs.Reached.{Reached}
+use Rattle.nodes.specs.Bodies.{Blocks}
+use Rattle.nodes.specs.Reached.{Reached}
 use Rattle.tree_counts.specs.Counts.{CountsAlone}
 use Rattle.working_state.specs.Roots.{HasRoot, IsReached}
 use Rattle.working_state.specs.declared.state.State.{State}

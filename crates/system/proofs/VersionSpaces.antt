@@ -15,7 +15,7 @@ use Rattle.flash_model.specs.declared.geometry.Geometry.{Geometry}
 use Rattle.block_ring.specs.Ring.{Ring, data_blocks}
 use Rattle.node_store.specs.NodePages.{node_of}
 use Rattle.node_store.specs.ReadingLaws.{OnlyReads_nodes}
-use Rattle.block_trees.specs.Bodies.{Blocks}
+use Rattle.nodes.specs.Bodies.{Blocks}
 use Rattle.reclaim.specs.Passes.{AreReached}
 use Rattle.tree_counts.specs.Counts.{CountsFree, CountsFreed}
 use Rattle.tree_counts.specs.FirstRoots.{AreFirstRoots, is_free}

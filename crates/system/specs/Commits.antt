@@ -11,7 +11,7 @@ use Rattle.fs_types.specs.declared.fault.Fault.TheVariants.{ReadOnly, Overflow, 
 use Rattle.fs_types.specs.declared.limits.TheConstants.{ANCHORS}
 use Rattle.flash_model.specs.Device.{Device, block_of}
 use Rattle.node_store.specs.NodePages.{node_of}
-use Rattle.block_trees.specs.Reached.{Reached}
+use Rattle.nodes.specs.Reached.{Reached}
 use Rattle.bad_blocks.specs.Mode.{is_read_only}
 use Rattle.record_format.specs.declared.record.Record.{Record}
 use Rattle.anchors.specs.Newest.{remembered}

@@ -9,7 +9,7 @@ use Rattle.reclaim.specs.Passes.{Pass, Begins, AreReached, IsPass, IsFinished}
 use Rattle.fs_types.specs.declared.fault.Fault.{Fault}
 use Rattle.fs_types.specs.declared.fault.Fault.TheVariants.{PowerCut}
 use Rattle.flash_model.specs.Reading.{OnlyReads}
-use Rattle.block_trees.specs.Reached.{Reached}
+use Rattle.nodes.specs.Reached.{Reached}
 use Rattle.working_state.specs.Seen.{seen_on, machine_on}
 use Rattle.working_state.specs.Steps.{is_cut_answer}
 use Rattle.working_state.specs.Worked.{ReadCause}

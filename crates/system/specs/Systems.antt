@@ -5,7 +5,7 @@ use Rattle.std.specs.Ordering.{nat_cmp}
 use Rattle.flash_model.specs.Device.{Device}
 use Rattle.flash_model.specs.Geometry.{block_bytes}
 use Rattle.node_store.specs.NodePages.{node_of}
-use Rattle.block_trees.specs.Reached.{Reached}
+use Rattle.nodes.specs.Reached.{Reached}
 use Rattle.reclaim.specs.Kinds.{Knows}
 use Rattle.reclaim.specs.Passes.{Pass}
 use Rattle.record_format.specs.declared.record.Record.{Record}

@@ -3,8 +3,8 @@ ghost use Rattle.std.specs.Prelude.{◌≡◌, ◌≢◌, ◌≤◌, ◌+◌, �
 ghost use Rattle.std.specs.FinSet as set;
 ghost use Rattle.flash_model.specs.Geometry.{IsGeometry, block_bytes};
 ghost use Rattle.block_ring.specs.Ring.{IsDataBlock};
-ghost use Rattle.block_trees.specs.Bodies.{Blocks};
-ghost use Rattle.block_trees.specs.Reached.{Reached};
+ghost use Rattle.nodes.specs.Bodies.{Blocks};
+ghost use Rattle.nodes.specs.Reached.{Reached};
 ghost use Rattle.node_store.specs.Fitting.{Fits};
 ghost use Rattle.node_store.specs.NodePages.{node_of};
 ghost use Rattle.node_store.specs.Stores.{IsSoundStore, Follows};

@@ -4,7 +4,7 @@ ghost use Rattle.flash_model.specs.Geometry.{IsGeometry};
 ghost use Rattle.node_store.specs.Fitting.{Fits};
 ghost use Rattle.node_store.specs.NodePages.{node_of};
 ghost use Rattle.node_store.specs.Stores.{IsSoundStore, Follows};
-ghost use Rattle.block_trees.specs.Trees.{IsRoot};
+ghost use Rattle.nodes.specs.Trees.{IsRoot};
 ghost use Rattle.tree_differences.specs.Differing.{differing_paths};
 ghost use Rattle.working_state.specs.Leaves.{HasLooked};
 ghost use Rattle.working_state.specs.Seen.{capacity_of, tree_on, seen_of};

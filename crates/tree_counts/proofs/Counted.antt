@@ -12,8 +12,8 @@ use Rattle.std.specs.Ordering.{nat_cmp}
 use Rattle.std.specs.Prelude.{slice_index, Contains}
 use Rattle.block_ring.specs.Ring.{data_blocks}
 use Rattle.block_ring.proofs.SetBits.{contains-range}
-use Rattle.block_trees.specs.Bodies.{Blocks}
-use Rattle.block_trees.specs.Reached.{Reached, IsFirst, IsNamed}
+use Rattle.nodes.specs.Bodies.{Blocks}
+use Rattle.nodes.specs.Reached.{Reached, IsFirst, IsNamed}
 use Rattle.tree_counts.specs.Counts.{CountsFree, CountsFreed, IsAlone, CountsAlone}
 use Rattle.tree_counts.specs.FirstRoots.{AreFirstRoots, is_reached, is_free, is_freed, is_only, is_alone}
 

@@ -16,15 +16,15 @@ use Rattle.node_format.specs.Items.{Item, is_dir_place}
 use Rattle.node_format.specs.Links.{Link}
 use Rattle.node_format.specs.declared.place.Place.{Place}
 use Rattle.node_format.specs.declared.place.Place.TheVariants.{Dir, File}
-use Rattle.block_trees.specs.Bodies.{Blocks, body, IsBody, data_to, head_index}
-use Rattle.block_trees.specs.Chains.{link_of, link_items, next_of, entries_after, most_after}
-use Rattle.block_trees.specs.Laws.{MapLaw}
-use Rattle.block_trees.specs.Reached.{Names, PlaceNames}
-use Rattle.block_trees.specs.Trees.{child, leads, tree, entry_at, entries_in, items_in, names_of, root_tree, HasTree, IsRoot, IsWholePlace}
-use Rattle.block_trees.proofs.Chains.{by_test, AfterParts, HasNodeAfter, HasFirstNode, none_after, after_parts, first_parts, next_is, items_are}
-use Rattle.block_trees.proofs.Chained.{entry_named}
-use Rattle.block_trees.proofs.EditedTrees.{child_tree}
-use Rattle.block_trees.proofs.RootMaps.{leads-append, map_law}
+use Rattle.nodes.specs.Bodies.{Blocks, body, IsBody, data_to, head_index}
+use Rattle.nodes.specs.Chains.{link_of, link_items, next_of, entries_after, most_after}
+use Rattle.nodes.specs.TreeLaws.{MapLaw}
+use Rattle.nodes.specs.Reached.{Names, PlaceNames}
+use Rattle.nodes.specs.Trees.{child, leads, tree, entry_at, entries_in, items_in, names_of, root_tree, HasTree, IsRoot, IsWholePlace}
+use Rattle.nodes.proofs.Chains.{by_test, AfterParts, HasNodeAfter, HasFirstNode, none_after, after_parts, first_parts, next_is, items_are}
+use Rattle.nodes.proofs.Chained.{entry_named}
+use Rattle.nodes.proofs.EditedTrees.{child_tree}
+use Rattle.nodes.proofs.RootMaps.{leads-append, map_law}
 use Rattle.reclaim.specs.Naming.{item_directories, place_directories, next_names}
 use Rattle.tree_counts.specs.Counted.{leads_of, own, own_of, weight, IsLow, most_steps, size_from}
 use Rattle.tree_counts.specs.Sizes.{sum_below, one, file_length, place_one, place_length, sized, size_of}

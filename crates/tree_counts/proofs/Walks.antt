@@ -13,9 +13,9 @@ use Rattle.fs_types.specs.declared.limits.TheConstants.{ANCHORS}
 use Rattle.block_ring.specs.Ring.{IsDataBlock}
 use Rattle.node_format.specs.Headers.{body_header}
 use Rattle.nodes.specs.Faults.{IsReadFault, IsLookFault}
-use Rattle.block_trees.specs.Bodies.{Blocks}
-use Rattle.block_trees.specs.Reached.{Reached, IsFirst, IsNamed}
-use Rattle.block_trees.specs.Trees.{IsRoot}
+use Rattle.nodes.specs.Bodies.{Blocks}
+use Rattle.nodes.specs.Reached.{Reached, IsFirst, IsNamed}
+use Rattle.nodes.specs.Trees.{IsRoot}
 use Rattle.reclaim.specs.Kinds.{Knows}
 use Rattle.reclaim.specs.Passes.{Pass, AreReached, Begins, HasRead, IsFinished, IsPass}
 use Rattle.reclaim.specs.MoreRoots.{AddsRoot}

@@ -4,11 +4,11 @@ use Rattle.std.specs.Prelude.{sum_by, Contains}
 use Rattle.std.specs.List.{flat_map}
 use Rattle.node_format.specs.Items.{Item}
 use Rattle.node_format.specs.declared.place.Place.{Place}
-use Rattle.block_trees.specs.Bodies.{Blocks}
+use Rattle.nodes.specs.Bodies.{Blocks}
 use Rattle.std.proofs.lemmas.List.Sums.{sum_by-cons}
 use Rattle.std.proofs.lemmas.Bool.{cases_lt}
 use Rattle.node_format.specs.Links.{Link}
-use Rattle.block_trees.specs.Chains.{link_of}
+use Rattle.nodes.specs.Chains.{link_of}
 use Rattle.reclaim.specs.Sound.{HoldsLink}
 use Rattle.tree_counts.specs.Counted.{leads_of, own, own_of, weight, IsLow, most_steps, IsUnder, IsNext, IsLater}
 use Rattle.tree_counts.specs.Sizes.{sized, place_one, place_length}

@@ -4,9 +4,9 @@ use Rattle.std.specs.List.{flat_map}
 use Rattle.fs_types.specs.declared.limits.TheConstants.{MAX_NAMES, CHAIN_NODES}
 use Rattle.node_format.specs.Items.{Item}
 use Rattle.node_format.specs.declared.place.Place.{Place}
-use Rattle.block_trees.specs.Bodies.{Blocks}
-use Rattle.block_trees.specs.Chains.{link_items, next_of}
-use Rattle.block_trees.specs.Reached.{Reached}
+use Rattle.nodes.specs.Bodies.{Blocks}
+use Rattle.nodes.specs.Chains.{link_items, next_of}
+use Rattle.nodes.specs.Reached.{Reached}
 use Rattle.reclaim.specs.Naming.{item_directories, next_names}
 use Rattle.reclaim.specs.Passes.{AreReached}
 use Rattle.reclaim.specs.Sound.{HoldsLink}

@@ -3,8 +3,8 @@ use Rattle.std.specs.Prelude.{◌≡◌, ◌≢◌, ◌↔◌, ℕ, ◌+◌, ◌
 use Rattle.std.specs.FinSet as set
 use Rattle.std.specs.Ordering.{nat_cmp}
 use Rattle.block_ring.specs.Ring.{data_blocks}
-use Rattle.block_trees.specs.Bodies.{Blocks}
-use Rattle.block_trees.specs.Reached.{Reached}
+use Rattle.nodes.specs.Bodies.{Blocks}
+use Rattle.nodes.specs.Reached.{Reached}
 
 -- so many data blocks are neither bad nor reached by the roots
 pub record CountsFree (f : Blocks) (blocks : ℕ) (bad : set.FinSet nat_cmp) (roots : List ℕ) (count : ℕ) : Type 0 where

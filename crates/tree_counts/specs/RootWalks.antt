@@ -1,6 +1,6 @@
 -- A walk over what roots reach, one root after the other.
 use Rattle.std.specs.Prelude.{◌≡◌, ℕ, ◌+◌, ◌≤◌, List, length}
-use Rattle.block_trees.specs.Bodies.{Blocks}
+use Rattle.nodes.specs.Bodies.{Blocks}
 use Rattle.reclaim.specs.Kinds.{Knows}
 use Rattle.reclaim.specs.Passes.{Pass, AreReached, IsPass, IsFinished}
 use Rattle.tree_counts.specs.FirstRoots.{AreFirstRoots}

@@ -1,7 +1,7 @@
 //! Counts of data blocks, by the first root that reaches each.
 ghost use Rattle.std.specs.Prelude.{◌≡◌, ℕ, ◌+◌, ◌≤◌, ◌<◌, List, length, take, reverse, count_by, slice_index};
 ghost use Rattle.block_ring.specs.Ring.{data_blocks};
-ghost use Rattle.block_trees.specs.Bodies.{Blocks};
+ghost use Rattle.nodes.specs.Bodies.{Blocks};
 ghost use Rattle.tree_counts.specs.Counts.{CountsFree, CountsFreed, CountsAlone};
 ghost use Rattle.tree_counts.specs.FirstRoots as spec;
 ghost use Rattle.tree_counts.specs.FirstRoots.{AreFirstRoots};

@@ -1,6 +1,6 @@
 //! The first root that reaches each block.
 ghost use Rattle.std.specs.Prelude.{◌≡◌, ◌≢◌, ℕ, ◌+◌, ◌-◌, ◌≤◌, ◌<◌, [], ◌∷◌, ◌++◌, length, slice_index, Contains, OnOk, IfOk, IfErr};
-ghost use Rattle.block_trees.specs.Trees.{IsRoot};
+ghost use Rattle.nodes.specs.Trees.{IsRoot};
 ghost use Rattle.node_format.specs.Headers.{body_header};
 ghost use Rattle.nodes.specs.Faults.{IsLookFault};
 ghost use Rattle.nodes.specs.Frames.{OnlyLooks};

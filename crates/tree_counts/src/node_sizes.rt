@@ -3,8 +3,8 @@ ghost use Rattle.std.specs.Prelude.{◌≡◌, ◌≢◌, ◌++◌, [], ℕ, ◌
 ghost use Rattle.std.specs.List.{flat_map};
 ghost use Rattle.nodes.specs.Faults.{IsLookFault};
 ghost use Rattle.nodes.specs.Frames.{OnlyLooks};
-ghost use Rattle.block_trees.specs.Bodies.{Blocks};
-ghost use Rattle.block_trees.specs.Reached.{Reached};
+ghost use Rattle.nodes.specs.Bodies.{Blocks};
+ghost use Rattle.nodes.specs.Reached.{Reached};
 ghost use Rattle.reclaim.specs.Naming.{item_directories, next_names};
 ghost use Rattle.reclaim.specs.Passes.{AreReached};
 ghost use Rattle.reclaim.specs.Sound.{HoldsLink};

@@ -1,6 +1,6 @@
 //! How much stands in the trees of roots.
 ghost use Rattle.std.specs.Prelude.{◌≡◌, ℕ, ◌-◌, [], ◌∷◌, map, IfOk, IfErr};
-ghost use Rattle.block_trees.specs.Trees.{IsRoot, root_tree};
+ghost use Rattle.nodes.specs.Trees.{IsRoot, root_tree};
 ghost use Rattle.node_format.specs.Headers.{body_header};
 ghost use Rattle.nodes.specs.Faults.{IsLookFault};
 ghost use Rattle.nodes.specs.Frames.{OnlyLooks};

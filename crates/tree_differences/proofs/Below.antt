@@ -10,11 +10,11 @@ use Rattle.fs_types.specs.declared.limits.TheConstants.{MAX_NAMES}
 use Rattle.node_format.specs.Items.{Item, is_dir_place, named_place}
 use Rattle.node_format.specs.declared.place.Place.{Place}
 use Rattle.node_format.specs.declared.place.Place.TheVariants.{Dir, File}
-use Rattle.block_trees.specs.Bodies.{Blocks}
-use Rattle.block_trees.specs.Laws.{MapLaw}
-use Rattle.block_trees.specs.Trees.{items_in, leads, entry_at, root_tree, IsRoot}
-use Rattle.block_trees.proofs.Chained.{entry_named}
-use Rattle.block_trees.proofs.RootMaps.{leads-append, map_law}
+use Rattle.nodes.specs.Bodies.{Blocks}
+use Rattle.nodes.specs.TreeLaws.{MapLaw}
+use Rattle.nodes.specs.Trees.{items_in, leads, entry_at, root_tree, IsRoot}
+use Rattle.nodes.proofs.Chained.{entry_named}
+use Rattle.nodes.proofs.RootMaps.{leads-append, map_law}
 use Rattle.plain_trees.specs.Contents.{Entry}
 use Rattle.plain_trees.specs.Trees.{Tree}
 use Rattle.tree_differences.specs.Updates.{paths_below}

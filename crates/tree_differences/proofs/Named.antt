@@ -11,10 +11,10 @@ use Rattle.fs_types.proofs.Orders.{name_ties}
 use Rattle.node_format.specs.Items.{Item, named_place}
 use Rattle.node_format.specs.declared.place.Place.{Place}
 use Rattle.node_format.specs.declared.place.Place.TheVariants.{Dir}
-use Rattle.block_trees.specs.Bodies.{Blocks}
-use Rattle.block_trees.specs.Trees.{entries_in, items_in}
-use Rattle.block_trees.proofs.ChainCounts.{most_of}
-use Rattle.block_trees.proofs.RootMaps.{same_name-turned}
+use Rattle.nodes.specs.Bodies.{Blocks}
+use Rattle.nodes.specs.Trees.{entries_in, items_in}
+use Rattle.nodes.proofs.ChainCounts.{most_of}
+use Rattle.nodes.proofs.RootMaps.{same_name-turned}
 use Rattle.directory.specs.Places.{placed, places_after, Begins}
 use Rattle.tree_differences.specs.Differing.{child_at, items_at}
 

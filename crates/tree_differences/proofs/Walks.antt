@@ -8,8 +8,8 @@ use Rattle.fs_types.specs.Names.{Name, Path}
 use Rattle.node_format.specs.Items.{Item, is_dir_place}
 use Rattle.node_format.specs.declared.place.Place.{Place}
 use Rattle.node_format.specs.declared.place.Place.TheVariants.{Dir, File}
-use Rattle.block_trees.specs.Bodies.{Blocks}
-use Rattle.block_trees.proofs.Chained.{entry_named}
+use Rattle.nodes.specs.Bodies.{Blocks}
+use Rattle.nodes.proofs.Chained.{entry_named}
 use Rattle.directory.specs.Places.{placed}
 use Rattle.tree_differences.specs.Differing.{child_at, differing_below, items_at, told, BeginsAt, IsReadable}
 use Rattle.tree_differences.proofs.Below.{told_none, same_below, file_below, readable_child}

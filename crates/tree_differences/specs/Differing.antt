@@ -5,8 +5,8 @@ use Rattle.fs_types.specs.Names.{Name, Path}
 use Rattle.node_format.specs.Items.{Item, named_place}
 use Rattle.node_format.specs.declared.place.Place.{Place}
 use Rattle.node_format.specs.declared.place.Place.TheVariants.{Dir, File}
-use Rattle.block_trees.specs.Bodies.{Blocks}
-use Rattle.block_trees.specs.Trees.{items_in, leads}
+use Rattle.nodes.specs.Bodies.{Blocks}
+use Rattle.nodes.specs.Trees.{items_in, leads}
 use Rattle.directory.specs.Places.{Begins}
 use Rattle.plain_trees.specs.Trees.{Tree}
 use Rattle.tree_differences.specs.Updates.{paths_of}

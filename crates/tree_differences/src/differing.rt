@@ -4,7 +4,7 @@ ghost use Rattle.fs_types.specs.declared.limits.TheConstants.{MAX_NAMES};
 ghost use Rattle.nodes.specs.Faults.{IsLookFault};
 ghost use Rattle.nodes.specs.Words.{IsRoot, Looks};
 ghost use Rattle.node_format.specs.Headers.{body_header};
-ghost use Rattle.block_trees.specs.Trees.{root_tree};
+ghost use Rattle.nodes.specs.Trees.{root_tree};
 ghost use Rattle.tree_differences.specs.Differing as spec;
 
 use crate::entries::{entries_at, places_at};

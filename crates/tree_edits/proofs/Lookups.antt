@@ -6,8 +6,8 @@ use Rattle.std.specs.List.{list_all}
 use Rattle.fs_types.specs.Names.{Path, is_name, is_path}
 use Rattle.plain_trees.specs.Contents.{Entry}
 use Rattle.node_format.specs.declared.place.Place.TheVariants.{Dir}
-use Rattle.block_trees.specs.Bodies.{Blocks}
-use Rattle.block_trees.specs.Trees.{leads, tree}
+use Rattle.nodes.specs.Bodies.{Blocks}
+use Rattle.nodes.specs.Trees.{leads, tree}
 use Rattle.directory.specs.declared.lookups.Found.{Found}
 use Rattle.directory.specs.declared.lookups.Found.TheVariants as found
 use Rattle.directory.specs.Lookups.{look_up, LeadsToDirectories}

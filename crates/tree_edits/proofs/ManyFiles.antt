@@ -17,19 +17,19 @@ use Rattle.plain_trees.proofs.Needs.{sum_below-le}
 use Rattle.node_format.specs.Items.{Item, named_place, is_place}
 use Rattle.node_format.specs.declared.place.Place.{Place}
 use Rattle.node_format.specs.declared.place.Place.TheVariants.{Dir, File}
-use Rattle.block_trees.specs.Bodies.{Blocks}
-use Rattle.block_trees.specs.Chains.{is_chained}
-use Rattle.block_trees.specs.Puts.{placed, IsPutInto, put_places, IsWholeFile, IsGrafted}
-use Rattle.block_trees.specs.Reached.{IsHeld, Keeps, PlaceNames, Reached}
-use Rattle.block_trees.specs.Rewritten.{IsFreshNode, IsFreshChain, IsRewritten}
-use Rattle.block_trees.specs.Trees.{items_in, child, leads, entry_at, tree, IsRoot, root_tree}
-use Rattle.block_trees.proofs.Chains.{chain_frame}
-use Rattle.block_trees.proofs.EditedTrees.{edit_law}
-use Rattle.block_trees.proofs.FilePuts.{puts_held, puts_reached, put_files_law, grafted_root}
-use Rattle.block_trees.proofs.Entries.{place_is}
-use Rattle.block_trees.proofs.Frames.{frame_law}
-use Rattle.block_trees.proofs.Reaching.{held_leads}
-use Rattle.block_trees.proofs.RootMaps.{leads-append}
+use Rattle.nodes.specs.Bodies.{Blocks}
+use Rattle.nodes.specs.Chains.{is_chained}
+use Rattle.nodes.specs.Puts.{placed, IsPutInto, put_places, IsWholeFile, IsGrafted}
+use Rattle.nodes.specs.Reached.{IsHeld, Keeps, PlaceNames, Reached}
+use Rattle.nodes.specs.Rewritten.{IsFreshNode, IsFreshChain, IsRewritten}
+use Rattle.nodes.specs.Trees.{items_in, child, leads, entry_at, tree, IsRoot, root_tree}
+use Rattle.nodes.proofs.Chains.{chain_frame}
+use Rattle.nodes.proofs.EditedTrees.{edit_law}
+use Rattle.nodes.proofs.FilePuts.{puts_held, puts_reached, put_files_law, grafted_root}
+use Rattle.nodes.proofs.Entries.{place_is}
+use Rattle.nodes.proofs.Frames.{frame_law}
+use Rattle.nodes.proofs.Reaching.{held_leads}
+use Rattle.nodes.proofs.RootMaps.{leads-append}
 use Rattle.directory.specs.Counts.{edit_nodes, path_nodes}
 use Rattle.directory.specs.Puts.{place_after, count_missing, HasRoomFor, IsDirectoryPut}
 use Rattle.directory.specs.declared.directory_puts.NamedPlace.{NamedPlace}

@@ -19,9 +19,9 @@ use Rattle.plain_trees.proofs.Needs.{nodes_for-some, nodes_for-le, nodes_for-mor
 use Rattle.node_format.specs.Items.{Item, named_place, is_dir_place}
 use Rattle.node_format.specs.declared.place.Place.{Place}
 use Rattle.node_format.specs.declared.place.Place.TheVariants.{Dir}
-use Rattle.block_trees.specs.Bodies.{Blocks}
-use Rattle.block_trees.specs.Trees.{items_in, entry_at, leads, IsRoot, root_tree}
-use Rattle.block_trees.proofs.RootMaps.{map_law}
+use Rattle.nodes.specs.Bodies.{Blocks}
+use Rattle.nodes.specs.Trees.{items_in, entry_at, leads, IsRoot, root_tree}
+use Rattle.nodes.proofs.RootMaps.{map_law}
 use Rattle.directory.specs.Counts.{nodes_in, edit_nodes, path_nodes, move_nodes}
 use Rattle.directory.specs.Moves.{common}
 use Rattle.directory.specs.Trails.{IsTrail}

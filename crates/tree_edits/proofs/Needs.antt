@@ -9,9 +9,9 @@ use Rattle.fs_types.specs.Names.{Path}
 use Rattle.plain_trees.specs.Contents.{Apart}
 use Rattle.plain_trees.proofs.Needs.{nodes_for-some, sum_below-long}
 use Rattle.node_format.specs.Items.{Item, named_place}
-use Rattle.block_trees.specs.Bodies.{Blocks}
-use Rattle.block_trees.specs.Reached.{Keeps}
-use Rattle.block_trees.specs.Trees.{items_in}
+use Rattle.nodes.specs.Bodies.{Blocks}
+use Rattle.nodes.specs.Reached.{Keeps}
+use Rattle.nodes.specs.Trees.{items_in}
 use Rattle.directory.specs.Counts.{nodes_in, edit_nodes, path_nodes, move_nodes}
 use Rattle.directory.specs.Moves.{common, directories_along}
 use Rattle.directory.specs.Trails.{IsHeldTrail}

@@ -10,17 +10,17 @@ use Rattle.fs_types.specs.declared.fault.Fault.{Fault}
 use Rattle.fs_types.specs.declared.fault.Fault.TheVariants.{FlashFull, ReadOnly, ReadFailed, PowerCut, NoMemory}
 use Rattle.node_format.specs.declared.place.Place.{Place}
 use Rattle.node_format.specs.declared.place.Place.TheVariants.{Dir, File}
-use Rattle.block_trees.specs.Bodies.{Blocks, body, data_to, head_index, IsBody}
-use Rattle.block_trees.specs.Reached.{Reached, IsHeld, Keeps, PlaceNames}
-use Rattle.block_trees.specs.Rewritten.{IsFreshNode, IsRewritten}
-use Rattle.block_trees.specs.Trees.{child, leads, HasTree, IsWholePlace, IsRoot, root_tree}
-use Rattle.block_trees.proofs.EditedMaps.{put_file_law}
-use Rattle.block_trees.proofs.EditedTrees.{edit_law}
-use Rattle.block_trees.proofs.Entries.{place_is}
-use Rattle.block_trees.proofs.Frames.{frame_law}
-use Rattle.block_trees.proofs.Chained.{child_names}
-use Rattle.block_trees.proofs.Reaching.{held_leads, reached_via}
-use Rattle.block_trees.proofs.RootMaps.{map_law}
+use Rattle.nodes.specs.Bodies.{Blocks, body, data_to, head_index, IsBody}
+use Rattle.nodes.specs.Reached.{Reached, IsHeld, Keeps, PlaceNames}
+use Rattle.nodes.specs.Rewritten.{IsFreshNode, IsRewritten}
+use Rattle.nodes.specs.Trees.{child, leads, HasTree, IsWholePlace, IsRoot, root_tree}
+use Rattle.nodes.proofs.EditedMaps.{put_file_law}
+use Rattle.nodes.proofs.EditedTrees.{edit_law}
+use Rattle.nodes.proofs.Entries.{place_is}
+use Rattle.nodes.proofs.Frames.{frame_law}
+use Rattle.nodes.proofs.Chained.{child_names}
+use Rattle.nodes.proofs.Reaching.{held_leads, reached_via}
+use Rattle.nodes.proofs.RootMaps.{map_law}
 use Rattle.directory.specs.declared.lookups.Found.{Found}
 use Rattle.directory.specs.declared.lookups.Found.TheVariants as found
 use Rattle.directory.specs.Edits as directories

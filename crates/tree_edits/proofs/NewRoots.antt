@@ -9,14 +9,14 @@ use Rattle.plain_trees.specs.Trees.{put, remove, move}
 use Rattle.node_format.specs.Items.{Item, named_place}
 use Rattle.node_format.specs.declared.place.Place.{Place}
 use Rattle.node_format.specs.declared.place.Place.TheVariants.{Dir, File}
-use Rattle.block_trees.specs.Bodies.{Blocks}
-use Rattle.block_trees.specs.Reached.{Reached, IsHeld, Keeps}
-use Rattle.block_trees.specs.Rewritten.{IsRewritten, IsMoved}
-use Rattle.block_trees.specs.Trees.{tree, IsRoot, root_tree}
-use Rattle.block_trees.proofs.EditedMaps.{last_at, remove_law}
-use Rattle.block_trees.proofs.EditedTrees.{edit_law, mkdir_law}
-use Rattle.block_trees.proofs.EmptyDirectories.{empty_held}
-use Rattle.block_trees.proofs.MovedTrees.{move_law, rename_law}
+use Rattle.nodes.specs.Bodies.{Blocks}
+use Rattle.nodes.specs.Reached.{Reached, IsHeld, Keeps}
+use Rattle.nodes.specs.Rewritten.{IsRewritten, IsMoved}
+use Rattle.nodes.specs.Trees.{tree, IsRoot, root_tree}
+use Rattle.nodes.proofs.EditedMaps.{last_at, remove_law}
+use Rattle.nodes.proofs.EditedTrees.{edit_law, mkdir_law}
+use Rattle.nodes.proofs.EmptyDirectories.{empty_held}
+use Rattle.nodes.proofs.MovedTrees.{move_law, rename_law}
 use Rattle.directory.specs.declared.lookups.Found.{Found}
 use Rattle.directory.specs.declared.lookups.Found.TheVariants as found
 use Rattle.directory.specs.Edits.{OnlyReaches}

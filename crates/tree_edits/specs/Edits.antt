@@ -9,10 +9,10 @@ use Rattle.plain_trees.specs.Trees.{Tree, put, remove, move, bytes_of_file, node
 use Rattle.node_format.specs.Items.{Item, is_place, named_place}
 use Rattle.node_format.specs.declared.place.Place.{Place}
 use Rattle.node_format.specs.declared.place.Place.TheVariants.{Dir, File}
-use Rattle.block_trees.specs.Bodies.{Blocks, head_index}
-use Rattle.block_trees.specs.Laws.{IsShallow}
-use Rattle.block_trees.specs.Reached.{IsHeld}
-use Rattle.block_trees.specs.Trees.{entries_in, items_in, child, leads, IsRoot}
+use Rattle.nodes.specs.Bodies.{Blocks, head_index}
+use Rattle.nodes.specs.TreeLaws.{IsShallow}
+use Rattle.nodes.specs.Reached.{IsHeld}
+use Rattle.nodes.specs.Trees.{entries_in, items_in, child, leads, IsRoot}
 use Rattle.directory.specs.declared.lookups.Found.{Found}
 use Rattle.directory.specs.declared.lookups.Found.TheVariants as found
 use Rattle.directory.specs.Lookups.{look_up}

@@ -10,11 +10,11 @@ use Rattle.node_format.specs.Headers.{body_header}
 use Rattle.node_format.specs.Items.{is_place}
 use Rattle.node_format.specs.declared.place.Place.{Place}
 use Rattle.node_format.specs.declared.place.Place.TheVariants.{Dir, File}
-use Rattle.block_trees.specs.Bodies.{Blocks}
-use Rattle.block_trees.specs.Chains.{is_chained}
-use Rattle.block_trees.specs.Reached.{Reached, IsHeld, PlaceNames}
-use Rattle.block_trees.specs.Rewritten.{IsRewritten}
-use Rattle.block_trees.specs.Trees.{IsRoot, root_tree}
+use Rattle.nodes.specs.Bodies.{Blocks}
+use Rattle.nodes.specs.Chains.{is_chained}
+use Rattle.nodes.specs.Reached.{Reached, IsHeld, PlaceNames}
+use Rattle.nodes.specs.Rewritten.{IsRewritten}
+use Rattle.nodes.specs.Trees.{IsRoot, root_tree}
 use Rattle.directory.specs.Trails.{IsTrail, IsChangeFault}
 use Rattle.directory.specs.declared.directory_puts.NamedPlace.{NamedPlace}
 use Rattle.file_bodies.specs.Writing.{HoldsIndex, IsWritten}

@@ -6,7 +6,7 @@ ghost use Rattle.plain_trees.specs.Contents.{body_need};
 ghost use Rattle.plain_trees.specs.Files.{files_put, bodies_need};
 ghost use Rattle.node_format.specs.Headers.{body_header};
 ghost use Rattle.node_format.specs.declared.place.Place.TheVariants.{Dir};
-ghost use Rattle.block_trees.specs.Trees.{leads};
+ghost use Rattle.nodes.specs.Trees.{leads};
 ghost use Rattle.directory.specs.Counts.{nodes_in, path_nodes};
 ghost use Rattle.directory.specs.declared.lookups.Found.TheVariants as found;
 ghost use Rattle.directory.specs.Lookups.{look_up};

@@ -18,8 +18,8 @@ use Rattle.node_store.specs.Storage as parts
 use Rattle.block_ring.specs.Ring.{Ring, free_count}
 use Rattle.node_store.specs.declared.store.Store.{Store}
 use Rattle.node_store.specs.Stores.{Follows, Causes}
-use Rattle.block_trees.specs.Reached.{Reached}
-use Rattle.block_trees.specs.Trees.{IsRoot, root_tree}
+use Rattle.nodes.specs.Reached.{Reached}
+use Rattle.nodes.specs.Trees.{IsRoot, root_tree}
 use Rattle.tree_edits.specs.declared.edit.Edit.{Edit}
 use Rattle.tree_edits.specs.Edits.{edit_need, source}
 use Rattle.tree_edits.specs.Roots.{IsNewRoot}

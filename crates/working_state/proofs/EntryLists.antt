@@ -15,11 +15,11 @@ use Rattle.node_format.specs.Items.{Item, is_dir_place, named_place}
 use Rattle.node_format.specs.EntryLaws.{contained-named_place}
 use Rattle.node_format.specs.declared.place.Place.{Place}
 use Rattle.node_format.specs.declared.place.Place.TheVariants.{Dir, File}
-use Rattle.block_trees.specs.Bodies.{Blocks}
-use Rattle.block_trees.specs.Trees.{entries_in, items_in, leads, entry_at, root_tree, names_of, IsRoot}
-use Rattle.block_trees.proofs.Chains.{first_parts}
-use Rattle.block_trees.proofs.ChainCounts.{count_law}
-use Rattle.block_trees.proofs.RootMaps.{map_law, leads-append}
+use Rattle.nodes.specs.Bodies.{Blocks}
+use Rattle.nodes.specs.Trees.{entries_in, items_in, leads, entry_at, root_tree, names_of, IsRoot}
+use Rattle.nodes.proofs.Chains.{first_parts}
+use Rattle.nodes.proofs.ChainCounts.{count_law}
+use Rattle.nodes.proofs.RootMaps.{map_law, leads-append}
 use Rattle.directory.specs.Places.{placed, places_after, nodes_of, nodes_of_all, Begins, AllBegin}
 use Rattle.directory.specs.Places as places
 use Rattle.working_state.specs.Looking.{stat_nodes, entry_nodes}

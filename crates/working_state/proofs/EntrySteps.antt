@@ -17,9 +17,9 @@ use Rattle.node_format.specs.Items.{Item}
 use Rattle.node_format.specs.declared.place.Place.{Place}
 use Rattle.node_format.specs.declared.place.Place.TheVariants.{Dir}
 use Rattle.node_store.specs.Faults.{IsReadFault, IsLookFault}
-use Rattle.block_trees.specs.Bodies.{Blocks}
-use Rattle.block_trees.specs.Trees.{entries_in, leads, names_of}
-use Rattle.block_trees.proofs.RootMaps.{map_law}
+use Rattle.nodes.specs.Bodies.{Blocks}
+use Rattle.nodes.specs.Trees.{entries_in, leads, names_of}
+use Rattle.nodes.proofs.RootMaps.{map_law}
 use Rattle.directory.specs.declared.lookups.Found.{Found}
 use Rattle.directory.specs.declared.lookups.Found.TheVariants as found
 use Rattle.directory.specs.Lookups.{look_up, is_path_fault}

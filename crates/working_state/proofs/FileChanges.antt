@@ -24,12 +24,12 @@ use Rattle.node_format.specs.declared.place.Place.{Place}
 use Rattle.node_format.specs.declared.place.Place.TheVariants as place
 use Rattle.node_store.specs.FittingLaws.{still_itself}
 use Rattle.node_store.specs.StorageLaws.{Untouched_itself}
-use Rattle.block_trees.specs.Bodies.{Blocks, body, head_index, data_to, IsBody}
-use Rattle.block_trees.specs.Reached.{IsHeld}
-use Rattle.block_trees.specs.Trees.{entries_in, leads, entry_at, IsRoot, root_tree}
-use Rattle.block_trees.proofs.Entries.{some_place, place_is}
-use Rattle.block_trees.proofs.Reaching.{held_leads}
-use Rattle.block_trees.proofs.RootMaps.{map_law}
+use Rattle.nodes.specs.Bodies.{Blocks, body, head_index, data_to, IsBody}
+use Rattle.nodes.specs.Reached.{IsHeld}
+use Rattle.nodes.specs.Trees.{entries_in, leads, entry_at, IsRoot, root_tree}
+use Rattle.nodes.proofs.Entries.{some_place, place_is}
+use Rattle.nodes.proofs.Reaching.{held_leads}
+use Rattle.nodes.proofs.RootMaps.{map_law}
 use Rattle.directory.specs.Counts.{path_nodes}
 use Rattle.directory.specs.Trails.{IsTrail}
 use Rattle.directory.specs.declared.lookups.Found.{Found}

@@ -18,9 +18,9 @@ use Rattle.fs_types.specs.declared.fault.Fault.TheVariants.{NoEntry, NotDirector
 use Rattle.history_machine.proofs.Kept.{working-file_tree}
 use Rattle.plain_trees.proofs.Lookups.{some-is, above, under-tree}
 use Rattle.node_format.specs.declared.place.Place.TheVariants.{File}
-use Rattle.block_trees.specs.Bodies.{Blocks, body, IsBody}
-use Rattle.block_trees.specs.Trees.{root_tree, IsRoot}
-use Rattle.block_trees.proofs.RootMaps.{map_law}
+use Rattle.nodes.specs.Bodies.{Blocks, body, IsBody}
+use Rattle.nodes.specs.Trees.{root_tree, IsRoot}
+use Rattle.nodes.proofs.RootMaps.{map_law}
 use Rattle.directory.specs.declared.lookups.Found.{Found}
 use Rattle.directory.specs.declared.lookups.Found.TheVariants as found
 use Rattle.directory.specs.Lookups.{look_up, found_entry, is_path_fault, IsLookupFault}

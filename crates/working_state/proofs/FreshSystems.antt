@@ -33,17 +33,17 @@ use Rattle.node_store.specs.Fitting.{Fits, StillFits}
 use Rattle.node_store.specs.Storage as parts
 use Rattle.node_store.specs.Storage.{Evolved, Pays, Spends, Adds, unpaid}
 use Rattle.node_format.specs.Links.{link, link_at, chain_bytes}
-use Rattle.block_trees.specs.Chains.{link_of}
-use Rattle.block_trees.specs.Trees.{entries_in}
-use Rattle.block_trees.proofs.Chains.{first_law}
-use Rattle.block_trees.proofs.RootMaps.{empty_root}
+use Rattle.nodes.specs.Chains.{link_of}
+use Rattle.nodes.specs.Trees.{entries_in}
+use Rattle.nodes.proofs.Chains.{first_law}
+use Rattle.nodes.proofs.RootMaps.{empty_root}
 use Rattle.working_state.specs.Fresh.{unused_ring, unused_beside, IsFirstGood, IsBegun, AsksForRoot, HasGrown, BeginCause, RootCause}
 use Rattle.working_state.specs.Leaves.{HasWritten}
 use Rattle.working_state.specs.Moments.{moment, Moment, IsMountedAt, nodes_at, capacity_at}
 use Rattle.working_state.specs.Seen.{IsLaterFlash, capacity_of, tree_on}
 use Rattle.working_state.specs.Mounted.{IsStanding}
 use Rattle.working_state.specs.declared.state.State.{State}
-use Rattle.block_trees.proofs.EmptyDirectories.{empty_held}
+use Rattle.nodes.proofs.EmptyDirectories.{empty_held}
 use Rattle.working_state.proofs.Roots.{with_history, all_roots, at_history}
 use Rattle.working_state.proofs.Standing.{AllStand}
 use Rattle.working_state.proofs.BadCounts.{len-within}

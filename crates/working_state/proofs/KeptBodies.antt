@@ -16,13 +16,13 @@ use Rattle.plain_trees.specs.Contents.{Contents, Entry, lookup_refusal}
 use Rattle.node_format.specs.declared.place.Place.{Place}
 use Rattle.node_format.specs.declared.place.Place.TheVariants.{Dir, File}
 use Rattle.node_store.specs.NodePages.{node_of}
-use Rattle.block_trees.specs.Bodies.{Blocks, pointer_of, back, head_index, body, IsChain, IsBody}
-use Rattle.block_trees.specs.Reached.{Reached, IsHeld, Keeps}
-use Rattle.block_trees.specs.Trees.{leads, tree, entry_at, root_tree, IsRoot}
-use Rattle.block_trees.proofs.FileTrees.{all_file_trees}
-use Rattle.block_trees.proofs.Frames.{frame_law, leads_same}
-use Rattle.block_trees.proofs.Reaching.{reached_own, reached_below, before_named, held_leads}
-use Rattle.block_trees.proofs.RootMaps.{map_law}
+use Rattle.nodes.specs.Bodies.{Blocks, pointer_of, back, head_index, body, IsChain, IsBody}
+use Rattle.nodes.specs.Reached.{Reached, IsHeld, Keeps}
+use Rattle.nodes.specs.Trees.{leads, tree, entry_at, root_tree, IsRoot}
+use Rattle.nodes.proofs.FileTrees.{all_file_trees}
+use Rattle.nodes.proofs.Frames.{frame_law, leads_same}
+use Rattle.nodes.proofs.Reaching.{reached_own, reached_below, before_named, held_leads}
+use Rattle.nodes.proofs.RootMaps.{map_law}
 use Rattle.directory.specs.declared.lookups.Found.{Found}
 use Rattle.directory.specs.declared.lookups.Found.TheVariants as found
 use Rattle.directory.specs.Lookups.{look_up, place_of}

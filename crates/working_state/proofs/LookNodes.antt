@@ -8,10 +8,10 @@ use Rattle.history_machine.specs.History.{working_root}
 use Rattle.history_machine.specs.Machine.{view_tree}
 use Rattle.plain_trees.specs.Trees.{Tree, entry_count, nodes_for}
 use Rattle.node_format.specs.Items.{Item}
-use Rattle.block_trees.specs.Bodies.{Blocks}
-use Rattle.block_trees.specs.Chains.{chain}
-use Rattle.block_trees.specs.Trees.{entries_in, root_tree, IsRoot}
-use Rattle.block_trees.proofs.RootMaps.{map_law}
+use Rattle.nodes.specs.Bodies.{Blocks}
+use Rattle.nodes.specs.Chains.{chain}
+use Rattle.nodes.specs.Trees.{entries_in, root_tree, IsRoot}
+use Rattle.nodes.proofs.RootMaps.{map_law}
 use Rattle.directory.specs.declared.lookups.Found.{Found}
 use Rattle.directory.specs.declared.lookups.Found.TheVariants as found
 use Rattle.directory.specs.Lookups.{look_up, way_nodes, LeadsToDirectories}

@@ -9,7 +9,7 @@ use Rattle.fs_types.specs.Names.{Path}
 use Rattle.fs_types.specs.declared.call.Call.{Call}
 use Rattle.flash_model.specs.declared.geometry.Geometry.{Geometry}
 use Rattle.flash_model.specs.Device.{Device}
-use Rattle.block_trees.specs.Bodies.{head_index}
+use Rattle.nodes.specs.Bodies.{head_index}
 use Rattle.file_bodies.specs.Reading.{HasDigits, nodes_of_range}
 use Rattle.node_store.specs.declared.store.Store.{Store}
 use Rattle.node_store.specs.Stores.{Follows}

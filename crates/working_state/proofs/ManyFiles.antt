@@ -32,10 +32,10 @@ use Rattle.node_format.specs.Items.{Item, named_place, is_dir_place}
 use Rattle.node_format.specs.declared.place.Place.{Place}
 use Rattle.node_format.specs.declared.place.Place.TheVariants as places
 use Rattle.node_store.specs.Faults.{IsReadFault}
-use Rattle.block_trees.specs.Bodies.{Blocks}
-use Rattle.block_trees.specs.Trees.{child, leads, entry_at, entries_in, items_in}
-use Rattle.block_trees.proofs.Reaching.{held_leads}
-use Rattle.block_trees.proofs.RootMaps.{leads-append, map_law}
+use Rattle.nodes.specs.Bodies.{Blocks}
+use Rattle.nodes.specs.Trees.{child, leads, entry_at, entries_in, items_in}
+use Rattle.nodes.proofs.Reaching.{held_leads}
+use Rattle.nodes.proofs.RootMaps.{leads-append, map_law}
 use Rattle.directory.specs.declared.lookups.Found.{Found}
 use Rattle.directory.specs.declared.lookups.Found.TheVariants as found
 use Rattle.directory.specs.Lookups.{directory_at, below_in, found_of, found_in, found_entry, look_up, is_path_fault, IsLookupFault, ◌>>=◌}

@@ -21,11 +21,11 @@ use Rattle.node_format.specs.declared.place.Place.{Place}
 use Rattle.node_format.specs.declared.place.Place.TheVariants.{Dir, File}
 use Rattle.node_store.specs.Faults.{IsReadFault}
 use Rattle.node_store.specs.NodePages.{node_of}
-use Rattle.block_trees.specs.Bodies.{Blocks, body}
-use Rattle.block_trees.specs.Laws.{IsShallow}
-use Rattle.block_trees.specs.Trees.{entries_in, leads, tree, root_tree, is_dir_place, IsRoot}
-use Rattle.block_trees.proofs.RootMaps.{map_law, full_directory}
-use Rattle.block_trees.proofs.TooDeep.{depth_law}
+use Rattle.nodes.specs.Bodies.{Blocks, body}
+use Rattle.nodes.specs.TreeLaws.{IsShallow}
+use Rattle.nodes.specs.Trees.{entries_in, leads, tree, root_tree, is_dir_place, IsRoot}
+use Rattle.nodes.proofs.RootMaps.{map_law, full_directory}
+use Rattle.nodes.proofs.TooDeep.{depth_law}
 use Rattle.directory.specs.declared.lookups.Found.{Found}
 use Rattle.directory.specs.declared.lookups.Found.TheVariants as found
 use Rattle.directory.specs.Trails.{has_room}

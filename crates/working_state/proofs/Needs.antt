@@ -9,7 +9,7 @@ use Rattle.history_machine.specs.History.{working_root}
 use Rattle.history_machine.specs.Machine.{working_tree, way_need}
 use Rattle.fs_types.specs.declared.call.Call.{Call}
 use Rattle.fs_types.specs.declared.call.Reply.{Reply}
-use Rattle.block_trees.specs.Trees.{IsRoot}
+use Rattle.nodes.specs.Trees.{IsRoot}
 use Rattle.directory.specs.Counts.{path_nodes, move_nodes}
 use Rattle.directory.specs.Trails.{IsTrail}
 use Rattle.tree_edits.specs.Edits.{IsMovable}

@@ -13,9 +13,9 @@ use Rattle.fs_types.specs.declared.call.Call.{Call}
 use Rattle.fs_types.specs.declared.call.Reply.{Reply}
 use Rattle.fs_types.specs.declared.fault.Fault.{Fault}
 use Rattle.fs_types.specs.declared.fault.Fault.TheVariants.{Exists, DirectoryFull}
-use Rattle.block_trees.specs.Bodies.{Blocks, body}
-use Rattle.block_trees.specs.Trees.{tree, root_tree, IsRoot}
-use Rattle.block_trees.proofs.RootMaps.{map_law, full_directory}
+use Rattle.nodes.specs.Bodies.{Blocks, body}
+use Rattle.nodes.specs.Trees.{tree, root_tree, IsRoot}
+use Rattle.nodes.proofs.RootMaps.{map_law, full_directory}
 use Rattle.directory.specs.declared.lookups.Found.{Found}
 use Rattle.directory.specs.declared.lookups.Found.TheVariants as found
 use Rattle.directory.specs.Lookups.{look_up, found_entry, is_path_fault, IsLookupFault}

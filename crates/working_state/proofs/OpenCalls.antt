@@ -18,9 +18,9 @@ use Rattle.fs_types.specs.declared.fault.Fault.{Fault}
 use Rattle.fs_types.specs.declared.fault.Fault.TheVariants.{NoEntry, IsDirectory, Exists, Invalid, DirectoryFull, TooManyOpen}
 use Rattle.fs_types.specs.declared.open_flags.OpenFlags.{OpenFlags}
 use Rattle.node_format.specs.declared.place.Place.TheVariants as place
-use Rattle.block_trees.specs.Bodies.{Blocks, body, head_index, data_to, IsBody}
-use Rattle.block_trees.specs.Trees.{tree}
-use Rattle.block_trees.proofs.RootMaps.{map_law, full_directory}
+use Rattle.nodes.specs.Bodies.{Blocks, body, head_index, data_to, IsBody}
+use Rattle.nodes.specs.Trees.{tree}
+use Rattle.nodes.proofs.RootMaps.{map_law, full_directory}
 use Rattle.directory.specs.declared.lookups.Found.{Found}
 use Rattle.directory.specs.declared.lookups.Found.TheVariants as found
 use Rattle.directory.specs.Lookups.{look_up, found_entry, is_path_fault, IsLookupFault}

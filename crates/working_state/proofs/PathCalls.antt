@@ -18,9 +18,9 @@ use Rattle.plain_trees.proofs.Beneath.{None≢Some}
 use Rattle.history_machine.proofs.Kept.{working-file_tree}
 use Rattle.node_format.specs.declared.place.Place.TheVariants.{Dir}
 use Rattle.node_store.specs.Faults.{IsReadFault}
-use Rattle.block_trees.specs.Bodies.{Blocks}
-use Rattle.block_trees.specs.Trees.{entries_in, tree, root_tree, IsRoot}
-use Rattle.block_trees.proofs.RootMaps.{map_law}
+use Rattle.nodes.specs.Bodies.{Blocks}
+use Rattle.nodes.specs.Trees.{entries_in, tree, root_tree, IsRoot}
+use Rattle.nodes.proofs.RootMaps.{map_law}
 use Rattle.directory.specs.declared.lookups.Found.{Found}
 use Rattle.directory.specs.declared.lookups.Found.TheVariants as found
 use Rattle.directory.specs.Lookups.{look_up, found_entry, is_path_fault, IsLookupFault}

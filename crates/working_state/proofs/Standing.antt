@@ -19,10 +19,10 @@ use Rattle.node_store.specs.FittingLaws.{still_itself, still_on}
 use Rattle.node_store.specs.Storage.{Storage, storage, is_kept, Evolved}
 use Rattle.node_store.specs.StorageLaws.{Evolved_itself, Evolved_on, Untouched_itself, Untouched_evolved, Untouched_on}
 use Rattle.node_store.specs.StoreLaws.{Evolved_node}
-use Rattle.block_trees.specs.Laws.{FrameLaw}
-use Rattle.block_trees.specs.Reached.{Keeps, Reached}
-use Rattle.block_trees.specs.Trees.{IsRoot, root_tree}
-use Rattle.block_trees.proofs.Frames.{frame_law}
+use Rattle.nodes.specs.TreeLaws.{FrameLaw}
+use Rattle.nodes.specs.Reached.{Keeps, Reached}
+use Rattle.nodes.specs.Trees.{IsRoot, root_tree}
+use Rattle.nodes.proofs.Frames.{frame_law}
 use Rattle.working_state.specs.Moments.{Moment, machine_at, seen_at, storage_at, IsMountedAt, capacity_at, version_tree, moment}
 use Rattle.working_state.specs.Leaves.{HasLooked, HasWritten, is_still, Leaves}
 use Rattle.working_state.specs.Looking.{only_looks, LooksOnce}

@@ -13,9 +13,9 @@ use Rattle.fs_types.specs.declared.fault.Fault.TheVariants.{NotEmpty, Busy}
 use Rattle.flash_model.specs.Device.{Device}
 use Rattle.node_format.specs.Items.{Item}
 use Rattle.node_store.specs.NodePages.{node_of}
-use Rattle.block_trees.specs.Bodies.{Blocks}
-use Rattle.block_trees.specs.Trees.{entries_in, is_dir_place}
-use Rattle.block_trees.proofs.RootMaps.{map_law}
+use Rattle.nodes.specs.Bodies.{Blocks}
+use Rattle.nodes.specs.Trees.{entries_in, is_dir_place}
+use Rattle.nodes.proofs.RootMaps.{map_law}
 use Rattle.directory.specs.declared.lookups.Found.{Found}
 use Rattle.directory.specs.declared.lookups.Found.TheVariants as found
 use Rattle.directory.specs.Lookups.{look_up}

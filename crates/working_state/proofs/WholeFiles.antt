@@ -17,8 +17,8 @@ use Rattle.history_machine.specs.Descriptors.{is_open}
 use Rattle.history_machine.specs.History.{working_root, changed, group_with}
 use Rattle.plain_trees.specs.Files.{file_put}
 use Rattle.history_machine.specs.Machine.{Machine, working_tree, write_place_refusal, size_refusal, write_file_changes, refusal, tree_after, change_need, way_need, machine_of, machine_with}
-use Rattle.block_trees.specs.Trees.{tree}
-use Rattle.block_trees.proofs.RootMaps.{full_directory}
+use Rattle.nodes.specs.Trees.{tree}
+use Rattle.nodes.proofs.RootMaps.{full_directory}
 use Rattle.directory.specs.Counts.{path_nodes}
 use Rattle.directory.specs.Trails.{IsTrail}
 use Rattle.directory.specs.declared.lookups.Found.{Found}

@@ -7,7 +7,7 @@ use Rattle.plain_trees.specs.Trees.{Tree, bytes_of_file, entry_count, nodes_for,
 use Rattle.history_machine.specs.Descriptors.{Descriptor, descriptor_at}
 use Rattle.history_machine.specs.Machine.{Machine, working_tree, view_tree, entries_of}
 use Rattle.flash_model.specs.Device.{Device}
-use Rattle.block_trees.specs.Bodies.{head_index}
+use Rattle.nodes.specs.Bodies.{head_index}
 use Rattle.file_bodies.specs.Reading.{HasDigits, nodes_of_range}
 use Rattle.working_state.specs.Facts.{facts_of}
 use Rattle.working_state.specs.Seen.{capacity_of}

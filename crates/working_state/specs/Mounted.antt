@@ -11,8 +11,8 @@ use Rattle.block_ring.specs.Ring.{Ring}
 use Rattle.node_format.specs.declared.place.Place.TheVariants.{Dir}
 use Rattle.node_store.specs.Fitting.{Fits}
 use Rattle.node_store.specs.NodePages.{node_of}
-use Rattle.block_trees.specs.Trees.{IsRoot}
-use Rattle.block_trees.specs.Reached.{IsHeld}
+use Rattle.nodes.specs.Trees.{IsRoot}
+use Rattle.nodes.specs.Reached.{IsHeld}
 use Rattle.working_state.specs.Leaves.{Leaves}
 use Rattle.working_state.specs.Roots.{HasRoot, IsReached, ReachesNew, IsSpace}
 use Rattle.working_state.specs.Seen.{capacity_of, machine_on, shown_on}

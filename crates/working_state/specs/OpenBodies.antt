@@ -8,7 +8,7 @@ use Rattle.fs_types.specs.declared.call.Call.{Call}
 use Rattle.fs_types.specs.declared.limits.TheConstants.{MAX_OPEN_FILES}
 use Rattle.flash_model.specs.Device.{Device}
 use Rattle.node_store.specs.NodePages.{node_of}
-use Rattle.block_trees.specs.Bodies.{Blocks}
+use Rattle.nodes.specs.Bodies.{Blocks}
 use Rattle.directory.specs.Lookups.{look_up}
 use Rattle.directory.specs.declared.lookups.Found.TheVariants.{File}
 use Rattle.file_bodies.specs.Reading.{IsNodeOf}

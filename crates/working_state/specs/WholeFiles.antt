@@ -2,7 +2,7 @@
 use Rattle.std.specs.Prelude.{◌≡◌, ℕ, ◌==◌, Bool, false, Option, Some, None, List, [], if◌then◌else◌}
 use Rattle.fs_types.specs.declared.fault.Fault.{Fault}
 use Rattle.fs_types.specs.declared.fault.Fault.TheVariants as fault
-use Rattle.block_trees.specs.Bodies.{Blocks, body, IsBody}
+use Rattle.nodes.specs.Bodies.{Blocks, body, IsBody}
 use Rattle.directory.specs.declared.lookups.Found.{Found}
 use Rattle.directory.specs.declared.lookups.Found.TheVariants.{Missing, File, Dir}
 

@@ -10,7 +10,7 @@ ghost use Rattle.fs_types.specs.declared.fault.Fault.TheVariants.{BadDescriptor}
 ghost use Rattle.node_format.specs.Headers.{body_header};
 ghost use Rattle.node_store.specs.NodePages.{node_of};
 ghost use Rattle.nodes.specs.Words.{Looks};
-ghost use Rattle.block_trees.specs.Trees.{root_tree, IsRoot};
+ghost use Rattle.nodes.specs.Trees.{root_tree, IsRoot};
 ghost use Rattle.node_store.specs.Faults.{is_look_fault};
 ghost use Rattle.working_state.specs.Changes.{IsReady};
 ghost use Rattle.working_state.specs.Leaves.{HasLooked};

@@ -7,7 +7,7 @@ ghost use Rattle.history_machine.specs.Machine.{refusal};
 ghost use Rattle.fs_types.specs.Names.{is_path};
 ghost use Rattle.fs_types.specs.declared.call.Call.{Call};
 ghost use Rattle.node_store.specs.NodePages.{node_of};
-ghost use Rattle.block_trees.specs.Trees.{entries_in};
+ghost use Rattle.nodes.specs.Trees.{entries_in};
 ghost use Rattle.directory.specs.declared.lookups.Found.TheVariants as found;
 ghost use Rattle.directory.specs.Lookups.{look_up};
 ghost use Rattle.directory.specs.Trails.{IsTrail};

@@ -10,7 +10,7 @@ ghost use Rattle.node_format.specs.Links.{chain_bytes};
 ghost use Rattle.node_store.specs.Fitting.{Fits};
 ghost use Rattle.node_store.specs.NodePages.{node_of};
 ghost use Rattle.node_store.specs.Storage as parts;
-ghost use Rattle.block_trees.specs.Trees.{entries_in};
+ghost use Rattle.nodes.specs.Trees.{entries_in};
 ghost use Rattle.working_state.specs.Leaves.{HasWritten};
 ghost use Rattle.working_state.specs.Fresh.{IsBegun, AsksForRoot, BeginCause, RootCause};
 ghost use Rattle.working_state.specs.Moments.{moment};

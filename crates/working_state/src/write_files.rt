@@ -15,7 +15,7 @@ ghost use Rattle.history_machine.specs.History.{working_root};
 ghost use Rattle.history_machine.specs.NextFiles.{next_count, next_refusal, next_refusals};
 ghost use Rattle.history_machine.specs.Machine.{working_tree, write_file_changes};
 ghost use Rattle.node_store.specs.NodePages.{node_of};
-ghost use Rattle.block_trees.specs.Trees.{items_in};
+ghost use Rattle.nodes.specs.Trees.{items_in};
 ghost use Rattle.directory.specs.Lookups.{look_up};
 ghost use Rattle.directory.specs.Trails.{IsTrail};
 ghost use Rattle.directory.specs.declared.lookups.Found.TheVariants.{Dir};

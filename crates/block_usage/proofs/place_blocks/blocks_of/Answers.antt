@@ -4,7 +4,7 @@ use Rattle.fs_types.specs.declared.limits.TheConstants.{MAX_NAMES}
 use Rattle.node_format.specs.Headers.{body_header}
 use Rattle.node_format.specs.declared.place.Place.{Place}
 use Rattle.node_format.specs.declared.place.Place.TheVariants.{File}
-use Rattle.block_trees.specs.Trees.{HasTree}
+use Rattle.nodes.specs.Trees.{HasTree}
 use Rattle.block_usage.specs.Usages.{AreBlocksOf}
 use Rattle.block_usage.proofs.BodyBlocks.{body_blocks}
 use Rattle.block_usage.proofs.place_blocks.blocks_of.Goals as goal

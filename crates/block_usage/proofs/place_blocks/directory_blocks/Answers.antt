@@ -3,7 +3,7 @@ use Rattle.std.proofs.lemmas.Result.{err_from_is_err_and}
 use Rattle.std.specs.Prelude.{Contains}
 use Rattle.block_ring.specs.Ring.{IsDataBlock}
 use Rattle.node_format.specs.Headers.{body_header}
-use Rattle.block_trees.specs.Bodies.{Blocks}
+use Rattle.nodes.specs.Bodies.{Blocks}
 use Rattle.reclaim.specs.Passes.{IsPass}
 use Rattle.reclaim.specs.Verified.{AreRoots}
 use Rattle.reclaim.proofs.KnownPasses.{begins_known}

@@ -2,8 +2,8 @@ use Rattle.std.proofs.Common.{◌≡◌, ◌∙◌, ℕ, ◌+◌, ◌-◌, ◌/�
 use Rattle.std.proofs.lemmas.List.{length-append}
 use Rattle.std.proofs.lemmas.Result.{err_from_is_err_and}
 use Rattle.node_format.specs.Headers.{body_header}
-use Rattle.block_trees.specs.Bodies.{Blocks, back, index_of, pointer_of}
-use Rattle.block_trees.proofs.Bodies.{back_back}
+use Rattle.nodes.specs.Bodies.{Blocks, back, index_of, pointer_of}
+use Rattle.nodes.proofs.Bodies.{back_back}
 use Rattle.block_usage.proofs.BodyBlocks.{later_index}
 use Rattle.block_usage.proofs.Marks.{more_listed}
 use Rattle.block_usage.proofs.place_blocks.file_blocks.Goals as goal

@@ -1,7 +1,7 @@
 use Rattle.std.proofs.Common.{◌≡◌, ◌+◌, ◌<◌, ℕ, length}
 use Rattle.std.specs.Prelude.{slice_index}
 use Rattle.nodes.specs.Words.{Looks}
-use Rattle.block_trees.specs.Bodies.{back}
+use Rattle.nodes.specs.Bodies.{back}
 use Rattle.block_usage.proofs.place_blocks.file_blocks.Given as goal
 
 -- the blocks so far are listed, and the last of them is the one at hand

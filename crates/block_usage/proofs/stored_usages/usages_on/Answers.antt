@@ -1,6 +1,6 @@
 use Rattle.std.proofs.Common.{sym, subst}
 use Rattle.std.specs.Prelude.{IfOk}
-use Rattle.block_trees.specs.Trees.{IsRoot}
+use Rattle.nodes.specs.Trees.{IsRoot}
 use Rattle.node_store.specs.NodePages.{node_of}
 use Rattle.block_usage.specs.Usages.{IsListAt}
 use Rattle.working_state.specs.Seen.{capacity_of}

@@ -6,8 +6,8 @@ use Rattle.fs_types.specs.Names.{Path}
 use Rattle.fs_types.specs.declared.limits.TheConstants.{MAX_NAMES}
 use Rattle.node_format.specs.Headers.{body_header}
 use Rattle.node_format.specs.declared.place.Place.{Place}
-use Rattle.block_trees.specs.Bodies.{Blocks}
-use Rattle.block_trees.specs.Trees.{HasTree}
+use Rattle.nodes.specs.Bodies.{Blocks}
+use Rattle.nodes.specs.Trees.{HasTree}
 use Rattle.block_usage.specs.Usages.{IsUsageOf, blocks_of}
 use Rattle.block_usage.specs.declared.usage_list.EntryUsage.{EntryUsage}
 use Rattle.block_usage.proofs.UsageLists.{usages_more}

@@ -2,7 +2,7 @@ use Rattle.std.proofs.Common.{◌≡◌, ◌<◌, ℕ, true, length, Ok}
 use Rattle.std.specs.FinSet as set
 use Rattle.nodes.specs.Faults.{IsLookFault}
 use Rattle.nodes.specs.Words.{LooksWithin}
-use Rattle.block_trees.specs.Chains.{link_items}
+use Rattle.nodes.specs.Chains.{link_items}
 use Rattle.directory.specs.Depths.{count_below}
 use Rattle.directory.proofs.depths.any_has_entries.Given as goal
 

@@ -2,7 +2,7 @@ use Rattle.std.proofs.Common.{◌≡◌, ℕ, refl, inl, inr, [], ◌∷◌, ap,
 use Rattle.std.specs.Prelude.{Contains}
 use Rattle.std.proofs.lemmas.Result.{IfOk-weaker}
 use Rattle.node_format.specs.declared.place.Place.TheVariants.{Dir}
-use Rattle.block_trees.proofs.Chains.{either_of}
+use Rattle.nodes.proofs.Chains.{either_of}
 use Rattle.directory.specs.Lookups.{LeadsToDirectories}
 use Rattle.directory.specs.Depths.{IsDeeper}
 use Rattle.std.specs.FinSet as set

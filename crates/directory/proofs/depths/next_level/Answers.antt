@@ -4,7 +4,7 @@ use Rattle.block_ring.specs.BlockSet.{BlockSet}
 use Rattle.std.proofs.lemmas.Result.{err_from_is_err_and}
 use Rattle.nodes.specs.Faults.{IsLookFault}
 use Rattle.nodes.specs.Words.{LooksWithin}
-use Rattle.block_trees.specs.Bodies.{Blocks}
+use Rattle.nodes.specs.Bodies.{Blocks}
 use Rattle.directory.specs.Depths.{count_below, is_loud, AreQuiet, AreNamedBy}
 use Rattle.nodes.specs.WordLaws.{looks_after, looks_wider, looks_answered, looks_refused, looks_idle}
 use Rattle.directory.proofs.Counting.{loud_few, loud_le, count_most}

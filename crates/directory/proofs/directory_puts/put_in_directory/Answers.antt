@@ -3,7 +3,7 @@ use Rattle.std.proofs.lemmas.Result.{err_from_is_err_and}
 use Rattle.plain_trees.specs.Trees.{nodes_for}
 use Rattle.plain_trees.proofs.Needs.{nodes_for-le}
 use Rattle.node_format.specs.Items.{Item}
-use Rattle.block_trees.specs.Trees.{items_in}
+use Rattle.nodes.specs.Trees.{items_in}
 use Rattle.directory.specs.Puts.{count_missing, HasRoomFor, IsPutEach}
 use Rattle.nodes.specs.WordLaws.{works_after, works_looking, works_refused, works_wider}
 use Rattle.directory.specs.Trails.{IsChangeFault}

@@ -4,7 +4,7 @@ use Rattle.fs_types.specs.declared.limits.TheConstants.{NODE_ENTRIES}
 use Rattle.plain_trees.specs.Trees.{nodes_for}
 use Rattle.node_format.specs.Items.{Item}
 use Rattle.node_format.specs.Edits.{IsEdited}
-use Rattle.block_trees.specs.Trees.{entries_in, items_in}
+use Rattle.nodes.specs.Trees.{entries_in, items_in}
 use Rattle.directory.specs.Counts.{written_nodes}
 use Rattle.directory.specs.Trails.{takes, IsChangeFault}
 use Rattle.nodes.specs.WordLaws.{works_after, works_looking, works_refused, works_wider}

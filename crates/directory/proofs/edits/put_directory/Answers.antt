@@ -1,8 +1,8 @@
 use Rattle.std.proofs.Common.{◌≡◌, ℕ, ◌<◌, Bool, true, false, Some, Ok, [], ◌∷◌, length, ap, ◌∙◌, arith}
 use Rattle.std.proofs.lemmas.Result.{err_from_is_err_and}
 use Rattle.fs_types.specs.Names.{Path}
-use Rattle.block_trees.specs.Bodies.{Blocks}
-use Rattle.block_trees.specs.Chains.{link_of}
+use Rattle.nodes.specs.Bodies.{Blocks}
+use Rattle.nodes.specs.Chains.{link_of}
 use Rattle.node_format.specs.declared.place.Place.TheVariants.{Dir}
 use Rattle.nodes.specs.Words.{Keeps, WorksWithin}
 use Rattle.nodes.specs.Faults.{IsWriteFault}

@@ -6,8 +6,8 @@ use Rattle.std.proofs.lemmas.Result.{err_from_is_err_and}
 use Rattle.fs_types.specs.Names.{Name}
 use Rattle.node_format.specs.declared.place.Place.TheVariants.{Dir}
 use Rattle.nodes.specs.Words.{Keeps}
-use Rattle.block_trees.specs.Trees.{entries_in, items_in}
-use Rattle.block_trees.specs.Rewritten.{IsDirectoryEdit, IsRewritten}
+use Rattle.nodes.specs.Trees.{entries_in, items_in}
+use Rattle.nodes.specs.Rewritten.{IsDirectoryEdit, IsRewritten}
 use Rattle.directory.specs.Counts.{edit_nodes, read_nodes, path_nodes}
 use Rattle.directory.specs.Trails.{takes}
 use Rattle.directory.proofs.TrailEdits.{level_held, level_items, level_held_later, level_takes, rewritten_up, rewritten_last, path_nodes-last, path_nodes-linked, path_nodes-below, read_nodes-most}

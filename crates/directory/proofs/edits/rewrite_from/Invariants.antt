@@ -4,7 +4,7 @@ use Rattle.std.specs.Option.{is_some}
 use Rattle.nodes.specs.Words.{WorksWithin}
 use Rattle.node_format.specs.Items.{is_place}
 use Rattle.node_format.specs.declared.place.Place.TheVariants.{Dir}
-use Rattle.block_trees.specs.Rewritten.{IsRewritten}
+use Rattle.nodes.specs.Rewritten.{IsRewritten}
 use Rattle.directory.specs.Counts.{path_nodes}
 use Rattle.directory.specs.Trails.{IsChangeFault}
 use Rattle.directory.proofs.edits.rewrite_from.Given as goal

@@ -2,7 +2,7 @@ use Rattle.std.proofs.Common.{◌≡◌, ◌≤◌, ◌-◌, ◌+◌, ◌*◌, �
 use Rattle.fs_types.specs.declared.limits.TheConstants.{NODE_ENTRIES}
 use Rattle.nodes.specs.Faults.{IsReadFault}
 use Rattle.nodes.specs.Words.{LooksWithin}
-use Rattle.block_trees.specs.Chains.{most_after}
+use Rattle.nodes.specs.Chains.{most_after}
 use Rattle.directory.specs.Seeking.{entries_along}
 use Rattle.directory.proofs.Walks.{IsWalk}
 use Rattle.directory.proofs.listings.entry_count.Given as goal

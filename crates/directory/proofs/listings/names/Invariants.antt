@@ -1,8 +1,8 @@
 use Rattle.std.proofs.Common.{◌≡◌, ◌-◌, ◌+◌, ℕ, List, Ok}
 use Rattle.nodes.specs.Faults.{IsReadFault}
 use Rattle.nodes.specs.Words.{LooksWithin}
-use Rattle.block_trees.specs.Chains.{most_after}
-use Rattle.block_trees.specs.Trees.{names_of}
+use Rattle.nodes.specs.Chains.{most_after}
+use Rattle.nodes.specs.Trees.{names_of}
 use Rattle.directory.specs.Seeking.{entries_along}
 use Rattle.directory.proofs.Walks.{IsWalk}
 use Rattle.directory.proofs.listings.names.Given as goal

@@ -1,5 +1,5 @@
 use Rattle.std.proofs.Common.{◌++◌, ◌∙◌}
-use Rattle.block_trees.specs.Trees.{names_of}
+use Rattle.nodes.specs.Trees.{names_of}
 use Rattle.directory.proofs.ReadNodes.{one_name_more}
 use Rattle.directory.proofs.listings.push_names.Goals as goal
 

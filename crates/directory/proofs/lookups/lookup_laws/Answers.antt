@@ -2,8 +2,8 @@
 use Rattle.std.specs.Prelude.{◌≡◌, ℕ, Result, Ok, Err}
 use Rattle.fs_types.specs.Names.{Path}
 use Rattle.fs_types.specs.declared.fault.Fault.{Fault}
-use Rattle.block_trees.specs.Bodies.{Blocks}
-use Rattle.block_trees.specs.Trees.{tree, IsRoot}
+use Rattle.nodes.specs.Bodies.{Blocks}
+use Rattle.nodes.specs.Trees.{tree, IsRoot}
 use Rattle.directory.specs.Lookups.{look_up, TellsLookup}
 use Rattle.directory.specs.declared.lookups.Found.{Found}
 use Rattle.directory.proofs.LookupLaws.{found_is, refused_is, rooted_leads}

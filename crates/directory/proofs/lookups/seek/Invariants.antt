@@ -2,7 +2,7 @@ use Rattle.std.proofs.Common.{◌-◌, ◌+◌, ◌*◌, ◌≤◌, Ok}
 use Rattle.fs_types.specs.declared.limits.TheConstants.{NODE_ENTRIES}
 use Rattle.nodes.specs.Faults.{IsReadFault}
 use Rattle.nodes.specs.Words.{LooksWithin}
-use Rattle.block_trees.specs.Chains.{most_after}
+use Rattle.nodes.specs.Chains.{most_after}
 use Rattle.directory.proofs.Sights.{IsSought}
 use Rattle.directory.proofs.lookups.seek.Given as goal
 

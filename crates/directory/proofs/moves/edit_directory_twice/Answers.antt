@@ -8,10 +8,10 @@ use Rattle.plain_trees.specs.Trees.{nodes_for}
 use Rattle.node_format.specs.Items.{Item, named_place}
 use Rattle.node_format.specs.Edits.{edited_count}
 use Rattle.node_format.specs.declared.place.Place.{Place}
-use Rattle.block_trees.specs.Bodies.{Blocks}
-use Rattle.block_trees.specs.Trees.{entries_in, items_in}
-use Rattle.block_trees.specs.Rewritten.{IsSecondEdit, IsFreshChain}
-use Rattle.block_trees.proofs.ChainCounts.{most_of}
+use Rattle.nodes.specs.Bodies.{Blocks}
+use Rattle.nodes.specs.Trees.{entries_in, items_in}
+use Rattle.nodes.specs.Rewritten.{IsSecondEdit, IsFreshChain}
+use Rattle.nodes.proofs.ChainCounts.{most_of}
 use Rattle.directory.specs.Counts.{edit_nodes}
 use Rattle.directory.specs.Moves.{IsEditedTwice, edited_twice_count}
 use Rattle.directory.specs.Reads.{IsReadTo}

@@ -7,8 +7,8 @@ use Rattle.directory.specs.Counts.{nodes_in, edit_nodes, read_nodes}
 use Rattle.fs_types.specs.Names.{Name, Path, same_name}
 use Rattle.node_format.specs.declared.place.Place.TheVariants.{Dir}
 use Rattle.nodes.specs.Words.{Keeps}
-use Rattle.block_trees.specs.Trees.{entries_in, items_in}
-use Rattle.block_trees.specs.Rewritten.{IsDirectoryEdit, IsMoved}
+use Rattle.nodes.specs.Trees.{entries_in, items_in}
+use Rattle.nodes.specs.Rewritten.{IsDirectoryEdit, IsMoved}
 use Rattle.directory.specs.Trails.{IsHeldTrail, takes}
 use Rattle.directory.specs.Moves.{common, IsFork}
 use Rattle.directory.proofs.MovedPaths.{only_moved}

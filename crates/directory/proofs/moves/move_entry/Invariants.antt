@@ -4,7 +4,7 @@ use Rattle.std.specs.List.{sum_by}
 use Rattle.nodes.specs.Words.{WorksWithin}
 use Rattle.node_format.specs.Items.{is_place}
 use Rattle.node_format.specs.declared.place.Place.TheVariants.{Dir}
-use Rattle.block_trees.specs.Rewritten.{IsMoved}
+use Rattle.nodes.specs.Rewritten.{IsMoved}
 use Rattle.directory.specs.Counts.{nodes_in, move_nodes}
 use Rattle.directory.specs.Trails.{IsChangeFault}
 use Rattle.directory.proofs.moves.move_entry.Given as goal

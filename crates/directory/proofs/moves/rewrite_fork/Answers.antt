@@ -9,9 +9,9 @@ use Rattle.fs_types.specs.Names.{Name, Path, same_name}
 use Rattle.node_format.specs.declared.place.Place.TheVariants.{Dir}
 use Rattle.node_format.specs.Items.{Item, named_place}
 use Rattle.nodes.specs.Words.{Keeps}
-use Rattle.block_trees.specs.Trees.{entries_in, items_in}
-use Rattle.block_trees.specs.Reached.{IsHeld}
-use Rattle.block_trees.specs.Rewritten.{IsSecondEdit, IsBranch, IsFreshChain, IsMoved}
+use Rattle.nodes.specs.Trees.{entries_in, items_in}
+use Rattle.nodes.specs.Reached.{IsHeld}
+use Rattle.nodes.specs.Rewritten.{IsSecondEdit, IsBranch, IsFreshChain, IsMoved}
 use Rattle.directory.specs.Trails.{takes}
 use Rattle.directory.proofs.MovedPaths.{Parts, same_parted, path_parted}
 use Rattle.directory.proofs.TrailEdits.{level_held, way_later, taken_later, path_nodes-later, path_nodes-least}

@@ -1,7 +1,7 @@
 use Rattle.std.proofs.Common.{◌≤◌, ◌-◌, ◌+◌, ◌*◌}
 use Rattle.fs_types.specs.declared.limits.TheConstants.{NODE_ENTRIES}
 use Rattle.nodes.specs.Words.{Looks}
-use Rattle.block_trees.specs.Chains.{most_after}
+use Rattle.nodes.specs.Chains.{most_after}
 use Rattle.directory.proofs.Listed.{HasCounted}
 use Rattle.directory.proofs.place_stats.count_fronts.Given as goal
 

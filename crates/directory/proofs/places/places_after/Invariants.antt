@@ -2,7 +2,7 @@ use Rattle.std.proofs.Common.{◌-◌, ◌+◌, Ok}
 use Rattle.std.specs.Option.{option_copied}
 use Rattle.nodes.specs.Faults.{IsReadFault}
 use Rattle.nodes.specs.Words.{LooksWithin}
-use Rattle.block_trees.specs.Chains.{most_after}
+use Rattle.nodes.specs.Chains.{most_after}
 use Rattle.directory.proofs.Placed.{HasPlaced}
 use Rattle.directory.proofs.places.places_after.Given as goal
 

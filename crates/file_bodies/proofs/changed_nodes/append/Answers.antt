@@ -1,6 +1,6 @@
 use Rattle.std.proofs.Common.{◌≡◌, ℕ, ◌<◌, ◌≤◌, ◌-◌, List, length, drop, refl, arith}
 use Rattle.std.proofs.lemmas.Result.{err_from_is_err_and}
-use Rattle.block_trees.specs.Bodies.{Blocks, data_of, back, pointer_of}
+use Rattle.nodes.specs.Bodies.{Blocks, data_of, back, pointer_of}
 use Rattle.node_format.specs.Headers.{body_header}
 use Rattle.node_format.proofs.BodyFields.{spelled_node}
 use Rattle.nodes.specs.Words.{Keeps}

@@ -1,6 +1,6 @@
 use Rattle.std.proofs.Common.{◌≡◌, ℕ, ◌*◌, List, length, ap, ◌∙◌, arith}
 use Rattle.plain_trees.specs.Contents.{read_from}
-use Rattle.block_trees.specs.Bodies.{body}
+use Rattle.nodes.specs.Bodies.{body}
 use Rattle.file_bodies.specs.Writing.{bytes_after}
 use Rattle.file_bodies.proofs.Kept.{overlaid_edit}
 use Rattle.file_bodies.proofs.changed_nodes.edit_into.Goals as goal

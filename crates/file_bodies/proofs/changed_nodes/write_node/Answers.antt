@@ -4,7 +4,7 @@ use Rattle.std.proofs.lemmas.Nat.{le-div}
 use Rattle.std.proofs.lemmas.Result.{err_from_is_err_and, IfOk-weaker}
 use Rattle.node_format.specs.Headers.{body_header}
 use Rattle.node_format.specs.BodyNodes.{IsBodySpelling}
-use Rattle.block_trees.specs.Bodies.{Blocks}
+use Rattle.nodes.specs.Bodies.{Blocks}
 use Rattle.file_bodies.specs.Writing.{IsGrown, IsStored, IsTable, bytes_after, part_after}
 use Rattle.file_bodies.proofs.NodeCalls.{along_looking, writes_after, writes_within}
 use Rattle.file_bodies.proofs.Marks.{table_slots}

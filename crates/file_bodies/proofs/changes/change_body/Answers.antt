@@ -1,6 +1,6 @@
 use Rattle.std.proofs.Common.{◌≡◌, Bool, ℕ, ◌+◌, ◌-◌, min, length, sym, ap, subst, arith}
 use Rattle.std.proofs.lemmas.Result.{err_from_is_err_and, IfOk-weaker}
-use Rattle.block_trees.specs.Bodies.{Blocks, body, IsBody}
+use Rattle.nodes.specs.Bodies.{Blocks, body, IsBody}
 use Rattle.plain_trees.specs.Contents.{nodes_from}
 use Rattle.file_bodies.specs.Reading.{HoldsBody}
 use Rattle.file_bodies.specs.Writing.{edited, IsStored, IsWritten, BodyOnlyReaches}

@@ -1,6 +1,6 @@
 use Rattle.std.proofs.Common.{ℕ, ◌-◌, ◌/◌, sym, ap, subst, arith, rules}
 use Rattle.std.proofs.lemmas.Result.{err_from_is_err_and}
-use Rattle.block_trees.specs.Bodies.{IsBody}
+use Rattle.nodes.specs.Bodies.{IsBody}
 use Rattle.file_bodies.specs.Reading.{HasDigits}
 use Rattle.file_bodies.proofs.NodeCalls.{along_looking, along_wider}
 use Rattle.file_bodies.proofs.changes.set_length.Goals as goal

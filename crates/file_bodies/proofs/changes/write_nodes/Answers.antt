@@ -1,7 +1,7 @@
 use Rattle.std.proofs.Common.{◌≤◌, ◌≡◌, ℕ, ◌+◌, ◌-◌, ◌*◌, ◌<◌, min, List, length, take, drop, refl, sym, ap, subst, ◌∙◌, arith}
 use Rattle.std.proofs.lemmas.Result.{err_from_is_err_and}
 use Rattle.std.proofs.Math.Nat.{div-mul-le_self, le_of_eq}
-use Rattle.block_trees.specs.Bodies.{head_index, body, IsBody}
+use Rattle.nodes.specs.Bodies.{head_index, body, IsBody}
 use Rattle.node_format.specs.declared.place.Place.TheVariants.{File}
 use Rattle.nodes.specs.Words.{IsHeld, Keeps}
 use Rattle.file_bodies.specs.declared.body.Body.{Body}

@@ -3,8 +3,8 @@ use Rattle.std.proofs.lemmas.Result.{err_from_is_err_and}
 use Rattle.node_format.specs.Headers.{body_header}
 use Rattle.nodes.specs.PageCounts.{pages_for}
 use Rattle.nodes.specs.Words.{Looks}
-use Rattle.block_trees.specs.Bodies.{Blocks, index_of, data_of, back, body}
-use Rattle.block_trees.proofs.Bodies.{chain_node}
+use Rattle.nodes.specs.Bodies.{Blocks, index_of, data_of, back, body}
+use Rattle.nodes.proofs.Bodies.{chain_node}
 use Rattle.plain_trees.specs.Contents.{same_bytes}
 use Rattle.file_bodies.specs.Reading.{HasDigits}
 use Rattle.file_bodies.proofs.NodeCalls.{along_after, along_refused, along_within}

@@ -1,5 +1,5 @@
 use Rattle.std.proofs.Common.{◌≡◌, ℕ, ◌+◌, ◌*◌, ◌≤◌, take, min}
-use Rattle.block_trees.specs.Bodies.{body, head_index}
+use Rattle.nodes.specs.Bodies.{body, head_index}
 use Rattle.nodes.specs.Words.{Looks}
 use Rattle.nodes.specs.PageCounts.{pages_for}
 use Rattle.file_bodies.specs.Reading.{AsksPageEach, HasDigits}

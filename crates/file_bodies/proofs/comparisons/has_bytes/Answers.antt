@@ -1,5 +1,5 @@
 use Rattle.std.proofs.Common.{ℕ, sym, subst}
-use Rattle.block_trees.specs.Bodies.{IsBody}
+use Rattle.nodes.specs.Bodies.{IsBody}
 use Rattle.file_bodies.proofs.comparisons.has_bytes.Goals as goal
 
 pub has_all-requires-clause-holds : goal.has_all-requires-clause-holds

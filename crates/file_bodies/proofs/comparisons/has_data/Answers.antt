@@ -5,7 +5,7 @@ use Rattle.std.proofs.lemmas.Result.{err_from_is_err_and}
 use Rattle.node_format.specs.Headers.{body_header}
 use Rattle.nodes.specs.PageCounts.{pages_for}
 use Rattle.nodes.specs.WordLaws.{looks_refused}
-use Rattle.block_trees.specs.Bodies.{Blocks, data_of}
+use Rattle.nodes.specs.Bodies.{Blocks, data_of}
 use Rattle.file_bodies.specs.Reading.{AsksPageEach}
 use Rattle.file_bodies.proofs.NodeCalls.{within_after}
 use Rattle.file_bodies.proofs.Compared.{so_far, others, all_same, begins_before, ends_behind, page_more}

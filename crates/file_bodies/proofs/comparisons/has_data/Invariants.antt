@@ -1,6 +1,6 @@
 use Rattle.std.proofs.Common.{◌≡◌, ◌+◌, ◌-◌, ◌*◌, length, take, min}
 use Rattle.node_format.specs.Headers.{body_header}
-use Rattle.block_trees.specs.Bodies.{data_of}
+use Rattle.nodes.specs.Bodies.{data_of}
 use Rattle.nodes.specs.Words.{Looks}
 use Rattle.file_bodies.specs.Reading.{AsksPageEach}
 use Rattle.file_bodies.proofs.comparisons.has_data.Given as goal

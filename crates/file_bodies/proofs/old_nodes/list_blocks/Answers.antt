@@ -1,6 +1,6 @@
 use Rattle.std.proofs.Common.{◌≡◌, ℕ, ◌+◌, ◌-◌, Option, List, [], ◌∷◌, ◌++◌, length, sym, ap, subst, ◌∙◌, arith, length-append}
 use Rattle.std.proofs.lemmas.Result.{err_from_is_err_and}
-use Rattle.block_trees.specs.Bodies.{Blocks, pointer_of, back}
+use Rattle.nodes.specs.Bodies.{Blocks, pointer_of, back}
 use Rattle.file_bodies.specs.Reading.{AreBlocks}
 use Rattle.nodes.specs.WordLaws.{looks_refused}
 use Rattle.file_bodies.proofs.NodeCalls.{within_after}

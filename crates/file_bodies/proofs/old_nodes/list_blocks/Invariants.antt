@@ -1,7 +1,7 @@
 use Rattle.std.proofs.Common.{◌≡◌, ◌≤◌, ◌+◌, ◌-◌, length}
 use Rattle.std.specs.Prelude.{vec_len, vec_capacity}
 use Rattle.nodes.specs.Words.{Looks}
-use Rattle.block_trees.specs.Bodies.{back}
+use Rattle.nodes.specs.Bodies.{back}
 use Rattle.file_bodies.specs.Reading.{AreBlocks, AsksPageEach}
 use Rattle.file_bodies.proofs.old_nodes.list_blocks.Given as goal
 

@@ -2,8 +2,8 @@ use Rattle.std.proofs.Common.{◌≡◌, ℕ, ◌-◌, ◌*◌, ◌/◌, ◌<◌
 use Rattle.std.proofs.lemmas.Result.{err_from_is_err_and}
 use Rattle.std.specs.Prelude.{min}
 use Rattle.std.proofs.lemmas.List.{length-take-le}
-use Rattle.block_trees.specs.Bodies.{Blocks, index_of, data_of, back, body}
-use Rattle.block_trees.proofs.Bodies.{chain_node}
+use Rattle.nodes.specs.Bodies.{Blocks, index_of, data_of, back, body}
+use Rattle.nodes.proofs.Bodies.{chain_node}
 use Rattle.file_bodies.proofs.NodeCalls.{along_after, along_refused, along_wider, along_within}
 use Rattle.file_bodies.proofs.Fronts.{body_length}
 use Rattle.file_bodies.proofs.Kept.{part_of, listed_chain, none_kept, part_kept}

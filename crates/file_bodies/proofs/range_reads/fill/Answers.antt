@@ -8,8 +8,8 @@ use Rattle.file_bodies.proofs.NodeCalls.{within_after}
 use Rattle.file_bodies.proofs.PartReads.{within_one}
 use Rattle.file_bodies.proofs.range_reads.fill.Goals.{then-whole, else-whole}
 use borrow.Rule.Slice.PartMut.{put_mid}
-use Rattle.block_trees.specs.Bodies.{Blocks, index_of, pointer_of, data_of}
-use Rattle.block_trees.proofs.Bodies.{chain_node}
+use Rattle.nodes.specs.Bodies.{Blocks, index_of, pointer_of, data_of}
+use Rattle.nodes.proofs.Bodies.{chain_node}
 use Rattle.file_bodies.specs.Reading.{nodes_between}
 use Rattle.file_bodies.proofs.Parts.{piece_length, part_length, filled_length, step_of, step_left, one_fewer, pages_fewer}
 use Rattle.file_bodies.proofs.range_reads.fill.Goals as goal

@@ -2,7 +2,7 @@ use Rattle.std.proofs.Common.{◌≡◌, ◌≢◌, ◌+◌, ◌-◌, ◌*◌, �
 use Rattle.node_format.specs.Headers.{body_header}
 use Rattle.nodes.specs.Words.{Looks}
 use Rattle.nodes.specs.PageCounts.{pages_for, pages_of_range}
-use Rattle.block_trees.specs.Bodies.{data_to}
+use Rattle.nodes.specs.Bodies.{data_to}
 use Rattle.file_bodies.specs.Reading.{nodes_between}
 use Rattle.file_bodies.proofs.Parts.{IsLeft}
 use Rattle.file_bodies.proofs.range_reads.fill.Given as goal

@@ -1,7 +1,7 @@
 use Rattle.std.proofs.Common.{◌≡◌, ℕ, ◌-◌, refl, sym, ap, subst, ◌∙◌, arith}
 use Rattle.node_format.specs.Headers.{body_header}
-use Rattle.block_trees.specs.Bodies.{Blocks, index_of, pointer_of, back}
-use Rattle.block_trees.proofs.Bodies.{chain_node}
+use Rattle.nodes.specs.Bodies.{Blocks, index_of, pointer_of, back}
+use Rattle.nodes.proofs.Bodies.{chain_node}
 use Rattle.std.proofs.lemmas.Result.{err_from_is_err_and}
 use Rattle.file_bodies.proofs.NodeCalls.{along_after, along_within}
 use Rattle.file_bodies.proofs.Hops.{few_hops}

@@ -1,7 +1,7 @@
 use Rattle.file_bodies.proofs.KnownNodes.{known_chain, known_linked, found_from_head, known_digits}
 use Rattle.file_bodies.proofs.NodeCalls.{along_wider}
 use Rattle.std.proofs.Common.{ℕ, subst}
-use Rattle.block_trees.specs.Bodies.{IsChain}
+use Rattle.nodes.specs.Bodies.{IsChain}
 use Rattle.file_bodies.proofs.range_reads.find_from.Goals as goal
 
 pub find-requires-clause-chain : goal.find-requires-clause-chain

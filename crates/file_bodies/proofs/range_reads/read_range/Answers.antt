@@ -5,7 +5,7 @@ use Rattle.std.specs.Option.{ForSome}
 use Rattle.std.proofs.lemmas.List.{take_at}
 use Rattle.node_format.specs.Headers.{body_header}
 use Rattle.nodes.specs.PageCounts.{pages_for}
-use Rattle.block_trees.specs.Bodies.{Blocks, data_to, IsBody, IsChain}
+use Rattle.nodes.specs.Bodies.{Blocks, data_to, IsBody, IsChain}
 use Rattle.file_bodies.specs.Reading.{HasDigits, IsNodeOf, nodes_between, nodes_of_range}
 use Rattle.nodes.specs.WordLaws.{looks_answered, looks_refused}
 use Rattle.file_bodies.proofs.KnownNodes.{found_node}

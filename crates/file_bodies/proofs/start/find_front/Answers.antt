@@ -1,6 +1,6 @@
 use Rattle.std.proofs.Common.{◌≡◌, ℕ, ◌-◌, ◌/◌, subst, sym, refl, arith}
 use Rattle.std.proofs.lemmas.Result.{IfOk-weaker}
-use Rattle.block_trees.specs.Bodies.{back}
+use Rattle.nodes.specs.Bodies.{back}
 use Rattle.file_bodies.specs.Writing.{IsBodyFront}
 use Rattle.file_bodies.proofs.Fronts.{front_of}
 use Rattle.file_bodies.proofs.start.find_front.Goals as goal

@@ -1,6 +1,6 @@
 use Rattle.std.proofs.Common.{ℕ, ◌/◌, ◌-◌, ◌≤◌, min, sym, ap, subst, ◌∙◌, arith}
 use Rattle.std.proofs.lemmas.Result.{err_from_is_err_and}
-use Rattle.block_trees.specs.Bodies.{Blocks}
+use Rattle.nodes.specs.Bodies.{Blocks}
 use Rattle.file_bodies.specs.Reading.{AreBlocks}
 use Rattle.file_bodies.specs.Writing.{AreLinked, IsTable}
 use Rattle.nodes.specs.WordLaws.{looks_refused}

@@ -1,6 +1,6 @@
 use Rattle.std.proofs.Common.{◌≡◌, ℕ, suc, ◌+◌, ◌-◌, ◌*◌, ◌/◌, ◌%◌, ◌^◌, sym, ap, subst, ◌∙◌, arith}
 use Rattle.std.proofs.lemmas.List.{length-set}
-use Rattle.block_trees.specs.Bodies.{Blocks, back, IsChain, IsLinked}
+use Rattle.nodes.specs.Bodies.{Blocks, back, IsChain, IsLinked}
 use Rattle.nodes.specs.WordLaws.{looks_refused}
 use Rattle.file_bodies.proofs.NodeCalls.{within_after}
 use Rattle.file_bodies.proofs.Marks.{linked_before, mark_chain, mark_linked, mark_next, none_farther, set_named, few_more}

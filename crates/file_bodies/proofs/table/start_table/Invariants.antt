@@ -1,6 +1,6 @@
 use Rattle.std.proofs.Common.{◌≡◌, ℕ, ◌+◌, ◌-◌, ◌%◌, ◌^◌, ◌<◌, ◌≤◌, length, slice_index}
 use Rattle.nodes.specs.Words.{Looks}
-use Rattle.block_trees.specs.Bodies.{back}
+use Rattle.nodes.specs.Bodies.{back}
 use Rattle.file_bodies.specs.Reading.{AsksPageEach}
 use Rattle.file_bodies.proofs.table.start_table.Given as goal
 

@@ -1,6 +1,6 @@
 use Rattle.std.proofs.Common.{◌≡◌, ℕ, ◌*◌, ◌/◌, ◌%◌, ◌^◌, ap, ◌∙◌}
 use Rattle.std.proofs.lemmas.Result.{IfOk-weaker}
-use Rattle.block_trees.specs.Bodies.{pointer_of, back}
+use Rattle.nodes.specs.Bodies.{pointer_of, back}
 use Rattle.file_bodies.proofs.Marks.{odd_pointer, odd_next}
 use Rattle.file_bodies.proofs.table.step_back.Goals as goal
 

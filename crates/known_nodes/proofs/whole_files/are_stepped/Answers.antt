@@ -1,5 +1,5 @@
 use Rattle.std.proofs.Common.{◌<◌, sym, ◌∙◌, arith}
-use Rattle.block_trees.specs.Bodies.{pointer_of}
+use Rattle.nodes.specs.Bodies.{pointer_of}
 use Rattle.known_nodes.specs.Tables.{blocks_in}
 use Rattle.known_nodes.specs.WholeFiles.{is_stepped}
 use Rattle.known_nodes.proofs.WholeFileLaws.{all_from, all_fails}

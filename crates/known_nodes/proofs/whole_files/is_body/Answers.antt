@@ -1,6 +1,6 @@
 use Rattle.std.proofs.Common.{◌-◌, ◌*◌, ◌≤◌, ◌∙◌, ℕ, Bool, true, sym, ap, arith, length}
 use Rattle.std.proofs.lemmas.Bool.{le-leb}
-use Rattle.block_trees.specs.Bodies.{data_of, head_index}
+use Rattle.nodes.specs.Bodies.{data_of, head_index}
 use Rattle.known_nodes.specs.Tables.{blocks_in}
 use Rattle.known_nodes.proofs.WholeFileLaws.{body_is}
 use Rattle.known_nodes.proofs.whole_files.is_body.Goals as goal

@@ -1,7 +1,7 @@
 use Rattle.std.proofs.Common.{◌<◌, ◌∙◌, true, false, refl, sym, arith, length}
 use Rattle.std.specs.Prelude.{◌==◌}
 use Rattle.std.proofs.lemmas.Bool.{ne_eqb, eq-eqb}
-use Rattle.block_trees.specs.Bodies.{pointer_of, data_of}
+use Rattle.nodes.specs.Bodies.{pointer_of, data_of}
 use Rattle.known_nodes.specs.Tables.{blocks_in}
 use Rattle.known_nodes.specs.WholeFiles.{are_stepped}
 use Rattle.known_nodes.proofs.WholeFileLaws.{step_is}

@@ -5,7 +5,7 @@ use Rattle.std.specs.Prelude.{◌↔◌}
 use Rattle.block_ring.specs.Ring.{Ring}
 use Rattle.flash_model.specs.declared.geometry.Geometry.{Geometry}
 use Rattle.node_store.specs.NodePages.{node_of}
-use Rattle.block_trees.specs.Reached.{Reached}
+use Rattle.nodes.specs.Reached.{Reached}
 use Rattle.mounting.specs.Records.{history_of, roots_of, knows_plain_only, HaveTrees}
 use Rattle.mounting.proofs.Loading.{built_loaded, err_roots}
 use Rattle.mounting.specs.Costs.{AsksToVerify}

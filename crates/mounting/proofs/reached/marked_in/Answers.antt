@@ -5,12 +5,12 @@ use Rattle.std.proofs.lemmas.Result.{err_from_is_err_and}
 use Rattle.block_ring.specs.Ring.{IsDataBlock}
 use Rattle.flash_model.specs.Geometry.{block_bytes}
 use Rattle.node_store.specs.NodePages.{node_of}
-use Rattle.block_trees.specs.Bodies.{Blocks}
+use Rattle.nodes.specs.Bodies.{Blocks}
 use Rattle.reclaim.specs.Passes.{IsPass}
 use Rattle.reclaim.specs.Verified.{AreRoots}
 use Rattle.reclaim.proofs.KnownPasses.{begins_known}
 use Rattle.reclaim.proofs.Looking.{read_look}
-use Rattle.block_trees.specs.Reached.{Reached}
+use Rattle.nodes.specs.Reached.{Reached}
 use Rattle.mounting.proofs.Marking.{roots_hold_data, marking_why, reads_none, reads_each}
 use Rattle.mounting.proofs.Asking.{asks_none, asks_each}
 use Rattle.mounting.proofs.reached.marked_in.Goals as goal

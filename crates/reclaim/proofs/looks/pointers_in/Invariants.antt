@@ -1,6 +1,6 @@
 use Rattle.std.proofs.Common.{◌≡◌, ◌<◌, ℕ, Some, length}
 use Rattle.std.specs.Prelude.{slice_index}
-use Rattle.block_trees.specs.Bodies.{pointer_of}
+use Rattle.nodes.specs.Bodies.{pointer_of}
 use Rattle.reclaim.proofs.looks.pointers_in.Given as goal
 
 -- the slots so far

@@ -1,6 +1,6 @@
 use Rattle.std.proofs.Common.{◌++◌, ℕ, List, Some, ap, ◌∙◌}
 use Rattle.std.specs.List.{flat_map}
-use Rattle.block_trees.specs.Chains.{link_items}
+use Rattle.nodes.specs.Chains.{link_items}
 use Rattle.reclaim.specs.Naming.{item_directories}
 use Rattle.reclaim.proofs.NamedLaws.{directories_all}
 use Rattle.reclaim.proofs.named.list_directories.Goals as goal

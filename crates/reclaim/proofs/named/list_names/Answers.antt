@@ -1,7 +1,7 @@
 use Rattle.std.proofs.Common.{◌++◌, ℕ, List, Some, ap, ◌∙◌}
 use Rattle.std.specs.List.{flat_map}
-use Rattle.block_trees.specs.Bodies.{index_of, pointer_of}
-use Rattle.block_trees.specs.Chains.{link_items, next_of}
+use Rattle.nodes.specs.Bodies.{index_of, pointer_of}
+use Rattle.nodes.specs.Chains.{link_items, next_of}
 use Rattle.reclaim.specs.Naming.{item_names, next_names, body_named}
 use Rattle.reclaim.proofs.NamedLaws.{named_all}
 use Rattle.reclaim.proofs.named.list_names.Goals as goal

@@ -1,6 +1,6 @@
 use Rattle.std.proofs.Common.{◌++◌, [], ◌∷◌, ℕ, List, Some, ap, sym, ◌∙◌}
 use Rattle.std.proofs.lemmas.List.{append_assoc, append-nil}
-use Rattle.block_trees.specs.Bodies.{pointer_of}
+use Rattle.nodes.specs.Bodies.{pointer_of}
 use Rattle.reclaim.specs.Naming.{slots_named}
 use Rattle.reclaim.proofs.NamedLaws.{slots_named-none, slots_named-has, slots_named-lacks}
 use Rattle.reclaim.proofs.named.push_slots.Goals as goal

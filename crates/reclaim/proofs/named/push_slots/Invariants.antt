@@ -1,5 +1,5 @@
 use Rattle.std.proofs.Common.{◌≡◌, ◌++◌, Some}
-use Rattle.block_trees.specs.Bodies.{pointer_of}
+use Rattle.nodes.specs.Bodies.{pointer_of}
 use Rattle.reclaim.specs.Naming.{slots_named}
 use Rattle.reclaim.proofs.named.push_slots.Given as goal
 

@@ -1,6 +1,6 @@
 use Rattle.std.proofs.Common.{ℕ, Some, List, subst}
 use Rattle.std.specs.Prelude.{IfOk}
-use Rattle.block_trees.specs.Reached.{Names}
+use Rattle.nodes.specs.Reached.{Names}
 use Rattle.reclaim.specs.Facts.{AreNamed}
 use Rattle.reclaim.specs.Kinds.{NamesBody}
 use Rattle.std.proofs.lemmas.Result.{IfOk-weaker}

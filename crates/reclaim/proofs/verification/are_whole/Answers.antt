@@ -6,9 +6,9 @@ use Rattle.node_format.specs.BodyNodes.{HasSlot}
 use Rattle.node_format.specs.Headers.{IsNode}
 use Rattle.node_format.specs.Items.{Item}
 use Rattle.node_format.specs.declared.place.Place.{Place}
-use Rattle.block_trees.specs.Bodies.{index_of, pointer_of, data_of}
-use Rattle.block_trees.specs.Chains.{link_items}
-use Rattle.block_trees.specs.Reached.{Reached, PlaceNames}
+use Rattle.nodes.specs.Bodies.{index_of, pointer_of, data_of}
+use Rattle.nodes.specs.Chains.{link_items}
+use Rattle.nodes.specs.Reached.{Reached, PlaceNames}
 use Rattle.reclaim.specs.Looks.{IsSoundFile}
 use Rattle.reclaim.specs.Tables.{HasSeen}
 use Rattle.reclaim.specs.Tops.{top_of}

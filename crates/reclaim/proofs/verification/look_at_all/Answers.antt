@@ -3,7 +3,7 @@ use Rattle.std.proofs.lemmas.Bool.{true≢false}
 use Rattle.std.proofs.lemmas.List.{take_all}
 use Rattle.std.proofs.lemmas.Result.{err_from_is_err_and}
 use Rattle.std.specs.List.{sum_by}
-use Rattle.block_trees.specs.Bodies.{Blocks}
+use Rattle.nodes.specs.Bodies.{Blocks}
 use Rattle.reclaim.specs.Verified.{AreAllowed, HasCost, once_reads, once_pages}
 use Rattle.reclaim.specs.Verifying.{HasLookedAt}
 use Rattle.reclaim.proofs.Costs.{looked_one, looked_all, pages_same}

@@ -10,9 +10,9 @@ use Rattle.fs_types.specs.declared.fault.Fault.{Fault}
 use Rattle.fs_types.specs.declared.fault.Fault.TheVariants.{Damaged}
 use Rattle.node_format.specs.declared.place.Place.TheVariants.{Dir}
 use Rattle.nodes.specs.PageCounts.{pages_for}
-use Rattle.block_trees.specs.Bodies.{Blocks}
-use Rattle.block_trees.specs.Laws.{IsShallow}
-use Rattle.block_trees.specs.Reached.{Reached}
+use Rattle.nodes.specs.Bodies.{Blocks}
+use Rattle.nodes.specs.TreeLaws.{IsShallow}
+use Rattle.nodes.specs.Reached.{Reached}
 use Rattle.directory.specs.Depths.{AreQuiet}
 use Rattle.directory.specs.Lookups.{LeadsToDirectories}
 use Rattle.reclaim.specs.Passes.{IsPass}

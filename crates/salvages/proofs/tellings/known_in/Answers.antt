@@ -1,5 +1,5 @@
 use Rattle.std.proofs.Common.{◌∙◌, ap, arith}
-use Rattle.block_trees.specs.Bodies.{Blocks}
+use Rattle.nodes.specs.Bodies.{Blocks}
 use Rattle.node_store.specs.NodeLaws.{node_of-beyond}
 use Rattle.salvages.proofs.tellings.known_in.Goals as goal
 

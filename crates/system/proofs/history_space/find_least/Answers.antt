@@ -1,6 +1,6 @@
 use Rattle.std.proofs.Common.{ℕ, List, reverse, sym, subst, ◌∙◌}
 use Rattle.std.specs.Prelude.{Contains}
-use Rattle.block_trees.specs.Bodies.{Blocks}
+use Rattle.nodes.specs.Bodies.{Blocks}
 use Rattle.node_store.specs.NodePages.{node_of}
 use Rattle.node_store.specs.ReadingLaws.{OnlyReads_nodes}
 use Rattle.tree_counts.specs.FirstRoots.{AreFirstRoots}

@@ -3,7 +3,7 @@ use Rattle.std.specs.FinSet as set
 use Rattle.std.specs.Prelude.{◌↔◌}
 use Rattle.flash_model.specs.Geometry.{block_bytes}
 use Rattle.node_store.specs.NodePages.{node_of}
-use Rattle.block_trees.specs.Reached.{Reached}
+use Rattle.nodes.specs.Reached.{Reached}
 use Rattle.reclaim.specs.Verified.{AreRoots}
 use Rattle.working_state.specs.Moments.{moment}
 use Rattle.working_state.proofs.Standing.{looked_at}

@@ -3,7 +3,7 @@ use Rattle.std.proofs.lemmas.List.{take_more, take_all, take-append-drop}
 use Rattle.std.proofs.lemmas.List.Elements.{Contains-get_or}
 use Rattle.std.proofs.lemmas.Result.{err_from_is_err_and}
 use Rattle.std.specs.Prelude.{Contains}
-use Rattle.block_trees.specs.Bodies.{Blocks}
+use Rattle.nodes.specs.Bodies.{Blocks}
 use Rattle.tree_counts.specs.FirstRoots.{AreFirstRoots}
 use Rattle.reclaim.specs.Passes.{IsPass}
 use Rattle.tree_counts.specs.RootWalks.{IsWalked, ReadsOn}

@@ -3,8 +3,8 @@ use Rattle.std.proofs.lemmas.List.{length-append}
 use Rattle.std.proofs.lemmas.List.Elements.{Contains-get_or}
 use Rattle.std.proofs.lemmas.Result.{err_from_is_err_and}
 use Rattle.std.specs.Prelude.{Contains}
-use Rattle.block_trees.specs.Bodies.{Blocks}
-use Rattle.block_trees.specs.Reached.{Reached}
+use Rattle.nodes.specs.Bodies.{Blocks}
+use Rattle.nodes.specs.Reached.{Reached}
 use Rattle.reclaim.specs.Passes.{AreReached}
 use Rattle.tree_counts.specs.Counted.{leads_of, IsLow, AreSizes, IsGoneTo, size_from}
 use Rattle.tree_counts.proofs.Weights.{low_within, low_link, low_led, low_some}

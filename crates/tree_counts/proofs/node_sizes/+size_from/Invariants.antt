@@ -1,5 +1,5 @@
 use Rattle.std.proofs.Common.{◌≡◌, ℕ, ◌+◌, ◌≤◌, List, length, take}
-use Rattle.block_trees.specs.Reached.{Reached}
+use Rattle.nodes.specs.Reached.{Reached}
 use Rattle.nodes.specs.Frames.{OnlyLooks}
 use Rattle.reclaim.specs.Passes.{AreReached}
 use Rattle.tree_counts.specs.Counted.{AreSizes, StillHas, IsGoneTo}

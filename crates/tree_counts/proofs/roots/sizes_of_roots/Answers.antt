@@ -3,9 +3,9 @@ use Rattle.std.proofs.lemmas.List.{map-append, take_more}
 use Rattle.std.proofs.lemmas.List.Elements.{Contains-get_or}
 use Rattle.std.proofs.lemmas.Result.{err_from_is_err_and}
 use Rattle.node_format.specs.Headers.{body_header}
-use Rattle.block_trees.specs.Bodies.{Blocks}
-use Rattle.block_trees.specs.Reached.{Reached, IsFirst}
-use Rattle.block_trees.specs.Trees.{root_tree}
+use Rattle.nodes.specs.Bodies.{Blocks}
+use Rattle.nodes.specs.Reached.{Reached, IsFirst}
+use Rattle.nodes.specs.Trees.{root_tree}
 use Rattle.reclaim.specs.Passes.{AreReached}
 use Rattle.tree_counts.specs.Counted.{AreSizes, IsGoneTo, IsLow, most_steps, size_from}
 use Rattle.tree_counts.specs.Sizes.{size_of}

@@ -1,5 +1,5 @@
 use Rattle.std.proofs.Common.{◌≡◌, ◌+◌, ◌≤◌, ◌-◌, length, map, take}
-use Rattle.block_trees.specs.Trees.{root_tree}
+use Rattle.nodes.specs.Trees.{root_tree}
 use Rattle.node_format.specs.Headers.{body_header}
 use Rattle.nodes.specs.Frames.{OnlyLooks}
 use Rattle.reclaim.specs.Passes.{AreReached}

@@ -2,7 +2,7 @@ use Rattle.std.proofs.Common.{◌≡◌, ◌∙◌, ◌++◌, ◌-◌, ◌<◌, 
 use Rattle.std.proofs.lemmas.List.{length-append}
 use Rattle.std.proofs.lemmas.Result.{err_from_is_err_and}
 use Rattle.fs_types.specs.Names.{Path}
-use Rattle.block_trees.specs.Bodies.{Blocks}
+use Rattle.nodes.specs.Bodies.{Blocks}
 use Rattle.directory.specs.Places.{placed}
 use Rattle.tree_differences.specs.Differing.{child_at, differing_below, items_at, BeginsAt, IsReadable}
 use Rattle.tree_differences.proofs.Below.{readable_child, same_below}

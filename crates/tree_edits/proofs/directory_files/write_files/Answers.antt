@@ -6,14 +6,14 @@ use Rattle.node_format.specs.Headers.{body_header}
 use Rattle.node_format.specs.Items.{Item}
 use Rattle.node_format.specs.declared.place.Place.TheVariants.{Dir}
 use Rattle.nodes.specs.Words.{Keeps}
-use Rattle.block_trees.specs.Trees.{items_in}
+use Rattle.nodes.specs.Trees.{items_in}
 use Rattle.directory.specs.Counts.{nodes_in}
 use Rattle.directory.specs.Puts.{HasRoomFor, IsDirectoryPut}
 use Rattle.directory.specs.declared.directory_puts.NamedPlace.{NamedPlace}
 use Rattle.directory.proofs.Held.{held_later, same_held, same_held_items}
 use Rattle.directory.proofs.LookupLaws.{found_leads, rooted_leads}
 use Rattle.directory.proofs.TrailEdits.{look_later, leads_later, trail_later}
-use Rattle.block_trees.proofs.Reaching.{held_leads}
+use Rattle.nodes.proofs.Reaching.{held_leads}
 use Rattle.tree_edits.specs.Edits.{chosen}
 use Rattle.tree_edits.proofs.NewBytes.{body_fault}
 use Rattle.tree_edits.proofs.AppliedEdits.{is_applied}

@@ -2,7 +2,7 @@ use Rattle.std.proofs.Common.{◌-◌, true, false, List, ℕ, subst, ◌∙◌,
 use Rattle.plain_trees.specs.Contents.{resized}
 use Rattle.plain_trees.specs.Trees.{bytes_of_file}
 use Rattle.node_format.specs.Headers.{body_header}
-use Rattle.block_trees.specs.Trees.{root_tree}
+use Rattle.nodes.specs.Trees.{root_tree}
 use Rattle.directory.specs.declared.lookups.Found.TheVariants as found
 use Rattle.directory.proofs.Held.{held_later}
 use Rattle.directory.proofs.LookupLaws.{rooted_leads}

@@ -1,5 +1,5 @@
 use Rattle.std.proofs.Common.{List, ℕ, Option, ◌∙◌, ap}
-use Rattle.block_trees.specs.Bodies.{data_of}
+use Rattle.nodes.specs.Bodies.{data_of}
 use Rattle.known_nodes.proofs.node_table.NodeTable.data_at.Goals as goal
 
 pub returns-in-Some : goal.returns-in-Some

@@ -1,6 +1,6 @@
 use Rattle.std.proofs.Common.{◌≡◌, ℕ, List, Option, Some, length, ap, arith}
 use Rattle.std.proofs.lemmas.List.{length-drop}
-use Rattle.block_trees.specs.Bodies.{data_of}
+use Rattle.nodes.specs.Bodies.{data_of}
 use Rattle.known_nodes.specs.Tables.{blocks_in}
 use Rattle.known_nodes.proofs.node_table.NodeTable.data_length_at.Goals as goal
 

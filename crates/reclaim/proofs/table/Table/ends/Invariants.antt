@@ -1,6 +1,6 @@
 use Rattle.std.proofs.Common.{◌≡◌, suc, ◌-◌}
 use Rattle.std.specs.Prelude.{slice_index}
-use Rattle.block_trees.specs.Chains.{most_after}
+use Rattle.nodes.specs.Chains.{most_after}
 use Rattle.reclaim.specs.Tables.{ends_from, has_link}
 use Rattle.reclaim.proofs.table.Table.ends.Given as goal
 

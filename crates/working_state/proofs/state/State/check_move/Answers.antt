@@ -5,8 +5,8 @@ use Rattle.fs_types.specs.Names.{is_path}
 use Rattle.history_machine.specs.Machine.{working_tree}
 use Rattle.node_format.specs.declared.place.Place.TheVariants.{Dir}
 use Rattle.node_store.specs.NodePages.{node_of}
-use Rattle.block_trees.specs.Bodies.{Blocks}
-use Rattle.block_trees.specs.Trees.{leads}
+use Rattle.nodes.specs.Bodies.{Blocks}
+use Rattle.nodes.specs.Trees.{leads}
 use Rattle.working_state.specs.Moments.{moment, machine_at, seen_at}
 use Rattle.working_state.proofs.ChangeSteps.{path_within}
 use Rattle.working_state.proofs.MovedEntries.{of_fault, MoveRefused, move_below, move_target, move_then, is_deep, is_shallow, deeper_before, shallow_before, busy_before, deep_refuses, busy_refuses, moves_by, move_room, room_is, read_later}

@@ -2,7 +2,7 @@ use Rattle.std.proofs.Common.{◌≡◌, Some, Err, sym, ap, subst, ◌∙◌}
 use Rattle.std.proofs.lemmas.Result.{err_from_is_err_and}
 use Rattle.fs_types.specs.declared.call.Call.{Call}
 use Rattle.node_format.specs.declared.place.Place.TheVariants.{Dir}
-use Rattle.block_trees.specs.Trees.{leads}
+use Rattle.nodes.specs.Trees.{leads}
 use Rattle.node_store.specs.NodePages.{node_of}
 use Rattle.directory.specs.Trails.{IsTrail}
 use Rattle.tree_edits.specs.Edits.{IsMovable}

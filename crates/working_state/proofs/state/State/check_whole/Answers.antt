@@ -2,7 +2,7 @@ use Rattle.std.proofs.Common.{Err, length, sym, ap, subst, ◌∙◌}
 use Rattle.std.proofs.lemmas.Bool.{lt-ltb, le-ltb}
 use Rattle.std.proofs.lemmas.Result.{err_from_is_err_and}
 use Rattle.fs_types.specs.declared.call.Call.{Call}
-use Rattle.block_trees.specs.Bodies.{Blocks}
+use Rattle.nodes.specs.Bodies.{Blocks}
 use Rattle.directory.specs.Trails.{IsTrail}
 use Rattle.working_state.specs.Moments.{Moment, moment}
 use Rattle.working_state.specs.WholeFiles.{place_refusal}

@@ -14,8 +14,8 @@ use Rattle.working_state.proofs.Views.{Shows, view_refuses}
 use Rattle.working_state.proofs.FileChanges.{looked_itself}
 use Rattle.std.proofs.Common.{◌+◌, ◌≤◌, length, subst, sym}
 use Rattle.node_store.specs.NodePages.{node_of}
-use Rattle.block_trees.specs.Bodies.{Blocks}
-use Rattle.block_trees.specs.Chains.{chain}
+use Rattle.nodes.specs.Bodies.{Blocks}
+use Rattle.nodes.specs.Chains.{chain}
 use Rattle.directory.specs.Lookups.{way_nodes}
 use Rattle.history_machine.specs.Machine.{view_tree, entries_of}
 use Rattle.working_state.specs.Looking.{list_nodes, entry_nodes}

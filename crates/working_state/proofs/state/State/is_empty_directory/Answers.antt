@@ -4,7 +4,7 @@ use Rattle.node_store.specs.NodePages.{node_of}
 use Rattle.std.specs.Prelude.{◌≡◌, ◌==◌, List, Some, None, IfOk, IsErrOf}
 use Rattle.fs_types.specs.declared.fault.Fault.TheVariants.{Damaged}
 use Rattle.node_format.specs.Items.{Item}
-use Rattle.block_trees.specs.Trees.{entries_in}
+use Rattle.nodes.specs.Trees.{entries_in}
 use Rattle.working_state.proofs.StoreReads.{path_causes, read_looks}
 use Rattle.node_store.specs.Stores.{Causes}
 use Rattle.working_state.proofs.state.State.is_empty_directory.Goals as goal

@@ -1,13 +1,13 @@
 use Rattle.std.proofs.Common.{subst, length, rules, ap}
 use Rattle.flash_model.specs.Device.{Device}
 use Rattle.node_store.specs.NodePages.{node_of}
-use Rattle.block_trees.specs.Chains.{chain}
+use Rattle.nodes.specs.Chains.{chain}
 use Rattle.working_state.specs.Looking.{AsksBlocks}
 use Rattle.working_state.proofs.Looks.{on_devices, store_asks}
 use Rattle.std.specs.Prelude.{◌≡◌, List, Some, None, IfOk, IsErrOf}
 use Rattle.fs_types.specs.declared.fault.Fault.TheVariants.{Damaged}
 use Rattle.node_format.specs.Items.{Item}
-use Rattle.block_trees.specs.Trees.{entries_in, names_of}
+use Rattle.nodes.specs.Trees.{entries_in, names_of}
 use Rattle.working_state.proofs.StoreReads.{path_causes, read_looks}
 use Rattle.node_store.specs.Stores.{Causes}
 use Rattle.working_state.proofs.state.State.names_in.Goals as goal

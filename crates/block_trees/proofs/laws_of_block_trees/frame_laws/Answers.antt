@@ -1,5 +1,0 @@
-use Rattle.block_trees.proofs.Frames.{frame_law}
-use Rattle.block_trees.proofs.laws_of_block_trees.frame_laws.Goals as goal
-
-pub returns : goal.returns
-returns c = record { frames = frame_law }

@@ -3,3 +3,4 @@ pub mod Padding
 pub mod PartBytes
 pub mod PartFaults
 pub mod Examined
+pub mod PlainCaches

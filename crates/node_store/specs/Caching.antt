@@ -4,7 +4,7 @@ use Rattle.std.specs.Result.{OnOk, OnErr}
 use Rattle.fs_types.specs.declared.fault.Fault.{Fault}
 use Rattle.fs_types.specs.declared.fault.Fault.TheVariants.{NoMemory}
 use Rattle.flash_model.specs.Device.{Device}
-use Rattle.node_cache.specs.Cache.{NodeCache, node_in, with_first, first_bytes}
+use Rattle.node_store.specs.NodeCache.{NodeCache, node_in, with_first, first_bytes}
 use Rattle.node_store.specs.NodePages.{node_of}
 use Rattle.node_store.specs.Reading.{Brings}
 

@@ -8,8 +8,8 @@ use Rattle.fs_types.specs.declared.fault.Fault.TheVariants.{NoMemory}
 use Rattle.flash_model.specs.Geometry.{IsGeometry}
 use Rattle.flash_model.specs.Device.{Device, block_of}
 use Rattle.flash_model.specs.Reading.{OnlyReads}
-use Rattle.node_cache.specs.Cache.{NodeCache, node_in, with_first, without, with_blocks, first_bytes, IsBounded}
-use Rattle.node_cache.specs.CacheLaws.{first_here, first_shown, first_apart, taken_out, found_with, found_without}
+use Rattle.node_store.specs.NodeCache.{NodeCache, node_in, with_first, without, with_blocks, first_bytes, IsBounded}
+use Rattle.node_store.specs.NodeCacheLaws.{first_here, first_shown, first_apart, taken_out, found_with, found_without}
 use Rattle.node_store.specs.NodePages.{node_of}
 use Rattle.node_store.specs.NodeLaws.{node_of-same}
 use Rattle.node_store.specs.ReadingLaws.{OnlyReads_nodes}

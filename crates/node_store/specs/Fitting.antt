@@ -3,7 +3,7 @@ use Rattle.std.specs.Prelude.{◌≡◌, ℕ, true, false, List, Option, Some, N
 use Rattle.std.specs.FinSet as set
 use Rattle.fs_types.specs.declared.fault.Fault.{Fault}
 use Rattle.flash_model.specs.Device.{Device}
-use Rattle.node_cache.specs.Cache.{node_in}
+use Rattle.node_store.specs.NodeCache.{node_in}
 use Rattle.node_store.specs.Caching.{IsTruthful}
 use Rattle.node_store.specs.declared.storage.Storage.{Storage}
 

@@ -4,7 +4,7 @@ use Rattle.std.proofs.Common.{sym, ◌∙◌, ap}
 use Rattle.fs_types.specs.declared.fault.Fault.{Fault}
 use Rattle.flash_model.specs.declared.geometry.Geometry.{Geometry}
 use Rattle.flash_model.specs.Device.{Device}
-use Rattle.node_cache.specs.Cache.{NodeCache}
+use Rattle.node_store.specs.NodeCache.{NodeCache}
 use Rattle.node_store.specs.Caching.{IsTruthful}
 use Rattle.node_store.specs.Fitting.{Fits, StillFits, ListsNone, ListsNoneTried}
 use Rattle.node_store.specs.declared.storage.Storage.{Storage}

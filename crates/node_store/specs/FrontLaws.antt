@@ -11,8 +11,8 @@ use Rattle.fs_types.specs.declared.limits.TheConstants.{ANCHORS}
 use Rattle.flash_model.specs.Geometry.{IsGeometry, block_bytes}
 use Rattle.flash_model.specs.Device.{Device, bytes_of}
 use Rattle.flash_model.specs.Reading.{OnlyReads, OnlyReads_itself}
-use Rattle.node_cache.specs.Cache.{NodeCache, node_in, with_first, first_bytes, IsBounded}
-use Rattle.node_cache.specs.CacheLaws.{first_shown}
+use Rattle.node_store.specs.NodeCache.{NodeCache, node_in, with_first, first_bytes, IsBounded}
+use Rattle.node_store.specs.NodeCacheLaws.{first_shown}
 use Rattle.node_format.specs.Headers.{node_size}
 use Rattle.node_store.specs.NodePages.{and_page, joined, bytes_at, node_of}
 use Rattle.nodes.specs.PageCounts.{pages_for}

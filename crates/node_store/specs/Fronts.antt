@@ -3,7 +3,7 @@ use Rattle.std.specs.Prelude.{◌≡◌, ℕ, ◌*◌, ◌&&◌, nat_le, nat_lt,
 use Rattle.fs_types.specs.declared.fault.Fault.{Fault}
 use Rattle.fs_types.specs.declared.limits.TheConstants.{ANCHORS}
 use Rattle.flash_model.specs.Device.{Device}
-use Rattle.node_cache.specs.Cache.{NodeCache, node_in, with_first, first_bytes}
+use Rattle.node_store.specs.NodeCache.{NodeCache, node_in, with_first, first_bytes}
 use Rattle.node_store.specs.NodePages.{joined}
 use Rattle.node_store.specs.Reading.{Brings}
 use Rattle.node_store.specs.declared.storage.Storage.{Storage}

@@ -22,3 +22,5 @@ pub mod Stores
 pub mod StoreLaws
 pub mod NodeLaws
 pub mod ExaminingLaws
+pub mod NodeCache
+pub mod NodeCacheLaws

@@ -3,7 +3,7 @@ use Rattle.std.specs.Prelude.{◌≡◌, ◌≢◌, ℕ, ◌<◌, false, List, O
 use Rattle.fs_types.specs.declared.fault.Fault.{Fault}
 use Rattle.fs_types.specs.declared.fault.Fault.TheVariants.{ReadFailed, PowerCut, NoMemory, Damaged}
 use Rattle.flash_model.specs.Device.{Device}
-use Rattle.node_cache.specs.Cache.{node_in, with_first}
+use Rattle.node_store.specs.NodeCache.{node_in, with_first}
 use Rattle.node_store.specs.Caching.{Fetches}
 use Rattle.nodes.specs.Parts.{LacksPart}
 use Rattle.node_store.specs.declared.storage.Storage.{Storage}

@@ -4,7 +4,7 @@ ghost use Rattle.std.specs.FinSet as set;
 ghost use Rattle.block_ring.specs.Ring.{next_free, free_count};
 ghost use Rattle.flash_model.specs.Device.{block_of};
 ghost use Rattle.flash_model.specs.Geometry.{IsGeometry, block_bytes};
-ghost use Rattle.node_cache.specs.Cache.{node_in};
+ghost use Rattle.node_store.specs.NodeCache.{node_in};
 ghost use Rattle.node_format.specs.Headers.{IsNode};
 ghost use Rattle.node_store.specs.Fitting.{StillFits, IsListedFirst, ListsNone};
 ghost use Rattle.node_store.specs.NewNodes.{IsWritable, WritesNode, ListsWritten};

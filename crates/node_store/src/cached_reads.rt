@@ -2,7 +2,7 @@
 ghost use Rattle.std.specs.Prelude.{◌≡◌, ◌+◌, ◌≤◌, None, OnOk, length};
 ghost use Rattle.flash_model.specs.Geometry.{IsGeometry};
 ghost use Rattle.flash_model.specs.Reading.{OnlyReads};
-ghost use Rattle.node_cache.specs.Cache.{node_in, first_bytes};
+ghost use Rattle.node_store.specs.NodeCache.{node_in, first_bytes};
 ghost use Rattle.node_store.specs.Caching.{Fetches};
 ghost use Rattle.node_store.specs.Fitting.{Fits, StillFits};
 ghost use Rattle.nodes.specs.PageCounts.{pages_for};

@@ -2,7 +2,7 @@
 ghost use Rattle.std.specs.Prelude.{◌≡◌, ℕ, ◌+◌, ◌-◌, ◌≤◌, ◌<◌, ◌==◌, true, false, List, [], length, Some, Err, OnOk, IfOk, IfErr, IfSome, IfNone, vec_len};
 ghost use Rattle.flash_model.specs.Geometry.{IsGeometry, block_bytes, page_count};
 ghost use Rattle.flash_model.specs.Reading.{OnlyReads};
-ghost use Rattle.node_cache.specs.Cache.{first_bytes};
+ghost use Rattle.node_store.specs.NodeCache.{first_bytes};
 ghost use Rattle.node_format.specs.Headers.{field, body_magic, body_header, node_size};
 ghost use Rattle.node_store.specs.Caching.{BringsOrWants};
 ghost use Rattle.nodes.specs.PageCounts.{most_pages, pages_for};

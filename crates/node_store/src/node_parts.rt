@@ -2,7 +2,7 @@
 ghost use Rattle.std.specs.Prelude.{◌≡◌, ◌≢◌, ℕ, ◌+◌, ◌-◌, ◌*◌, ◌≤◌, ◌<◌, List, [], length, take, drop, Some, Err, OnOk, IfErr, vec_len};
 ghost use Rattle.flash_model.specs.Geometry.{IsGeometry, page_count, block_bytes};
 ghost use Rattle.flash_model.specs.Reading.{OnlyReads};
-ghost use Rattle.node_cache.specs.Cache.{node_in};
+ghost use Rattle.node_store.specs.NodeCache.{node_in};
 ghost use Rattle.node_store.specs.Caching.{Fetches};
 ghost use Rattle.node_store.specs.Fitting.{Fits, StillFits};
 ghost use Rattle.node_store.specs.NodePages.{joined, node_of};

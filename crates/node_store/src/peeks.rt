@@ -3,7 +3,7 @@ ghost use Rattle.std.specs.Prelude.{◌≡◌, ◌≢◌, ◌+◌, ◌≤◌, le
 ghost use Rattle.fs_types.specs.declared.fault.Fault.TheVariants.{Damaged};
 ghost use Rattle.flash_model.specs.Geometry.{IsGeometry, block_bytes};
 ghost use Rattle.flash_model.specs.Reading.{OnlyReads};
-ghost use Rattle.node_cache.specs.Cache.{node_in};
+ghost use Rattle.node_store.specs.NodeCache.{node_in};
 ghost use Rattle.nodes.specs.Faults.{IsReadFault};
 ghost use Rattle.node_store.specs.Fitting.{Fits, StillFits};
 ghost use Rattle.nodes.specs.Frames.{OnlyLooks};

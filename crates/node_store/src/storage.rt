@@ -4,14 +4,14 @@ ghost use Rattle.std.specs.FinSet as set;
 ghost use Rattle.block_ring.specs.Ring.{IsDataBlock};
 ghost use Rattle.flash_model.specs.Device.{Device};
 ghost use Rattle.flash_model.specs.Geometry.{IsGeometry};
-ghost use Rattle.node_cache.specs.Cache.{with_blocks};
+ghost use Rattle.node_store.specs.NodeCache.{with_blocks};
 ghost use Rattle.node_store.specs.Fitting.{Fits};
 
+use crate::node_cache::NodeCache;
 use bad_blocks::BadBlocks;
 use block_ring::{Marks, Ring};
 use flash_model::Geometry;
 use fs_types::Fault;
-use node_cache::NodeCache;
 use std::alloc::Global;
 
 /// What nodes are kept with, apart from the flash: which blocks are bad and which are used, room for a

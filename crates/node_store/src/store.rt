@@ -63,7 +63,7 @@ impl<F: Flash> Nodes for Store<'_, F> {
     ghost use Rattle.std.proofs.Common.{ap};
     ghost use Rattle.std.specs.FinSet as set;
     ghost use Rattle.flash_model.specs.Geometry.{block_bytes as bytes_of_block};
-    ghost use Rattle.node_cache.specs.Cache.{first_bytes, without};
+    ghost use Rattle.node_store.specs.NodeCache.{first_bytes, without};
     ghost use Rattle.node_store.specs.NodePages.{node_of};
     ghost use Rattle.nodes.specs.PageCounts.{pages_for, pages_of_range};
     ghost use Rattle.node_store.specs.NodeLaws.{lawful_has_room, node_of-whole, node_of-anchor, node_of-beyond};

@@ -16,7 +16,7 @@ use nodes::Examines;
 impl<F: Flash> Examines for Store<'_, F> {
     ghost use Rattle.std.specs.FinSet as set;
     ghost use Rattle.flash_model.specs.Geometry.{block_bytes as bytes_of_block};
-    ghost use Rattle.node_cache.specs.Cache.{first_bytes};
+    ghost use Rattle.node_store.specs.NodeCache.{first_bytes};
     ghost use Rattle.node_store.specs.NodePages.{node_of};
     ghost use Rattle.node_store.specs.Stores.{IsSoundStore, Follows, Causes};
     ghost use Rattle.node_store.specs.ExaminingLaws.{Asks_each};

@@ -17,7 +17,7 @@ use anyhow::{Context, Result};
 use fs_types::MOUNTED_NODES;
 use measures::{Asked, MEASURES, asked_by, asked_by_format};
 use mount::{MOUNTS, asked_by_mount};
-use node_cache::MAX_CACHED_NODES;
+use node_store::MAX_CACHED_NODES;
 use series::{SERIES, SERIES_WITH_64_NODES, Series, asked_by_each};
 use watched::Counts;
 

@@ -1,7 +1,7 @@
 //! Nodes kept in memory.
 use block_ring::Ring;
 use fs_types::Fault;
-use node_cache::NodeCache;
+use node_store::NodeCache;
 use std::alloc::Global;
 use std::test::Fail;
 

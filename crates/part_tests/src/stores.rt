@@ -3,8 +3,7 @@ use bad_blocks::BadBlocks;
 use flash_model::{FaultKind, Geometry, PlannedFault};
 use flash_simulation::SimFlash;
 use fs_types::Fault;
-use node_cache::NodeCache;
-use node_store::{Nodes, Storage, Store};
+use node_store::{NodeCache, Nodes, Storage, Store};
 use std::test::Fail;
 
 /// The empty directory.

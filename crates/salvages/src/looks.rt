@@ -12,8 +12,7 @@ ghost use Rattle.salvages.specs.Wholes.{IsWhole, AreLost};
 use bad_blocks::BadBlocks;
 use flash_model::Flash;
 use fs_types::{ANCHORS, Fault, MOUNTED_NODES};
-use node_cache::NodeCache;
-use node_store::{Nodes, Storage, Store};
+use node_store::{NodeCache, Nodes, Storage, Store};
 use reclaim::verify;
 use std::alloc::{AllocError, Global};
 

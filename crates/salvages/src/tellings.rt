@@ -21,9 +21,8 @@ use bad_blocks::BadBlocks;
 use flash_model::Flash;
 use fs_types::{ANCHORS, Fault, MOUNTED_NODES, Version};
 use known_nodes::{KnownNodes, NodeTable};
-use node_cache::NodeCache;
 use node_format::BODY_HEADER;
-use node_store::{Nodes, Storage, Store};
+use node_store::{NodeCache, Nodes, Storage, Store};
 use record_format::{OLD_FORMAT, Record};
 use std::alloc::Global;
 

@@ -15,7 +15,7 @@ use Rattle.flash_model.specs.declared.geometry.Geometry.{Geometry}
 use Rattle.flash_model.specs.Device.{Device}
 use Rattle.flash_model.specs.Geometry.{IsGeometry, block_bytes}
 use Rattle.node_format.specs.Headers.{body_header}
-use Rattle.node_cache.specs.Cache.{NodeCache}
+use Rattle.node_store.specs.NodeCache.{NodeCache}
 use Rattle.node_store.specs.Caching.{IsTruthful}
 use Rattle.node_store.specs.FittingLaws.{still_fits}
 use Rattle.record_format.specs.declared.formats.TheConstants.{FORMAT}

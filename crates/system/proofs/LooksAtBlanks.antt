@@ -17,7 +17,7 @@ use Rattle.flash_model.specs.Blocks.{block_of-at, block_of-same}
 use Rattle.flash_model.specs.Device.{Device, block_of, erased}
 use Rattle.flash_model.specs.Geometry.{IsGeometry}
 use Rattle.flash_model.specs.Reading.{OnlyReads}
-use Rattle.node_cache.specs.Cache.{NodeCache, node_in, without, IsBounded}
+use Rattle.node_store.specs.NodeCache.{NodeCache, node_in, without, IsBounded}
 use Rattle.node_store.specs.Caching.{IsTruthful}
 use Rattle.node_store.specs.CachingLaws.{read_truthful}
 use Rattle.node_store.specs.FittingLaws.{still_itself, still_on, still_fits}

@@ -12,7 +12,7 @@ use Rattle.flash_model.specs.Device.{Device, block_of}
 use Rattle.flash_model.specs.Geometry.{IsGeometry}
 use Rattle.block_ring.specs.BlockSet.{BlockSet}
 use Rattle.block_ring.specs.Ring.{IsDataBlock, Ring}
-use Rattle.node_cache.specs.Cache.{NodeCache, without, IsBounded}
+use Rattle.node_store.specs.NodeCache.{NodeCache, without, IsBounded}
 use Rattle.node_store.specs.Caching.{IsTruthful}
 use Rattle.node_store.specs.FittingLaws.{still_itself, still_on, still_fits}
 use Rattle.node_store.specs.NodeLaws.{node_of-same}

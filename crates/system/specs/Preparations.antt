@@ -5,7 +5,7 @@ use Rattle.fs_types.specs.declared.fault.Fault.{Fault}
 use Rattle.flash_model.specs.Device.{Device}
 use Rattle.block_ring.specs.BlockSet.{BlockSet}
 use Rattle.block_ring.specs.Ring.{ring_order}
-use Rattle.node_cache.specs.Cache.{without}
+use Rattle.node_store.specs.NodeCache.{without}
 use Rattle.node_store.specs.declared.storage.Storage.{Storage}
 use Rattle.system.specs.declared.preparations.TheConstants.{BLOCKS_AHEAD}
 use Rattle.system.specs.CleaningRounds.{CleanCause, ErasesBlock, ErasesFree, IsBlank, is_free}

@@ -3,7 +3,7 @@ ghost use Rattle.std.specs.Prelude.{◌≡◌, ◌≢◌, ◌↔◌, ◌⊎◌, 
 ghost use Rattle.fs_types.specs.declared.limits.TheConstants.{MOUNTED_NODES};
 ghost use Rattle.fs_types.specs.declared.fault.Fault.{Fault};
 ghost use Rattle.flash_model.specs.Reading.{OnlyReads};
-ghost use Rattle.node_cache.specs.declared.cache.TheConstants.{MAX_CACHED_NODES};
+ghost use Rattle.node_store.specs.declared.node_cache.TheConstants.{MAX_CACHED_NODES};
 ghost use Rattle.system.specs.Mounts.{AsksToMount, AsksUntilRefused};
 ghost use Rattle.system.specs.Mounts.{IsMountOf, MountCause};
 ghost use Rattle.system.specs.Systems.{IsSystem};
@@ -14,7 +14,7 @@ use anchors::Anchors;
 use flash_model::Flash;
 use fs_types::{Fault, MOUNTED_NODES};
 use mounting::load;
-use node_cache::NodeCache;
+use node_store::NodeCache;
 use std::alloc::Global;
 use working_state::KnownBodies;
 

@@ -36,7 +36,7 @@ pub struct Fs<'f, F: Flash> {
 impl<'f, F: Flash> Fs<'f, F> {
     ghost use Rattle.std.specs.Prelude.{ℕ, ◌<◌, ◌≢◌, ◌↔◌, ◌⊎◌, true, Err, IfOk, IfErr, IsErrAnd};
     ghost use Rattle.std.specs.Option.{option_copied};
-    ghost use Rattle.node_cache.specs.declared.cache.TheConstants.{MAX_CACHED_NODES};
+    ghost use Rattle.node_store.specs.declared.node_cache.TheConstants.{MAX_CACHED_NODES};
     ghost use Rattle.fs_types.specs.Requests.{call_of};
     ghost use Rattle.fs_types.specs.declared.fault.Fault.{Fault};
     ghost use Rattle.fs_types.specs.declared.call.Call.{Call};

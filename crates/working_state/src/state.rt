@@ -21,9 +21,8 @@ use block_ring::Ring;
 use flash_model::{Flash, Geometry};
 use fs_types::{Fault, Group};
 use machine_state::{History, OpenFiles};
-use node_cache::NodeCache;
 use node_format::empty_directory;
-use node_store::{Storage, write_node};
+use node_store::{NodeCache, Storage, write_node};
 use std::alloc::Global;
 
 /// All that a mounted system keeps in memory.

@@ -2,8 +2,8 @@ use Rattle.std.proofs.Common.{◌≡◌, ◌≢◌, slice_get, Ok, Some, None, d
 use Rattle.std.specs.FinSet as set
 use Rattle.std.proofs.lemmas.Bool.{true≢false}
 use Rattle.flash_model.specs.Geometry.{block_bytes}
-use Rattle.node_cache.specs.CacheLaws.{first_shown, first_entry, taken_none, still_none, out_none}
-use Rattle.node_cache.specs.Cache.{NodeCache, node_in, with_first, first_bytes}
+use Rattle.node_store.specs.NodeCacheLaws.{first_shown, first_entry, taken_none, still_none, out_none}
+use Rattle.node_store.specs.NodeCache.{NodeCache, node_in, with_first, first_bytes}
 use Rattle.node_format.specs.Headers.{IsNode}
 use Rattle.node_store.specs.Caching.{IsTruthful}
 use Rattle.node_store.specs.CachingLaws.{written_truthful, tried_truthful}

@@ -1,7 +1,7 @@
 use Rattle.std.proofs.Common.{◌≡◌, Some, refl, sym, ap, subst, arith, ◌+◌, ◌≤◌, ◌∙◌}
 use Rattle.std.proofs.lemmas.Result.{err_from_is_err_and}
-use Rattle.node_cache.specs.Cache.{NodeCache, first_bytes}
-use Rattle.node_cache.specs.CacheLaws.{first_shown}
+use Rattle.node_store.specs.NodeCache.{NodeCache, first_bytes}
+use Rattle.node_store.specs.NodeCacheLaws.{first_shown}
 use Rattle.node_store.specs.Caching.{IsTruthful}
 use Rattle.node_store.specs.CachingLaws.{promoted, read_truthful, first_truthful}
 use Rattle.node_store.specs.FittingLaws.{still_fits}

@@ -1,5 +1,5 @@
 use Rattle.std.proofs.Common.{◌≡◌, Some, refl, sym, ◌∙◌, ap, subst}
-use Rattle.node_cache.specs.Cache.{NodeCache}
+use Rattle.node_store.specs.NodeCache.{NodeCache}
 use Rattle.node_store.specs.Caching.{IsTruthful}
 use Rattle.node_store.specs.CachingLaws.{promoted, read_truthful}
 use Rattle.node_store.specs.FittingLaws.{still_fits}

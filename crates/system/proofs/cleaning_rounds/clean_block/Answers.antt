@@ -1,5 +1,5 @@
 use Rattle.std.proofs.Common.{◌+◌, sym, subst}
-use Rattle.node_cache.specs.Cache.{NodeCache}
+use Rattle.node_store.specs.NodeCache.{NodeCache}
 use Rattle.system.specs.CleaningRounds.{LooksAt}
 use Rattle.system.proofs.LooksAtBlanks.{looks_erased, looks_read}
 use Rattle.system.proofs.cleaning_rounds.clean_block.Goals as goal

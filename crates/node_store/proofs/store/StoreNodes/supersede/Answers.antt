@@ -1,5 +1,5 @@
 use Rattle.std.proofs.Common.{refl, sym, ap, subst, arith}
-use Rattle.node_cache.specs.Cache.{NodeCache}
+use Rattle.node_store.specs.NodeCache.{NodeCache}
 use Rattle.node_store.specs.Caching.{IsTruthful}
 use Rattle.node_store.specs.CachingLaws.{without_truthful}
 use Rattle.node_store.specs.FittingLaws.{still_listed}

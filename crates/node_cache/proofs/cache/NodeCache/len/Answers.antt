@@ -1,7 +1,0 @@
-use Rattle.std.proofs.Common.{subst}
-use Rattle.node_cache.specs.Cache.{IsBounded}
-use Rattle.node_cache.proofs.Plain.{bounded_plain}
-use Rattle.node_cache.proofs.cache.NodeCache.len.Goals as goal
-
-pub returns-clause-bounded : goal.returns-clause-bounded
-returns-clause-bounded c = subst IsBounded c.self.view_is (bounded_plain c.self.inside.nodes c.len.ensures.valid)

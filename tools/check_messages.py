@@ -18,7 +18,7 @@ TOP = os.path.dirname(os.path.dirname(os.path.abspath(__file__)))
 # The files with the causes that are told after a colon.
 CAUSES = [
     "crates/host_interface/src/image_files.rt", "crates/image_jobs/src/source_fault.rt", "crates/archives/src/step.rt",
-    "crates/tar_format/src/header_fault.rt", "crates/tar_format/src/record_fault.rt", "crates/flash_image/src/image_fault.rt", "crates/part_file/src/part_file.rt",
+    "crates/tar_format/src/header_fault.rt", "crates/tar_format/src/record_fault.rt", "crates/flash_simulation/src/image_fault.rt", "crates/part_file/src/part_file.rt",
 ]
 # What no call of the program tells, and why.
 NOT_REACHED = {

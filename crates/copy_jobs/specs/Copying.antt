@@ -5,7 +5,7 @@ use Rattle.flash_model.specs.Device.{Device}
 use Rattle.flash_model.specs.Reading.{OnlyReads}
 use Rattle.flash_simulation.specs.Simulation.{device_of}
 use Rattle.flash_simulation.specs.declared.sim_flash.SimFlash.{SimFlash}
-use Rattle.flash_image.specs.Images.{image_of}
+use Rattle.flash_simulation.specs.Images.{image_of}
 use Rattle.record_format.specs.declared.record.Record.{Record}
 use Rattle.mounting.specs.Saved.{saved_on}
 use Rattle.copies.specs.Causes.{CopyCause}

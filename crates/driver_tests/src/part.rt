@@ -1,8 +1,7 @@
 //! The part that a driver has: what it carries out of the orders that were given, by its answers.
 use fields::u32_at;
-use flash_image::{decode, encode};
 use flash_model::{Flash, PageState, PageView};
-use flash_simulation::SimFlash;
+use flash_simulation::{SimFlash, decode, encode};
 use std::alloc::Global;
 use std::test::Fail;
 

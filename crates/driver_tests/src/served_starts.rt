@@ -2,7 +2,7 @@
 use crate::driver_answers::{all_done, erased_image, told};
 use crate::part::{Leaves, order_count, replay};
 use crate::sessions::{DONE, SCRIPT};
-use flash_image::ImageFault;
+use flash_simulation::ImageFault;
 use fs_types::Fault;
 use remote_flash::{LONGEST_IMAGE, StartFault, ToldFlash};
 use remote_sessions::{SessionFault, serve_script};

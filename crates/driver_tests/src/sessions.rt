@@ -2,9 +2,8 @@
 ghost use Rattle.std.specs.Prelude.{◌≡◌, [], IfSome};
 
 use crate::driver_answers::told;
-use flash_image::encode;
 use flash_model::{Flash, Geometry, PageState};
-use flash_simulation::SimFlash;
+use flash_simulation::{SimFlash, encode};
 use remote_flash::ToldFlash;
 use script_runs::run_script_on;
 use std::alloc::Global;

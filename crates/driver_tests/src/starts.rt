@@ -1,7 +1,7 @@
 //! What a driver tells at the start, whole and not.
 use crate::driver_answers::{erased_image, told};
-use flash_image::ImageFault;
 use flash_model::{Flash, Geometry};
+use flash_simulation::ImageFault;
 use remote_flash::{LONGEST_IMAGE, StartFault, ToldFlash};
 use std::alloc::Global;
 use std::test::Fail;

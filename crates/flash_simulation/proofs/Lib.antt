@@ -2,3 +2,12 @@ pub mod Filtered
 pub mod Filling
 pub mod Erasing
 pub mod Ending
+pub mod ImageParts
+pub mod ImageTexts
+pub mod ImageFilling
+pub mod ImageStops
+pub mod ImageMagic
+pub mod ImageGrowing
+pub mod ImageLengths
+pub mod ImageOnce
+pub mod ImageApart

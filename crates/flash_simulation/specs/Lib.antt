@@ -2,3 +2,5 @@ pub mod Stored
 pub mod StoredLaws
 pub mod Simulation
 pub mod WholePages
+pub mod Images
+pub mod ImageReading

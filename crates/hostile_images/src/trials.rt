@@ -3,8 +3,7 @@ use crate::facts::{Facts, may_refuse};
 use crate::tallies::{Tally, add};
 use crate::watches::Watch;
 use crate::wrong::Wrong;
-use flash_image::decode;
-use flash_simulation::SimFlash;
+use flash_simulation::{SimFlash, decode};
 use fs_types::Fault;
 use session_oracle::{
     Beginning, Causes, Oracle, has_fewer_free, serve_mounted, show, show_after_restart,

@@ -6,8 +6,8 @@ use Rattle.flash_model.specs.Geometry.{IsGeometry}
 use Rattle.flash_simulation.specs.Simulation.{device_of}
 use Rattle.flash_model.specs.declared.geometry.Geometry.{Geometry}
 use Rattle.flash_simulation.specs.declared.sim_flash.SimFlash.{SimFlash}
-use Rattle.flash_image.specs.Images.{IsFault}
-use Rattle.flash_image.specs.declared.image_fault.ImageFault.{ImageFault}
+use Rattle.flash_simulation.specs.Images.{IsFault}
+use Rattle.flash_simulation.specs.declared.image_fault.ImageFault.{ImageFault}
 use Rattle.script_runs.specs.Flashes.{IsNewFlash, IsDecoded, AreLawful, IsUnformatted}
 use Rattle.script_runs.specs.Scripts.{IsUnmounted}
 use Rattle.script_runs.specs.declared.scripts.ScriptFault.{ScriptFault}

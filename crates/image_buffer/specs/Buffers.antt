@@ -5,7 +5,7 @@ use Rattle.flash_model.specs.Geometry.{IsGeometry}
 use Rattle.flash_simulation.specs.Simulation.{device_of}
 use Rattle.flash_simulation.specs.declared.sim_flash.SimFlash.{SimFlash}
 use Rattle.flash_model.specs.declared.geometry.Geometry.{Geometry}
-use Rattle.flash_image.specs.Images.{image_of, IsFault}
+use Rattle.flash_simulation.specs.Images.{image_of, IsFault}
 use Rattle.system.specs.Mounts.{IsMountOf}
 use Rattle.system.specs.declared.systems.System.{System}
 use Rattle.script_runs.specs.Flashes.{IsNewFlash, IsDecoded, IsMade, IsUnformatted}

@@ -2,7 +2,7 @@
 use Rattle.std.specs.Prelude.{ℕ}
 use Rattle.fs_types.specs.Faults as faults
 use Rattle.fs_types.specs.declared.fault.Fault.{Fault}
-use Rattle.flash_image.specs.declared.image_fault.ImageFault.{ImageFault}
+use Rattle.flash_simulation.specs.declared.image_fault.ImageFault.{ImageFault}
 use Rattle.script_runs.specs.declared.scripts.ScriptFault.{ScriptFault}
 use Rattle.image_buffer.specs.declared.buffer_fault.BufferFault.{BufferFault}
 

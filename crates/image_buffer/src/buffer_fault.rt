@@ -2,7 +2,7 @@
 ghost use Rattle.std.specs.Prelude.{◌≡◌};
 ghost use Rattle.image_buffer.specs.Faults.{image_number_of};
 
-use flash_image::ImageFault;
+use flash_simulation::ImageFault;
 use fs_types::Fault;
 use script_runs::ScriptFault;
 use std::error::Error;

@@ -2,16 +2,15 @@
 ghost use Rattle.std.specs.Prelude.{◌≡◌, Ok, IfOk, IfErr};
 ghost use Rattle.flash_simulation.specs.Simulation.{device_of};
 ghost use Rattle.flash_simulation.specs.declared.sim_flash.SimFlash.{SimFlash};
-ghost use Rattle.flash_image.specs.Images.{image_of};
+ghost use Rattle.flash_simulation.specs.Images.{image_of};
 ghost use Rattle.script_runs.specs.Flashes.{IsDecoded, IsMade};
 ghost use Rattle.image_buffer.specs.Buffers.{BufferFormatEnds, BufferCheckEnds, BufferRunEnds, MakeRefusal, DecodeRefusal, PlayRefusal, IsPlayed, buffers};
 ghost use Rattle.image_buffer.specs.declared.buffer_fault.BufferFault.{BufferFault};
 
 use crate::buffer_fault::BufferFault;
 use crate::front::put_front;
-use flash_image::{decode, encode};
 use flash_model::Geometry;
-use flash_simulation::SimFlash;
+use flash_simulation::{SimFlash, decode, encode};
 use script_runs::{format_as_planned, mount_as_planned, run_script};
 use std::alloc::Global;
 

@@ -9,7 +9,7 @@ use Rattle.flash_model.specs.Reading.{OnlyReads}
 use Rattle.flash_simulation.specs.Simulation.{device_of}
 use Rattle.flash_simulation.specs.declared.sim_flash.SimFlash.{SimFlash}
 use Rattle.flash_model.specs.declared.geometry.Geometry.{Geometry}
-use Rattle.flash_image.specs.Images.{image_of, IsFault}
+use Rattle.flash_simulation.specs.Images.{image_of, IsFault}
 use Rattle.system.specs.Mounts.{IsMountOf}
 use Rattle.system.specs.declared.systems.System.{System}
 use Rattle.image_jobs.specs.Failures.{of_system}

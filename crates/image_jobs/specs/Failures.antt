@@ -1,7 +1,7 @@
 -- Why a job did not run to its end, by what ended it, and the status of the program.
 use Rattle.std.specs.Prelude.{ℕ, Result, Ok, Err}
 use Rattle.fs_types.specs.declared.fault.Fault.{Fault}
-use Rattle.flash_image.specs.declared.image_fault.ImageFault.{ImageFault}
+use Rattle.flash_simulation.specs.declared.image_fault.ImageFault.{ImageFault}
 use Rattle.script_runs.specs.declared.scripts.ScriptFault.{ScriptFault}
 use Rattle.part_file.specs.declared.part_file.PartFault.{PartFault}
 use Rattle.image_jobs.specs.declared.failure.Failure.{Failure}

@@ -7,7 +7,7 @@ use Rattle.flash_model.specs.Plan.{plan_of_entries}
 use Rattle.flash_simulation.specs.Simulation.{device_of, plan_of}
 use Rattle.flash_simulation.specs.declared.sim_flash.SimFlash.{SimFlash}
 use Rattle.flash_model.specs.declared.geometry.Geometry.{Geometry}
-use Rattle.flash_image.specs.Images.{image_of, IsFault, IsFresh}
+use Rattle.flash_simulation.specs.Images.{image_of, IsFault, IsFresh}
 use Rattle.system.specs.Mounts.{IsMountOf}
 use Rattle.system.specs.declared.systems.System.{System}
 use Rattle.image_jobs.specs.Failures.{of_script, of_system}

@@ -1,6 +1,6 @@
 //! Why a job of the program did not run to its end, with its status.
 use crate::source_fault::SourceFault;
-use flash_image::ImageFault;
+use flash_simulation::ImageFault;
 use fs_types::Fault;
 use host_interface::UnreadCause;
 use part_file::PartFault;

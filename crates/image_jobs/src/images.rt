@@ -2,7 +2,7 @@
 ghost use Rattle.std.specs.Prelude.{◌≡◌, ℕ, IfOk, OnOk, IfErr, IfSome, take, codes};
 ghost use Rattle.std.specs.Io.KnownBytes.{Appends};
 ghost use Rattle.flash_simulation.specs.Simulation.{device_of};
-ghost use Rattle.flash_image.specs.Images.{image_of};
+ghost use Rattle.flash_simulation.specs.Images.{image_of};
 ghost use Rattle.host_interface.specs.Files.{KeepsOthers, KeepsOrSyncs, AreBytesRead, ReadsClaimed};
 ghost use Rattle.script_runs.specs.Flashes.{IsDecoded, IsMade};
 ghost use Rattle.image_jobs.specs.Images.{DecodeCause, IsUnclaimed, IsUnread, IsSpelledFlash, LoadCause, FaultRead, IsImageFile, Unsaved, SavesChange, ChangeUnsaved, FormatEnds, FormatFailure, PlaysBy, host_at, RunEnds, CheckEnds, LookEnds};
@@ -10,9 +10,8 @@ ghost use Rattle.script_runs.specs.Scripts.{streams_at};
 
 use crate::failure::Failure;
 use crate::image_bytes::{claim, read_image, take_image, write_image};
-use flash_image::{decode, encode};
 use flash_model::Geometry;
-use flash_simulation::SimFlash;
+use flash_simulation::{SimFlash, decode, encode};
 use host_interface::ImageFiles;
 use script::write_out;
 use script_runs::{format_as_planned, mount_as_planned, run_script_until};

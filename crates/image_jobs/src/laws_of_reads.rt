@@ -2,7 +2,7 @@
 ghost use Rattle.std.specs.Prelude.{◌≡◌};
 ghost use Rattle.flash_model.specs.Device.{Device};
 ghost use Rattle.flash_model.specs.Reading.{OnlyReads};
-ghost use Rattle.flash_image.specs.Images.{image_of};
+ghost use Rattle.flash_simulation.specs.Images.{image_of};
 
 /// Reads alone leave the image of a flash as it was: so a script that programs and erases nothing
 /// changes no file.

@@ -1,6 +1,6 @@
 //! What is done with the file of an image: it is made, run, mounted, looked at and written, and why not.
 //!
-//! The file is claimed, read and replaced by an `ImageFiles`, and its bytes are those of `flash_image`.
+//! The file is claimed, read and replaced by an `ImageFiles`, and its bytes are those of `flash_simulation`.
 #![tactic(auto)]
 
 mod failure;

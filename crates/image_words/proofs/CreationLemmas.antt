@@ -2,7 +2,7 @@
 use Rattle.std.proofs.Common.{◌≡◌, ◌⊎◌, ℕ, Bool, true, false, Option, Result, Ok, Err, IfSome, IfErr, OnOk, List, [], map, inl, inr, refl, ◌∙◌, sym, subst}
 use Rattle.flash_simulation.specs.Simulation.{device_of}
 use Rattle.flash_simulation.specs.declared.sim_flash.SimFlash.{SimFlash}
-use Rattle.flash_image.specs.Images.{image_of}
+use Rattle.flash_simulation.specs.Images.{image_of}
 use Rattle.fs_types.specs.Names.{Path}
 use Rattle.host_interface.specs.Files.{Held, readings_of}
 use Rattle.host_interface.specs.Sources.{Found, source_found}

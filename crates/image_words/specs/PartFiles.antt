@@ -4,7 +4,7 @@ use Rattle.flash_model.specs.Device.{Device}
 use Rattle.flash_simulation.specs.Simulation.{device_of}
 use Rattle.flash_model.specs.declared.geometry.Geometry.{Geometry}
 use Rattle.flash_simulation.specs.declared.sim_flash.SimFlash.{SimFlash}
-use Rattle.flash_image.specs.Images.{image_of}
+use Rattle.flash_simulation.specs.Images.{image_of}
 use Rattle.host_interface.specs.Files.{Held, takes_away}
 use Rattle.script_runs.specs.Flashes.{IsMade}
 use Rattle.image_jobs.specs.Images.{FormatFailure, IsSpelledFlash, IsUnclaimed, LoadCause, Unsaved}

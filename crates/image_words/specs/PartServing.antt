@@ -1,7 +1,7 @@
 -- Scripts on a part in place in a flat file: how the program's job ends.
 use Rattle.std.specs.Prelude.{◌≡◌, ◌⊎◌, ℕ, Option, Some, Result, Ok, Err, IfSome, List}
 use Rattle.flash_model.specs.Device.{Device}
-use Rattle.flash_image.specs.Images.{IsFresh}
+use Rattle.flash_simulation.specs.Images.{IsFresh}
 use Rattle.script_runs.specs.Scripts.{Streams}
 use Rattle.part_file.specs.Pages.{IsPart}
 use Rattle.part_file.specs.Reading.{IsPartFault}

@@ -4,7 +4,7 @@ use Rattle.fs_types.specs.declared.fault.Fault.{Fault}
 use Rattle.flash_model.specs.Device.{Device}
 use Rattle.flash_simulation.specs.Simulation.{device_of}
 use Rattle.flash_simulation.specs.declared.sim_flash.SimFlash.{SimFlash}
-use Rattle.flash_image.specs.Images.{image_of}
+use Rattle.flash_simulation.specs.Images.{image_of}
 use Rattle.host_interface.specs.Files.{Held, takes_away}
 use Rattle.host_interface.specs.declared.image_files.TheConstants.{MOST_BYTES}
 use Rattle.image_jobs.specs.Images.{IsSpelledFlash, IsUnclaimed, LoadCause, Unsaved}

@@ -1,8 +1,7 @@
 //! Mounts that are refused leave the flash as it was.
 use crate::flashes::{SIZES, Worked, formatted};
-use flash_image::encode;
 use flash_model::{FaultKind, Flash, Planned};
-use flash_simulation::SimFlash;
+use flash_simulation::{SimFlash, encode};
 use fs_types::Fault;
 use std::alloc::Global;
 use std::test::Fail;

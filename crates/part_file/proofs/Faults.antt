@@ -6,7 +6,7 @@ use Rattle.flash_model.specs.Geometry.{IsGeometry, page_count}
 use Rattle.flash_model.specs.Device.{Device}
 use Rattle.flash_simulation.specs.Simulation.{device_of}
 use Rattle.flash_simulation.specs.declared.sim_flash.SimFlash.{SimFlash}
-use Rattle.flash_image.specs.Images.{IsFresh}
+use Rattle.flash_simulation.specs.Images.{IsFresh}
 use Rattle.part_file.specs.Layout.{IsHead, sizes_in}
 use Rattle.part_file.specs.Pages.{HasPages, IsHeadFault, IsUnreadPart}
 use Rattle.part_file.specs.declared.part_file.PartFault.{PartFault}

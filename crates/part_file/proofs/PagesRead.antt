@@ -9,7 +9,7 @@ use Rattle.flash_model.specs.Contents.{IsWhole, PutsPage, page_of}
 use Rattle.flash_model.specs.Device.{Device, Page}
 use Rattle.flash_model.specs.Geometry.{page_count}
 use Rattle.flash_simulation.specs.Simulation.{IsNew}
-use Rattle.flash_image.specs.Images.{IsFresh}
+use Rattle.flash_simulation.specs.Images.{IsFresh}
 use Rattle.part_file.specs.Layout.{data_place}
 use Rattle.part_file.specs.Pages.{HasPage, HasPages}
 use Rattle.part_file.proofs.Placing.{page-end}

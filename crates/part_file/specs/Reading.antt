@@ -2,7 +2,7 @@
 use Rattle.std.specs.Prelude.{◌≡◌, ◌≢◌, ◌<◌, ℕ, false, Option, IfSome, List, take, codes}
 use Rattle.flash_model.specs.Geometry.{IsGeometry, page_count}
 use Rattle.flash_model.specs.Device.{Device}
-use Rattle.flash_image.specs.Images.{IsFresh}
+use Rattle.flash_simulation.specs.Images.{IsFresh}
 use Rattle.part_file.specs.Layout.{sizes_in}
 use Rattle.part_file.specs.Pages.{IsPart}
 use Rattle.part_file.specs.declared.part_file.PartFault.{PartFault}

@@ -1,7 +1,7 @@
 //! The law of the round trip. The function does nothing: its contract is the law.
 ghost use Rattle.std.specs.Prelude.{◌≡◌, ℕ, List, Some};
 ghost use Rattle.flash_model.specs.Device.{Device};
-ghost use Rattle.flash_image.specs.Images.{image_of};
+ghost use Rattle.flash_simulation.specs.Images.{image_of};
 ghost use Rattle.part_file.specs.Pages.{IsPart};
 ghost use Rattle.part_file.specs.Reading.{IsPartFlash, without_wear};
 

@@ -1,6 +1,6 @@
 //! What a part holds.
 ghost use Rattle.std.specs.Prelude.{◌≡◌, ◌≢◌, ◌+◌, ◌⊎◌, ℕ, ◌<◌, ◌≤◌, codes, Err, IfOk, IfErr, OnOk, IfSome, false, length, take};
-ghost use Rattle.flash_image.specs.Images.{IsFresh};
+ghost use Rattle.flash_simulation.specs.Images.{IsFresh};
 ghost use Rattle.flash_model.specs.Geometry.{IsGeometry, page_count};
 ghost use Rattle.flash_simulation.specs.Simulation.{device_of};
 ghost use Rattle.flash_model.specs.Contents.{shown_page, page_of};

@@ -51,7 +51,7 @@ impl<B: Backing> PartFlash<B> {
 
 impl<B: Backing> PartFlash<B> {
     ghost use Rattle.std.specs.Prelude.{◌≡◌, ℕ, IfOk, IfErr, IfSome, false};
-    ghost use Rattle.flash_image.specs.Images.{IsFresh};
+    ghost use Rattle.flash_simulation.specs.Images.{IsFresh};
     ghost use Rattle.part_file.specs.Flashes.{part_device, driver_of, backing_behind};
     ghost use Rattle.part_file.specs.Pages.{IsPart};
     ghost use Rattle.part_file.specs.Parts.{is_lost};

@@ -10,7 +10,7 @@ use Rattle.fs_types.specs.declared.event.Event.{Event}
 use Rattle.flash_model.specs.Reading.{OnlyReads}
 use Rattle.flash_simulation.specs.Simulation.{device_of}
 use Rattle.flash_simulation.specs.declared.sim_flash.SimFlash.{SimFlash}
-use Rattle.flash_image.specs.Images.{image_of}
+use Rattle.flash_simulation.specs.Images.{image_of}
 use Rattle.system.specs.Mounts.{IsMountOf}
 use Rattle.system.specs.Systems.{IsSystem}
 use Rattle.system.specs.declared.systems.System.{System}

@@ -7,7 +7,7 @@ use Rattle.flash_simulation.specs.Simulation.{device_of}
 use Rattle.flash_simulation.specs.declared.sim_flash.SimFlash.{SimFlash}
 use Rattle.host_interface.specs.Files.{Held, Readings, AreBytesRead}
 use Rattle.host_interface.specs.Sources.{Found}
-use Rattle.flash_image.specs.Images.{image_of}
+use Rattle.flash_simulation.specs.Images.{image_of}
 use Rattle.image_jobs.specs.Failures.{of_refusal}
 use Rattle.image_jobs.specs.Images.{DecodeCause, IsUnclaimed, IsUnread, SavesChange, ChangeUnsaved}
 use Rattle.image_jobs.specs.declared.failure.Failure.{Failure}

@@ -3,7 +3,7 @@ use Rattle.std.specs.Prelude.{◌≡◌, ◌⊎◌, ℕ, Bool, false, Option, Re
 use Rattle.fs_types.specs.Names.{Path}
 use Rattle.flash_simulation.specs.Simulation.{device_of}
 use Rattle.flash_simulation.specs.declared.sim_flash.SimFlash.{SimFlash}
-use Rattle.flash_image.specs.Images.{image_of}
+use Rattle.flash_simulation.specs.Images.{image_of}
 use Rattle.image_jobs.specs.Images.{IsSpelledFlash, LoadCause, IsUnclaimed, SavesChange, ChangeUnsaved}
 use Rattle.host_interface.specs.Files.{Held, readings_of}
 use Rattle.put_jobs.specs.Mirrors.{wants_folder, kept_asked, PutsOver, OverCause}

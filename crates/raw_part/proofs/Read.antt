@@ -7,7 +7,7 @@ use Rattle.flash_model.specs.Contents.{PutsPage}
 use Rattle.flash_model.specs.Device.{Device, Page}
 use Rattle.flash_model.specs.Geometry.{IsGeometry, page_count}
 use Rattle.flash_simulation.specs.Simulation.{IsNew}
-use Rattle.flash_image.specs.Images.{IsFresh}
+use Rattle.flash_simulation.specs.Images.{IsFresh}
 use Rattle.raw_part.specs.Layouts.{page_in, pages_of, part_block, sizes_of}
 use Rattle.raw_part.specs.Raws.{held_in, IsRawFlash}
 use Rattle.raw_part.specs.declared.part_layout.PartLayout.{PartLayout}

@@ -3,8 +3,8 @@ use Rattle.std.proofs.Common.{◌≡◌, ◌∙◌, ℕ, ◌*◌, ◌/◌, ◌<�
 use Rattle.flash_model.specs.declared.geometry.Geometry.{Geometry}
 use Rattle.flash_model.specs.Geometry.{page_count}
 use Rattle.flash_model.specs.Device.{Device, Page}
-use Rattle.flash_image.specs.Images.{header, parts, block_text, image_of}
-use Rattle.flash_image.proofs.Filling.{blocks-same}
+use Rattle.flash_simulation.specs.Images.{header, parts, block_text, image_of}
+use Rattle.flash_simulation.proofs.ImageFilling.{blocks-same}
 use Rattle.nor_part.specs.Flashes as sure_flashes
 use Rattle.nor_part.specs.Layout as sure
 use Rattle.dense_nor.specs.Flashes as dense_flashes

@@ -8,8 +8,8 @@ use Rattle.flash_model.specs.declared.geometry.Geometry.{Geometry}
 use Rattle.flash_model.specs.Contents.{IsWhole}
 use Rattle.flash_model.specs.Device.{Device, Page, erased, bytes_of, unreadable}
 use Rattle.flash_model.specs.Geometry.{IsGeometry, page_count}
-use Rattle.flash_image.specs.Images.{parts}
-use Rattle.flash_image.proofs.Parts.{parts-split}
+use Rattle.flash_simulation.specs.Images.{parts}
+use Rattle.flash_simulation.proofs.ImageParts.{parts-split}
 use Rattle.nor_part.specs.Layout as sure
 use Rattle.dense_nor.specs.Layout.{data_pages, data_at, mark_at, place_of}
 use Rattle.dense_nor.specs.Marks as dense

@@ -2,7 +2,7 @@
 use Rattle.std.specs.Prelude.{◌≡◌, ℕ, ◌+◌, ◌-◌, ◌*◌, ◌/◌, ◌%◌, ◌<◌, false, List, ◌∷◌, length, take, drop, replicate, nat_lt, if◌then◌else◌}
 use Rattle.flash_model.specs.Device.{Device, Page, erased, bytes_of, unreadable}
 use Rattle.flash_model.specs.Geometry.{IsGeometry, page_count}
-use Rattle.flash_image.specs.Images.{IsFresh, parts}
+use Rattle.flash_simulation.specs.Images.{IsFresh, parts}
 use Rattle.dense_nor.specs.Layout.{data_pages}
 use Rattle.dense_nor.specs.Marks as dense
 use Rattle.raw_part.specs.declared.part_layout.PartLayout.{PartLayout}

@@ -2,7 +2,7 @@
 ghost use Rattle.std.specs.Prelude.{◌≡◌, ℕ, ◌*◌, ◌<◌, List};
 ghost use Rattle.flash_model.specs.Device.{Device};
 ghost use Rattle.flash_model.specs.Geometry.{page_count};
-ghost use Rattle.flash_image.specs.Images.{image_of};
+ghost use Rattle.flash_simulation.specs.Images.{image_of};
 ghost use Rattle.nor_part.specs.Flashes as sure;
 ghost use Rattle.dense_nor.specs.Flashes as dense;
 ghost use Rattle.dense_nor.specs.declared.dense_layout.DenseLayout.{DenseLayout};

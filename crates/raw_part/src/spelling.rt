@@ -1,6 +1,6 @@
 //! The bytes of the part on which a flash stands.
 ghost use Rattle.std.specs.Prelude.{◌≡◌, ◌⊎◌, ◌↔◌, ◌+◌, ◌*◌, ◌<◌, ◌++◌, Err, IfOk, IfErr, OnOk};
-ghost use Rattle.flash_image.specs.Images.{parts};
+ghost use Rattle.flash_simulation.specs.Images.{parts};
 ghost use Rattle.flash_simulation.specs.Simulation.{device_of};
 ghost use Rattle.flash_model.specs.Contents.{shown_page};
 ghost use Rattle.dense_nor.specs.Layout.{data_pages};

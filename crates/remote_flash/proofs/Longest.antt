@@ -8,8 +8,8 @@ use Rattle.flash_model.specs.Geometry.{IsGeometry}
 use Rattle.flash_model.specs.Device.{Device, Page, erased, bytes_of, unreadable}
 use Rattle.flash_model.specs.Contents.{IsWhole}
 use Rattle.flash_model.specs.Blocks.{page-below, page_count-most}
-use Rattle.flash_image.specs.Images.{parts, page_text, worn_text, place_text, block_text, image_of, header, HasImage}
-use Rattle.flash_image.proofs.Texts.{length-header}
+use Rattle.flash_simulation.specs.Images.{parts, page_text, worn_text, place_text, block_text, image_of, header, HasImage}
+use Rattle.flash_simulation.proofs.ImageTexts.{length-header}
 
 page-most : (size : ℕ) (page : Page) → IsWhole size page → length (page_text page) ≤ 1 + size
 page-most size erased whole = omega arith

@@ -1,9 +1,9 @@
 -- What a driver tells at the start, and what is wrong with it.
 use Rattle.std.specs.Prelude.{◌≡◌, ◌⊎◌, ℕ, ◌<◌, List, ◌++◌, length, ⊤}
 use Rattle.byteorder.specs.Endian.{little_bytes}
-use Rattle.flash_image.specs.declared.image_fault.ImageFault.{ImageFault}
-use Rattle.flash_image.specs.declared.image_fault.ImageFault.TheVariants.{Trailing, Memory}
-use Rattle.flash_image.specs.Images.{IsFault}
+use Rattle.flash_simulation.specs.declared.image_fault.ImageFault.{ImageFault}
+use Rattle.flash_simulation.specs.declared.image_fault.ImageFault.TheVariants.{Trailing, Memory}
+use Rattle.flash_simulation.specs.Images.{IsFault}
 use Rattle.remote_flash.specs.declared.start.StartFault.{StartFault}
 use Rattle.remote_flash.specs.declared.start.StartFault.TheVariants.{Read, Image}
 

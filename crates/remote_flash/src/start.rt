@@ -4,13 +4,12 @@ ghost use Rattle.std.specs.Io.KnownBytes.{Consumes};
 ghost use Rattle.byteorder.specs.Endian.{little_bytes};
 ghost use Rattle.flash_model.specs.Device.{Device};
 ghost use Rattle.flash_simulation.specs.Simulation.{device_of};
-ghost use Rattle.flash_image.specs.Images.{image_of, HasImage, HoldsTheSame, IsFresh};
+ghost use Rattle.flash_simulation.specs.Images.{image_of, HasImage, HoldsTheSame, IsFresh};
 ghost use Rattle.remote_flash.specs.Starts.{start_text, IsStartFault};
 
 use crate::told_flash::ToldFlash;
 use fields::u64_at;
-use flash_image::{ImageFault, decode};
-use flash_simulation::SimFlash;
+use flash_simulation::{ImageFault, SimFlash, decode};
 use std::alloc::Global;
 use std::io;
 use std::io::{Read, Write};
@@ -45,11 +44,11 @@ impl<R: Read + Drop, W: Write + Drop> ToldFlash<R, W> {
     ghost use Rattle.std.specs.Prelude.{◌≡◌, ◌⊎◌, ℕ, List, [], ◌++◌, Some, IfSome, IfOk, IfErr, MatchResult, false};
     ghost use Rattle.std.specs.Io.KnownBytes.{Consumes};
     ghost use Rattle.flash_model.specs.Device.{Device};
-    ghost use Rattle.flash_image.specs.Images.{image_of, HasImage, HoldsTheSame, IsFresh};
+    ghost use Rattle.flash_simulation.specs.Images.{image_of, HasImage, HoldsTheSame, IsFresh};
     ghost use Rattle.remote_flash.specs.Drivers.{driver_answers, driver_orders, driver_lost};
     ghost use Rattle.remote_flash.specs.Flashes.{told_device, driver_of};
     ghost use Rattle.remote_flash.specs.Starts.{start_text, IsStartFault};
-    ghost use Rattle.flash_image.specs.declared.image_fault.ImageFault.TheVariants.{Memory};
+    ghost use Rattle.flash_simulation.specs.declared.image_fault.ImageFault.TheVariants.{Memory};
 
     /// The flash of a driver that tells at the start what its part holds: the length of an image in eight
     /// bytes, the lowest first, and the image. Power is on, and nothing is ordered yet: the stream of the

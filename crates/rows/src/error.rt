@@ -1,5 +1,5 @@
 //! Why a row could not be run.
-use flash_image::ImageFault;
+use flash_simulation::ImageFault;
 use fs_types::Fault;
 use hex::FromHexError;
 use host_interface::FileFault;

@@ -8,7 +8,7 @@ use Rattle.flash_model.specs.Plan.{plan_of_entries}
 use Rattle.flash_simulation.specs.Simulation.{device_of, plan_of, IsNew}
 use Rattle.flash_simulation.specs.declared.sim_flash.SimFlash.{SimFlash}
 use Rattle.flash_model.specs.declared.geometry.Geometry.{Geometry}
-use Rattle.flash_image.specs.Images.{image_of, IsFresh}
+use Rattle.flash_simulation.specs.Images.{image_of, IsFresh}
 use Rattle.mounting.specs.Formats.{IsFormatted, ListsFailed, IsNumbered, FormatCause}
 use Rattle.script_runs.specs.Plans.{FollowsPlan, IsCalm}
 

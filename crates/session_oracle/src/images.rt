@@ -1,7 +1,6 @@
 //! Images of the flashes that scripts begin on.
 use crate::scripts::Script;
-use flash_image::{decode, encode};
-use flash_simulation::SimFlash;
+use flash_simulation::{SimFlash, decode, encode};
 use fs_types::Fault;
 use std::alloc::Global;
 use undofs::format;

@@ -14,7 +14,7 @@ use Rattle.command_line.specs.declared.tasks.Task.{Task}
 use Rattle.inquiries.specs.declared.inquiry.Inquiry.{Inquiry}
 use Rattle.shell.specs.Explained.{ExplainEnds, HelpEnds, PrintEnds, version_line}
 use Rattle.inquiry_jobs.specs.Asking.{file_spelled, tree_spelled, list_spelled, place_spelled, path_history_spelled, differences_spelled}
-use Rattle.flash_image.specs.Images.{image_of, IsFresh}
+use Rattle.flash_simulation.specs.Images.{image_of, IsFresh}
 use Rattle.flash_model.specs.Device.{Device}
 use Rattle.image_jobs.specs.Failures.{of_image, of_script, job_status, status_of}
 use Rattle.image_jobs.specs.Images.{FormatEnds, Host, streams_of, RunEnds, CheckEnds}

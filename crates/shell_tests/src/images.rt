@@ -1,7 +1,6 @@
 //! Images that begin an image or hold what is worn and unreadable, and the names of what is wrong.
-use flash_image::{ImageFault, decode, encode};
 use flash_model::{Flash, PageView};
-use flash_simulation::SimFlash;
+use flash_simulation::{ImageFault, SimFlash, decode, encode};
 use program_calls::{erased_image, fresh_image};
 use std::alloc::{AllocError, Global};
 use std::process::Abort;

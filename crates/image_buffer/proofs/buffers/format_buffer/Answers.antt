@@ -1,6 +1,6 @@
 use Rattle.std.proofs.Common.{◌≡◌, ◌<◌, ◌∙◌, List, ℕ, length, refl, subst, rules}
 use Rattle.flash_simulation.specs.Simulation.{device_of}
-use Rattle.flash_image.specs.Images.{image_of}
+use Rattle.flash_simulation.specs.Images.{image_of}
 use Rattle.image_buffer.specs.Buffers.{HoldsAtFront}
 use Rattle.image_buffer.proofs.buffers.format_buffer.Goals as goal
 

@@ -1,5 +1,5 @@
 use Rattle.std.proofs.Common.{◌∙◌, ◌++◌, ℕ, List, sym, ap}
-use Rattle.flash_image.proofs.Parts.{parts-none, parts-more}
+use Rattle.flash_simulation.proofs.ImageParts.{parts-none, parts-more}
 use Rattle.flash_simulation.specs.Simulation.{device_of}
 use Rattle.raw_part.specs.Raws.{part_page}
 use Rattle.raw_part.proofs.spelling.part_bytes.Goals as goal

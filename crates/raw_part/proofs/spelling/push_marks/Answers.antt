@@ -1,7 +1,7 @@
 use Rattle.std.proofs.Common.{◌≡◌, ◌∙◌, ◌++◌, ◌+◌, ◌*◌, ℕ, List, sym, ap, append_assoc, arith}
 use Rattle.std.proofs.lemmas.List.{append-nil}
-use Rattle.flash_image.specs.Images.{parts}
-use Rattle.flash_image.proofs.Parts.{parts-none, parts-more}
+use Rattle.flash_simulation.specs.Images.{parts}
+use Rattle.flash_simulation.proofs.ImageParts.{parts-none, parts-more}
 use Rattle.flash_simulation.specs.Simulation.{device_of}
 use Rattle.dense_nor.specs.Layout.{data_pages}
 use Rattle.raw_part.specs.Raws.{place_text}

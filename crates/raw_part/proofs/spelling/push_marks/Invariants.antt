@@ -1,5 +1,5 @@
 use Rattle.std.proofs.Common.{◌≡◌, ◌++◌, ◌+◌, ◌*◌}
-use Rattle.flash_image.specs.Images.{parts}
+use Rattle.flash_simulation.specs.Images.{parts}
 use Rattle.flash_simulation.specs.Simulation.{device_of}
 use Rattle.dense_nor.specs.Layout.{data_pages}
 use Rattle.raw_part.specs.Raws.{place_text}

@@ -1,5 +1,5 @@
 use Rattle.std.proofs.Common.{inr, ap, sym, ◌∙◌, arith}
-use Rattle.flash_image.specs.Images.{image_of}
+use Rattle.flash_simulation.specs.Images.{image_of}
 use Rattle.remote_flash.proofs.Longest.{length-image}
 use Rattle.remote_flash.proofs.Starting.{length_told, image_told}
 use Rattle.remote_flash.specs.declared.start.StartFault.TheVariants.{Image}

@@ -1,5 +1,5 @@
 use Rattle.std.proofs.Common.{sym, subst}
-use Rattle.flash_image.specs.Images.{HoldsTheSame}
+use Rattle.flash_simulation.specs.Images.{HoldsTheSame}
 use Rattle.remote_flash.proofs.told_flash.ToldFlash.start.Goals as goal
 
 pub returns-clause-read : goal.returns-clause-read

@@ -3,3 +3,5 @@ pub mod Bits
 pub mod Ring
 pub mod RingLaws
 pub mod FreeCount
+pub mod SparseWords
+pub mod SparseBytes

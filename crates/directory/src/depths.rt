@@ -10,8 +10,7 @@ ghost use Rattle.nodes.specs.Faults.{IsLookFault};
 ghost use Rattle.nodes.specs.Words.{LooksWithin};
 ghost use Rattle.fs_types.specs.declared.limits.TheConstants.{MAX_NAMES};
 
-use block_ring::BlockSet;
-use block_words::SparseWords;
+use block_ring::{BlockSet, SparseWords};
 use fs_types::Fault;
 use node_format::{Entries, EntryList, Place};
 use nodes::{Nodes, brings};

@@ -2,7 +2,7 @@
 ghost use Rattle.std.specs.Prelude.{◌≡◌, ◌≢◌, ℕ, ◌+◌, ◌≤◌, ◌<◌, true, Some, None, OnOk, IfErr, Contains, length};
 ghost use Rattle.reclaim.specs.Levels as spec;
 
-use block_words::SparseBytes;
+use block_ring::SparseBytes;
 use fs_types::{Fault, MAX_NAMES};
 use std::alloc::Global;
 

@@ -5,8 +5,7 @@ ghost use Rattle.node_format.specs.declared.headers.TheConstants.{SLOTS};
 ghost use Rattle.reclaim.specs.Tops as spec;
 
 use crate::slots::has_pointer;
-use block_ring::BlockSet;
-use block_words::SparseWords;
+use block_ring::{BlockSet, SparseWords};
 use fs_types::Fault;
 use node_format::SLOTS;
 use std::alloc::Global;

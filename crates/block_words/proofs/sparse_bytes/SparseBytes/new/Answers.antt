@@ -1,6 +1,0 @@
-use Rattle.block_words.proofs.Bytes.{zero_byte}
-use Rattle.block_words.proofs.Lists.{listed_none}
-use Rattle.block_words.proofs.sparse_bytes.SparseBytes.new.Goals as goal
-
-pub returns : goal.returns
-returns c = listed_none _ c.args.blocks (λ b. zero_byte c.new-words.result _ b c.new-words.ensures)

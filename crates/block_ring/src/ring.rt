@@ -7,8 +7,7 @@ ghost use Rattle.block_ring.specs.Ring.{IsDataBlock, is_busy, free_count as free
 use crate::block_set::BlockSet;
 use crate::marks::Marks;
 use bad_blocks::BadBlocks;
-use counts::Count;
-use fs_types::{ANCHORS, Fault};
+use fs_types::{ANCHORS, Count, Fault};
 use std::alloc::Global;
 use std::marker::Model;
 

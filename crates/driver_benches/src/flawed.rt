@@ -5,9 +5,9 @@ ghost use Rattle.driver_checks.specs.Areas.{GivesBlock, GivesPage};
 ghost use Rattle.driver_checks.specs.Driver.{AsksAtMost};
 
 use crate::flaw::{Flaw, Way};
-use counts::Count;
 use driver_checks::{Area, Bench, Case, Step, Steps};
 use flash_model::{DevFault, Geometry, Operation, PageState};
+use fs_types::Count;
 
 /// A driver on its bench that breaks one rule, and keeps to what the trait `Bench` asks.
 #[derive(Drop)]

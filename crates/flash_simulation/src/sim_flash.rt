@@ -7,12 +7,11 @@ mod contents;
 use crate::plan::Plan;
 use crate::sim_pages::SimPages;
 use contents::put_wear;
-use counts::Count;
 use flash_model::{
     Counters, DevFault, FaultKind, Flash, Geometry, Operation, PageState, PageView, Planned,
     PlannedFault,
 };
-use fs_types::Fault;
+use fs_types::{Count, Fault};
 use std::alloc::Global;
 
 /// A flash in memory that fails as planned.

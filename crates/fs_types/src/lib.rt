@@ -1,7 +1,9 @@
-//! The values that every layer speaks of: paths, calls, replies and refusals.
+//! The values that every layer speaks of: paths, calls, replies and refusals. And counts without bytes and without a
+//! greatest value, of what proofs count and no program reads.
 #![tactic(auto)]
 
 mod call;
+mod count;
 mod cp_name;
 mod event;
 mod fault;
@@ -14,6 +16,7 @@ mod request;
 mod sequence;
 
 pub use call::{Call, Group, Reply, Stat, Version, View};
+pub use count::Count;
 pub use cp_name::CpName;
 pub use event::{Answer, Event};
 pub use fault::Fault;

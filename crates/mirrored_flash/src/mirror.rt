@@ -5,9 +5,9 @@ ghost use Rattle.flash_model.specs.Device.{ReportsPage};
 ghost use Rattle.flash_simulation.specs.Simulation.{device_of};
 
 use crate::shown_pages::{show_block, show_page};
-use counts::Count;
 use flash_model::{DevFault, Flash, Geometry, PageState, PageView};
 use flash_simulation::SimFlash;
+use fs_types::Count;
 
 /// A mirror in memory of a part, with its power and what happened to it so far.
 ///

@@ -4,9 +4,8 @@ use crate::cached_reads::read_first;
 use crate::fronts::bring_front;
 use crate::node_parts::bring_part;
 use crate::storage::Storage;
-use counts::Count;
 use flash_model::Flash;
-use fs_types::{Fault, MAX_NAMES};
+use fs_types::{Count, Fault, MAX_NAMES};
 use nodes::Nodes;
 
 /// Keeps nodes in the data blocks of a lent flash. The kept blocks are those that the ring has as

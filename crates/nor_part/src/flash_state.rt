@@ -2,8 +2,8 @@
 ghost use Rattle.std.specs.Prelude.{◌≡◌, vec_len};
 
 use crate::sizes::{note, wear};
-use counts::Count;
 use flash_model::{DevFault, PageState};
+use fs_types::Count;
 use std::alloc::{AllocError, Global};
 
 /// What a flash over a part keeps beside the part: whether power is on, which blocks are worn, which ones

@@ -8,7 +8,7 @@ copy_crates() {
     local crate
     rm -rf "$made/copy"
     mkdir -p "$made/copy/crates"
-    for crate in fs_types counts flash_model nor_part dense_nor c_answers $of_c; do
+    for crate in fs_types flash_model nor_part dense_nor c_answers $of_c; do
         cp -a "$room/crates/$crate" "$made/copy/crates/"
         grep -E "^$crate( [^:]*)?:" "$room/crates.txt" >> "$made/copy/crates.txt"
     done

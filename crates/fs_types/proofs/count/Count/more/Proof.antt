@@ -13,11 +13,11 @@ use denote.RattleType.{owns}
 use denote.Steps.{nothing}
 use denote.Triple.Entry.{alive}
 use denote.Triple.Walked.{says, Stays, stay_dropped, Goes-dropped, walk_of, ends_at}
-use Rattle.counts.proofs.Bare.{bare, count_owned}
-use Rattle.counts.specs.contracts.count.Count.{the_row}
-use Rattle.counts.specs.contracts.count.Count.more as f
-use Rattle.counts.proofs.count.Count.more.Statement.{statement}
-use Rattle.counts.proofs.count.Count.more.Code as code
+use Rattle.fs_types.proofs.BareCounts.{bare, count_owned}
+use Rattle.fs_types.specs.contracts.count.Count.{the_row}
+use Rattle.fs_types.specs.contracts.count.Count.more as f
+use Rattle.fs_types.proofs.count.Count.more.Statement.{statement}
+use Rattle.fs_types.proofs.count.Count.more.Code as code
 
 abbrev stayed : Stays f.ended.signature.params f.ended.kept
 stayed = (stay_dropped _ yes, tt)

@@ -8,10 +8,10 @@ use types.ByLocal.{alloc_all, pass_all, free_all, look_at, sets}
 use denote.Steps.{nothing}
 use denote.Triple.Entry.{on_entry}
 use denote.Triple.Walked.{says, Stays, walk_of, ends_at}
-use Rattle.counts.proofs.Bare.{bare, count_owned}
-use Rattle.counts.specs.contracts.count.Count.zero as f
-use Rattle.counts.proofs.count.Count.zero.Statement.{statement}
-use Rattle.counts.proofs.count.Count.zero.Code as code
+use Rattle.fs_types.proofs.BareCounts.{bare, count_owned}
+use Rattle.fs_types.specs.contracts.count.Count.zero as f
+use Rattle.fs_types.proofs.count.Count.zero.Statement.{statement}
+use Rattle.fs_types.proofs.count.Count.zero.Code as code
 
 abbrev stayed : Stays f.ended.signature.params f.ended.kept
 stayed = tt

@@ -7,7 +7,7 @@ use types.Kit.{Goal, Step, step, Item, ‵, ◌$◌, fjoin, fpack, feq_i}
 use denote.RattleType.{Valss}
 use denote.Steps.{nothing}
 use denote.Struct.Struct.{within}
-use Rattle.counts.specs.contracts.count.Count.{the_row}
+use Rattle.fs_types.specs.contracts.count.Count.{the_row}
 
 -- the machine value of a struct without fields
 abbrev pub bare : Val

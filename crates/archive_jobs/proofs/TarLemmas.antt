@@ -8,7 +8,7 @@ use Rattle.flash_simulation.specs.Simulation.{device_of}
 use Rattle.flash_simulation.specs.declared.sim_flash.SimFlash.{SimFlash}
 use Rattle.image_jobs.specs.Images.{IsSpelledFlash}
 use Rattle.image_jobs.specs.declared.failure.Failure.{Failure}
-use Rattle.inquiry_jobs.specs.Asking.{view_spelled}
+use Rattle.image_jobs.specs.InquiryWords.{view_spelled}
 use Rattle.archive_jobs.specs.Archiving.{IsArchived, UnwrittenCause}
 use Rattle.archive_jobs.specs.declared.interruption.Interruption.{Interruption}
 use Rattle.archive_jobs.specs.declared.unwritten.Unwritten.{Unwritten}

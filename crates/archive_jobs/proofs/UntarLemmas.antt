@@ -6,7 +6,7 @@ use Rattle.std.specs.List.{flat_map}
 use Rattle.fs_types.specs.Names.{Path}
 use Rattle.host_interface.specs.Files.{Held}
 use Rattle.image_jobs.specs.declared.failure.Failure.{Failure}
-use Rattle.inquiry_jobs.specs.PathWords.{path_spelled}
+use Rattle.image_jobs.specs.PathWords.{path_spelled}
 use Rattle.put_jobs.specs.Groups.{EventsEnd}
 use Rattle.put_jobs.specs.Inputs.{IsWholeInput, IsUnreadInput}
 use Rattle.put_jobs.specs.Puts.{lot_events}

@@ -11,7 +11,7 @@ use Rattle.script_runs.specs.declared.scripts.Refusal.{Refusal}
 use Rattle.image_jobs.specs.Failures.{of_system, of_refusal}
 use Rattle.image_jobs.specs.Images.{IsSpelledFlash, LoadCause}
 use Rattle.image_jobs.specs.declared.failure.Failure.{Failure}
-use Rattle.inquiry_jobs.specs.Asking.{view_spelled, IsMisspelled}
+use Rattle.image_jobs.specs.InquiryWords.{view_spelled, IsMisspelled}
 use Rattle.archive_jobs.specs.Archiving.{ArchiveCause, IsArchived, IsCutShort}
 use Rattle.archive_jobs.specs.declared.interruption.Interruption.{Interruption}
 use Rattle.archive_jobs.specs.declared.unarchived.Unarchived.{Unarchived}

@@ -6,7 +6,7 @@ use Rattle.fs_types.specs.declared.fault.Fault.{Fault}
 use Rattle.image_jobs.specs.Images.{Host}
 use Rattle.image_jobs.specs.declared.failure.Failure.{Failure}
 use Rattle.image_jobs.specs.declared.source_fault.SourceFault.{SourceFault}
-use Rattle.inquiry_jobs.specs.PathWords.{path_spelled, SpellingCause}
+use Rattle.image_jobs.specs.PathWords.{path_spelled, SpellingCause}
 use Rattle.put_jobs.specs.Groups.{EventsEnd}
 use Rattle.put_jobs.specs.Inputs.{IsWholeInput, IsReadInPart}
 use Rattle.put_jobs.specs.Puts.{lot_events}

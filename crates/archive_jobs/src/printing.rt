@@ -1,6 +1,6 @@
 //! The archive of a view of an image.
 ghost use Rattle.std.specs.Prelude.{◌≡◌, Ok, IfOk, IfErr};
-ghost use Rattle.inquiry_jobs.specs.Asking.{view_spelled, IsMisspelled};
+ghost use Rattle.image_jobs.specs.InquiryWords.{view_spelled, IsMisspelled};
 ghost use Rattle.archive_jobs.specs.Tars.{of_unarchived, of_unwritten, TarEnds};
 
 use crate::archive_messages::tell_unwritten;
@@ -11,8 +11,7 @@ use crate::unwritten::Unwritten;
 use flash_model::Flash;
 use fs_types::{Fault, View};
 use host_interface::ImageFiles;
-use image_jobs::{Failure, load};
-use inquiry_jobs::view_of_word;
+use image_jobs::{Failure, load, view_of_word};
 use job_messages::tell_refusal;
 use script_runs::Refusal;
 use std::alloc::Global;

@@ -12,8 +12,8 @@ use Rattle.image_words.specs.PathCopies.{IsCopiedOut, CopyCause}
 use Rattle.image_words.specs.declared.path_copies.Copied.{Copied}
 use Rattle.image_jobs.specs.Images.{IsSpelledFlash, IsUnclaimed, LoadCause, Unsaved}
 use Rattle.image_jobs.specs.declared.failure.Failure.{Failure}
-use Rattle.inquiry_jobs.specs.Asking.{view_spelled, IsMisspelled}
-use Rattle.inquiry_jobs.specs.PathWords.{path_spelled}
+use Rattle.image_jobs.specs.InquiryWords.{view_spelled, IsMisspelled}
+use Rattle.image_jobs.specs.PathWords.{path_spelled}
 
 -- what was copied out is there: the bytes of a file are a file of the host, and no other file changes; a directory is a folder
 abbrev pub IsSaved : Device → View → Path → List ℕ → (List Made → Type 0) → Held → Held → Copied → Type 0

@@ -9,7 +9,7 @@ use Rattle.updates.specs.Asked.{TellsUpdate, UpdateCause}
 use Rattle.updates.specs.declared.manner.Manner.{Manner}
 use Rattle.image_jobs.specs.Images.{IsSpelledFlash, LoadCause}
 use Rattle.image_jobs.specs.declared.failure.Failure.{Failure}
-use Rattle.inquiry_jobs.specs.Asking.{of_ask}
+use Rattle.image_jobs.specs.InquiryWords.{of_ask}
 
 -- a file that two trees have is written whole, or only what differs is put over it
 abbrev pub manner_asked : Bool → Manner

@@ -10,7 +10,7 @@ use Rattle.image_jobs.specs.Failures.{of_system, of_refusal}
 use Rattle.image_jobs.specs.Images.{IsSpelledFlash, LoadCause}
 use Rattle.image_jobs.specs.declared.failure.Failure.{Failure}
 use Rattle.inquiries.specs.Printed.{path_text}
-use Rattle.inquiry_jobs.specs.Asking.{IsMisspelled}
+use Rattle.image_jobs.specs.InquiryWords.{IsMisspelled}
 use Rattle.script_runs.specs.declared.scripts.Refusal.{Refusal}
 use Rattle.block_usage.specs.declared.usage.Usage.{Usage}
 use Rattle.block_usage.specs.declared.usage_list.EntryUsage.{EntryUsage}

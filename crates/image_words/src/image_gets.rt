@@ -7,8 +7,7 @@ use crate::path_copies::{Copied, copy_out};
 use flash_simulation::SimFlash;
 use fs_types::{Path, View};
 use host_interface::Folders;
-use image_jobs::{Failure, load, save_bytes, spare};
-use inquiry_jobs::{path_of_word, view_of_word};
+use image_jobs::{Failure, load, path_of_word, save_bytes, spare, view_of_word};
 use std::alloc::Global;
 
 /// Puts the file at a path of an image into a file of the host, which is claimed then, or the directory

@@ -4,8 +4,7 @@ ghost use Rattle.image_words.specs.ImageUpdates.{IsUpdateTold, UpdateEnds, Updat
 
 use fs_types::Bytes;
 use host_interface::ImageFiles;
-use image_jobs::{Failure, load};
-use inquiry_jobs::of_ask;
+use image_jobs::{Failure, load, of_ask};
 use script::write_out;
 use std::alloc::Global;
 use std::io::Write;

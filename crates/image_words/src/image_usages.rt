@@ -1,14 +1,13 @@
 //! What is told of the blocks that what stands in a directory of an image takes.
 ghost use Rattle.std.specs.Prelude.{◌≡◌, IfOk, IfErr};
-ghost use Rattle.inquiry_jobs.specs.Asking.{place_spelled};
+ghost use Rattle.image_jobs.specs.InquiryWords.{place_spelled};
 ghost use Rattle.image_words.specs.ImageUsages.{AreUsagesIn, IsUsageText, UncountedCause, UsageEnds, UntoldCause, of_report};
 
 use crate::usage_lines::usage_text;
 use block_usage::{ReportFault, UsageList, report_usages};
 use fs_types::{Path, View};
 use host_interface::ImageFiles;
-use image_jobs::{Failure, load};
-use inquiry_jobs::place_of_words;
+use image_jobs::{Failure, load, place_of_words};
 use script::write_out;
 use script_runs::Refusal;
 use std::alloc::Global;

@@ -13,7 +13,7 @@ use Rattle.put_jobs.specs.Batches.{IsBatch, kept_in}
 use Rattle.put_jobs.specs.Mirrors.{wants_folder, kept_asked}
 use Rattle.put_jobs.specs.Places.{AreOthers}
 use Rattle.put_jobs.specs.Puts.{is_left_out, is_no_folder, left_in, FoundCause, PlaceCause}
-use Rattle.inquiry_jobs.specs.PathWords.{path_spelled}
+use Rattle.image_jobs.specs.PathWords.{path_spelled}
 use Rattle.put_jobs.specs.Putting.{PutEnds, SourcesEnd}
 use Rattle.put_jobs.specs.declared.batch.Batch.{Batch}
 

@@ -4,7 +4,7 @@ use Rattle.fs_types.specs.Names.{Path}
 use Rattle.fs_types.specs.declared.limits.TheConstants.{MAX_FILE_BYTES}
 use Rattle.host_interface.specs.Files.{Held}
 use Rattle.image_jobs.specs.declared.failure.Failure.{Failure}
-use Rattle.inquiry_jobs.specs.PathWords.{path_spelled}
+use Rattle.image_jobs.specs.PathWords.{path_spelled}
 use Rattle.put_jobs.specs.Groups.{EventsEnd}
 use Rattle.put_jobs.specs.Inputs.{written, IsWholeInput}
 

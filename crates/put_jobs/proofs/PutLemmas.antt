@@ -20,7 +20,7 @@ use Rattle.undofs.specs.Sessions.{Stands, world}
 use Rattle.undofs.proofs.SessionSteps.{mount_begins, serve_law}
 use Rattle.host_interface.specs.Files.{Held, Readings, readings_of, AreBytesRead, takes_away}
 use Rattle.put_jobs.specs.Puts.{group_start, group_end, mark_all, clean_all, Trims, is_due, stop_of, GoOn, StopLast, IsThingBy, IsThing, Carries, StopsWithin, StopsAtEnd, IsUnput, PutsBy, PutCause, FoundCause, GatherCause}
-use Rattle.inquiry_jobs.specs.PathWords.{SpellingCause, path_spelled}
+use Rattle.image_jobs.specs.PathWords.{SpellingCause, path_spelled}
 use Rattle.put_jobs.specs.Served.{Place, place, Turns, ServesAll, Halts, ServesPut, ClosesGroup, IsTrimmedWhere, EndsGroup}
 use Rattle.host_interface.specs.Sources.{Found, source_found}
 use Rattle.put_jobs.specs.Places.{put_place, way_fault, kind_fault, either_fault, source_fault, Unplaced, AreOthers}

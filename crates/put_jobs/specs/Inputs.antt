@@ -8,7 +8,7 @@ use Rattle.fs_types.specs.declared.limits.TheConstants.{MAX_FILE_BYTES}
 use Rattle.image_jobs.specs.Images.{Host}
 use Rattle.image_jobs.specs.declared.failure.Failure.{Failure}
 use Rattle.image_jobs.specs.declared.source_fault.SourceFault.{SourceFault}
-use Rattle.inquiry_jobs.specs.PathWords.{path_spelled, SpellingCause}
+use Rattle.image_jobs.specs.PathWords.{path_spelled, SpellingCause}
 use Rattle.put_jobs.specs.Groups.{EventsEnd}
 
 -- these bytes are all that the input had, and it has ended

@@ -14,7 +14,7 @@ use Rattle.image_jobs.specs.declared.failure.Failure.{Failure}
 use Rattle.put_lots.specs.Removals.{is_removed, kept_found, removal}
 use Rattle.put_lots.specs.declared.kept.Kept.{Kept}
 use Rattle.host_interface.specs.Files.{Readings}
-use Rattle.inquiry_jobs.specs.Asking.{UntoldBy}
+use Rattle.image_jobs.specs.InquiryWords.{UntoldBy}
 use Rattle.put_jobs.specs.Puts.{PutsBy, PutCause}
 
 -- a folder is wanted where something is to be removed, or left out

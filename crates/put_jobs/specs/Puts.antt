@@ -28,7 +28,7 @@ use Rattle.host_interface.specs.declared.source.SourceKind.{SourceKind}
 use Rattle.put_lots.specs.Lots.{lots_of}
 use Rattle.put_lots.specs.Things.{thing_events}
 use Rattle.put_lots.specs.declared.thing.Thing.{Thing}
-use Rattle.inquiry_jobs.specs.PathWords.{path_spelled}
+use Rattle.image_jobs.specs.PathWords.{path_spelled}
 
 -- things are put in one change group
 abbrev pub group_start : List Event

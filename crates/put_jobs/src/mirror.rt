@@ -4,15 +4,14 @@ ghost use Rattle.script_runs.specs.Flashes.{IsDecoded};
 ghost use Rattle.image_jobs.specs.Images.{DecodeCause};
 ghost use Rattle.inquiries.specs.declared.inquiry.Inquiry.{Inquiry};
 ghost use Rattle.fs_types.specs.declared.call.View.{View};
-ghost use Rattle.inquiry_jobs.specs.Asking.{UntoldBy};
+ghost use Rattle.image_jobs.specs.InquiryWords.{UntoldBy};
 ghost use Rattle.put_jobs.specs.Batches.{kept_in};
 ghost use Rattle.put_jobs.specs.Mirrors.{AreRemoved, IsListed, UnlistedBy, removal_of, removals};
 
 use crate::batch::Batch;
 use fs_types::{Event, Path};
-use image_jobs::{Failure, flash_of};
+use image_jobs::{Failure, flash_of, list_as_planned, of_ask};
 use inquiries::Item;
-use inquiry_jobs::{list_as_planned, of_ask};
 use put_lots::{Kept, is_removed, removal};
 use std::alloc::{AllocError, Global};
 

@@ -2,7 +2,7 @@
 ghost use Rattle.std.specs.Prelude.{◌≡◌, ◌⊎◌, false, List, IfSome, IfOk, OnOk, IfErr, map};
 ghost use Rattle.host_interface.specs.Files.{KeepsOthers, KeepsOrSyncs, ReadsClaimed, ReadsBeside, readings_of, takes_away};
 ghost use Rattle.host_interface.specs.Sources.{Found, source_found};
-ghost use Rattle.inquiry_jobs.specs.PathWords.{path_spelled, SpellingCause};
+ghost use Rattle.image_jobs.specs.PathWords.{path_spelled, SpellingCause};
 ghost use Rattle.put_jobs.specs.Batches.{IsBatch};
 ghost use Rattle.put_jobs.specs.Mirrors.{wants_folder};
 ghost use Rattle.put_jobs.specs.Places.{AreOthers, IsMisplaced};
@@ -16,8 +16,7 @@ use crate::source_things::SourceThings;
 use flash_simulation::SimFlash;
 use fs_types::{Event, Path};
 use host_interface::{ImageFiles, Source, Sources, takes_away};
-use image_jobs::{Failure, SourceFault};
-use inquiry_jobs::path_of_word;
+use image_jobs::{Failure, SourceFault, path_of_word};
 use job_messages::{tell_misplaced, tell_refusal};
 use std::alloc::Global;
 use std::io::Write;

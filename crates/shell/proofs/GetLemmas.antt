@@ -6,8 +6,8 @@ use Rattle.image_words.specs.ImageGets.{GetEnds}
 use Rattle.image_words.proofs.GetLemmas.{got_by}
 use Rattle.image_jobs.specs.Images.{host_at}
 use Rattle.image_jobs.specs.declared.failure.Failure.{Failure}
-use Rattle.inquiry_jobs.specs.Asking.{file_spelled}
-use Rattle.inquiry_jobs.specs.Tellings.{TellEnds}
+use Rattle.image_jobs.specs.InquiryWords.{file_spelled}
+use Rattle.image_jobs.specs.Tellings.{TellEnds}
 use Rattle.command_line.specs.declared.tasks.Job.{Job}
 use Rattle.shell.specs.Tools.{GetsTo, is_stream, word_given}
 

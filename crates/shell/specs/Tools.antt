@@ -13,7 +13,7 @@ use Rattle.command_line.specs.declared.tasks.Job.{Job}
 use Rattle.command_line.specs.declared.tasks.Task.{Task}
 use Rattle.inquiries.specs.declared.inquiry.Inquiry.{Inquiry}
 use Rattle.shell.specs.Explained.{ExplainEnds, HelpEnds, PrintEnds, version_line}
-use Rattle.inquiry_jobs.specs.Asking.{file_spelled, tree_spelled, list_spelled, place_spelled, path_history_spelled, differences_spelled}
+use Rattle.image_jobs.specs.InquiryWords.{file_spelled, tree_spelled, list_spelled, place_spelled, path_history_spelled, differences_spelled}
 use Rattle.flash_simulation.specs.Images.{image_of, IsFresh}
 use Rattle.flash_model.specs.Device.{Device}
 use Rattle.image_jobs.specs.Failures.{of_image, of_script, job_status, status_of}
@@ -39,8 +39,8 @@ use Rattle.remote_flash.specs.declared.start.StartFault.{StartFault}
 use Rattle.remote_flash.specs.Starts.{start_text, IsStartFault}
 use Rattle.remote_sessions.specs.Sessions.{SessionEnds}
 use Rattle.remote_sessions.specs.declared.session_fault.SessionFault.{SessionFault}
-use Rattle.inquiry_jobs.specs.LastChanges.{LastChangeEnds}
-use Rattle.inquiry_jobs.specs.Tellings.{TellEnds, DiffEnds}
+use Rattle.image_jobs.specs.LastChanges.{LastChangeEnds}
+use Rattle.image_jobs.specs.Tellings.{TellEnds, DiffEnds}
 use Rattle.image_words.specs.ImageUpdates.{UpdateEnds, manner_asked}
 use Rattle.image_words.specs.ImageGets.{GetEnds}
 use Rattle.put_jobs.specs.Putting.{PutEnds}

@@ -6,9 +6,8 @@ ghost use Rattle.shell.specs.Tools.{GetsTo, is_stream, word_given};
 use crate::program::word_given;
 use command_line::Job;
 use host_interface::Folders;
-use image_jobs::Failure;
+use image_jobs::{Failure, tell_file};
 use image_words::get_out;
-use inquiry_jobs::tell_file;
 use std::alloc::Global;
 use std::io::Write;
 

@@ -19,15 +19,14 @@ use clap::error::ErrorKind;
 use command_line::{HistoryCall, Job, Task, job};
 use flash_model::Geometry;
 use host_interface::{Channels, Folders, ImageFiles, Parts, Sources};
-use image_jobs::{Failure, check_image, format_image, run_image};
+use image_jobs::{
+    Failure, check_image, format_image, run_image, tell_differences, tell_file, tell_last_change,
+    tell_list, tell_path_history, tell_tree, tell_versions,
+};
 use image_words::{
     Creation, NewImage, RawSizes, change_history, create_image, format_part, image_to_part,
     image_to_raw, part_to_image, raw_to_image, save_map_page, serve_part_file, tell_map,
     tell_replies, tell_update, tell_usages, trim_image,
-};
-use inquiry_jobs::{
-    tell_differences, tell_file, tell_last_change, tell_list, tell_path_history, tell_tree,
-    tell_versions,
 };
 use job_messages::tell_failure;
 use put_jobs::Order;

@@ -1,5 +1,5 @@
 use Rattle.std.proofs.Common.{inl, inr, refl, sym, subst}
-use Rattle.inquiry_jobs.specs.Asking.{place_spelled}
+use Rattle.image_jobs.specs.InquiryWords.{place_spelled}
 use Rattle.image_words.specs.ImageUsages.{IsUsageText}
 use Rattle.image_words.proofs.image_usages.tell_usages.Goals as goal
 

@@ -1,4 +1,0 @@
-pub mod Asking
-pub mod LastChanges
-pub mod PathWords
-pub mod Tellings

@@ -38,7 +38,7 @@ use Rattle.directory.proofs.Held.{same_held}
 use Rattle.directory.proofs.LookupLaws.{found_leads, rooted_leads}
 use Rattle.directory.proofs.NewDirectories.{child_is, fresh_before, rewritten_before}
 use Rattle.directory.proofs.TrailEdits.{edit_nodes-there, level_child, leads_last}
-use Rattle.file_bodies.specs.declared.body.Body.{Body}
+use Rattle.tree_edits.specs.declared.file_body.Body.{Body}
 use Rattle.tree_edits.specs.Edits.{chosen, count_new, IsNoDirectory, AreWritable}
 use Rattle.tree_edits.specs.Roots.{IsNewRoot, IsWrittenNode, IsNewFile, AreNewFiles, IsLinked}
 use Rattle.tree_edits.proofs.NewBytes.{StaysBody, stays_body, reached_leads}

@@ -30,10 +30,10 @@ use Rattle.directory.proofs.LookupLaws.{found_is, found_leads_file, rooted_leads
 use Rattle.directory.proofs.NewDirectories.{rewritten_before}
 use native.Mathlib.Nat.{zero-div}
 use lib.Seq.{drop-nil}
-use Rattle.file_bodies.specs.Reading.{HasDigits, nodes_between}
-use Rattle.file_bodies.specs.Writing as bodies
-use Rattle.file_bodies.specs.Writing.{IsWritten, IsWritingFault}
-use Rattle.file_bodies.specs.declared.body.Body.{Body}
+use Rattle.tree_edits.specs.Reading.{HasDigits, nodes_between}
+use Rattle.tree_edits.specs.Writing as bodies
+use Rattle.tree_edits.specs.Writing.{IsWritten, IsWritingFault}
+use Rattle.tree_edits.specs.declared.file_body.Body.{Body}
 use Rattle.tree_edits.specs.Edits.{TakesFile}
 use Rattle.tree_edits.specs.Roots.{IsNewRoot, IsWrittenNode, IsFreshBody}
 use Rattle.tree_edits.proofs.Lookups.{path_within, no_directory}

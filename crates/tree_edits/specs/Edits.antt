@@ -18,8 +18,8 @@ use Rattle.directory.specs.declared.lookups.Found.TheVariants as found
 use Rattle.directory.specs.Lookups.{look_up}
 use Rattle.directory.specs.Counts.{nodes_in, path_nodes, move_nodes}
 use Rattle.directory.specs.Trails.{IsTrail, has_room}
-use Rattle.file_bodies.specs.Reading.{nodes_between, HasDigits}
-use Rattle.tree_edits.specs.declared.edit.Edit.{Edit}
+use Rattle.tree_edits.specs.Reading.{nodes_between, HasDigits}
+use Rattle.tree_edits.specs.declared.edits.Edit.{Edit}
 
 -- a file may be put where this was found: where nothing stands and the directory has room, and in the place of a file
 abbrev pub TakesFile : Found → Type 0

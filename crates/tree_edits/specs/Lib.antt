@@ -1,2 +1,5 @@
 pub mod Edits
 pub mod Roots
+pub mod Reading
+pub mod Writing
+pub mod Calls

@@ -17,8 +17,8 @@ use Rattle.nodes.specs.Rewritten.{IsRewritten}
 use Rattle.nodes.specs.Trees.{IsRoot, root_tree}
 use Rattle.directory.specs.Trails.{IsTrail, IsChangeFault}
 use Rattle.directory.specs.declared.directory_puts.NamedPlace.{NamedPlace}
-use Rattle.file_bodies.specs.Writing.{HoldsIndex, IsWritten}
-use Rattle.file_bodies.specs.declared.body.Body.{Body}
+use Rattle.tree_edits.specs.Writing.{HoldsIndex, IsWritten}
+use Rattle.tree_edits.specs.declared.file_body.Body.{Body}
 
 -- a node as it is written: one of a chain of a directory, or one of a body, with 0 in its zero field and in each slot that its
 -- index does not have

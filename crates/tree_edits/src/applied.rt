@@ -7,7 +7,7 @@ ghost use Rattle.tree_edits.specs.Edits.{IsEditable, ReadsFew, effect, source, e
 ghost use Rattle.tree_edits.specs.Roots.{IsApplied, tree_of};
 
 use crate::directory_files::write_files;
-use crate::edit::Edit;
+use crate::edits::Edit;
 use crate::files::{overwrite, put_empty, resize, write_file};
 use directory::{move_entry, put_directory, remove_entry};
 use fs_types::Fault;

@@ -14,7 +14,7 @@ ghost use Rattle.directory.specs.Trails.{IsTrail, IsChangeFault};
 ghost use Rattle.tree_edits.specs.Edits.{AreWritable, chosen, files_nodes};
 ghost use Rattle.tree_edits.specs.Roots.{IsApplied, tree_of, IsNewFile, AreNewFiles, IsLinked};
 ghost use Rattle.nodes.specs.Words.{IsHeld, IsRoot, Keeps, WorksWithin};
-ghost use Rattle.file_bodies.specs.Writing.{IsWritingFault};
+ghost use Rattle.tree_edits.specs.Writing.{IsWritingFault};
 
 use crate::files::write_body;
 use directory::{NamedPlace, Trail, put_entry, put_in_directory};

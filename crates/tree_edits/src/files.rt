@@ -16,11 +16,12 @@ ghost use Rattle.directory.specs.Trails.{IsSought, IsChangeFault};
 ghost use Rattle.tree_edits.specs.Edits.{TakesFile, overwrite_reads, resize_reads, with_file};
 ghost use Rattle.tree_edits.specs.Roots.{IsApplied, IsFreshBody, IsLookedUp, tree_of};
 ghost use Rattle.nodes.specs.Words.{Keeps, WorksWithin};
-ghost use Rattle.file_bodies.specs.Writing.{IsWritten, IsWritingFault};
-ghost use Rattle.file_bodies.specs.Reading.{HasDigits};
+ghost use Rattle.tree_edits.specs.Writing.{IsWritten, IsWritingFault};
+ghost use Rattle.tree_edits.specs.Reading.{HasDigits};
 
+use crate::changes::{set_length, write_range};
+use crate::file_body::Body;
 use directory::{Trail, put_entry};
-use file_bodies::{Body, set_length, write_range};
 use fs_types::{Fault, Path};
 use node_format::Place;
 use nodes::Nodes;

@@ -7,7 +7,7 @@ use Rattle.fs_types.specs.declared.fault.Fault.TheVariants.{ReadOnly}
 use Rattle.flash_model.specs.Device.{Device}
 use Rattle.node_store.specs.declared.storage.Storage.{Storage}
 use Rattle.bad_blocks.specs.Mode.{is_read_only}
-use Rattle.tree_edits.specs.declared.edit.Edit.{Edit}
+use Rattle.tree_edits.specs.declared.edits.Edit.{Edit}
 use Rattle.working_state.specs.Changes.{storage_moment, IsTried, LeavesSerial, CheckCause, IsChanged, work}
 use Rattle.working_state.proofs.Standing.{none_written}
 use Rattle.working_state.proofs.StoreReads.{on_flash}

@@ -18,7 +18,7 @@ use Rattle.flash_model.specs.Device.{Device}
 use Rattle.node_store.specs.declared.storage.Storage.{Storage}
 use Rattle.block_ring.specs.Ring.{Ring}
 use Rattle.tree_edits.specs.Edits as edits
-use Rattle.tree_edits.specs.declared.edit.Edit.{Edit}
+use Rattle.tree_edits.specs.declared.edits.Edit.{Edit}
 use Rattle.working_state.specs.Moments.{Moment, moment, machine_at, seen_at, IsMountedAt, IsStep, nodes_at, capacity_at, version_tree}
 use Rattle.working_state.specs.Changes.{IsUnwritten, work_at}
 use Rattle.bad_blocks.specs.Mode.{is_read_only}

@@ -10,7 +10,7 @@ use Rattle.fs_types.specs.declared.call.Call.{Call}
 use Rattle.flash_model.specs.declared.geometry.Geometry.{Geometry}
 use Rattle.flash_model.specs.Device.{Device}
 use Rattle.nodes.specs.Bodies.{head_index}
-use Rattle.file_bodies.specs.Reading.{HasDigits, nodes_of_range}
+use Rattle.tree_edits.specs.Reading.{HasDigits, nodes_of_range}
 use Rattle.node_store.specs.declared.store.Store.{Store}
 use Rattle.node_store.specs.Stores.{Follows}
 use Rattle.working_state.specs.Looking.{AsksBlocks, IsReadOf, AsksForRange, AsksForOpen, look_nodes, list_nodes, only_looks, LooksOnce}

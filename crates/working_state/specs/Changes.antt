@@ -14,7 +14,7 @@ use Rattle.node_store.specs.Fitting.{Fits}
 use Rattle.node_store.specs.NodePages.{node_of}
 use Rattle.nodes.specs.Reached.{Reached}
 use Rattle.directory.specs.Trails.{IsChangeFault}
-use Rattle.tree_edits.specs.declared.edit.Edit.{Edit}
+use Rattle.tree_edits.specs.declared.edits.Edit.{Edit}
 use Rattle.tree_edits.specs.Edits.{IsEditable, source, effect, edit_need}
 use Rattle.tree_edits.specs.Roots.{IsWrittenNode}
 use Rattle.working_state.specs.Leaves.{HasWritten}

@@ -8,7 +8,7 @@ use Rattle.history_machine.specs.Descriptors.{Descriptor, descriptor_at}
 use Rattle.history_machine.specs.Machine.{Machine, working_tree, view_tree, entries_of}
 use Rattle.flash_model.specs.Device.{Device}
 use Rattle.nodes.specs.Bodies.{head_index}
-use Rattle.file_bodies.specs.Reading.{HasDigits, nodes_of_range}
+use Rattle.tree_edits.specs.Reading.{HasDigits, nodes_of_range}
 use Rattle.working_state.specs.Facts.{facts_of}
 use Rattle.working_state.specs.Seen.{capacity_of}
 

@@ -11,7 +11,7 @@ use Rattle.node_store.specs.NodePages.{node_of}
 use Rattle.nodes.specs.Bodies.{Blocks}
 use Rattle.directory.specs.Lookups.{look_up}
 use Rattle.directory.specs.declared.lookups.Found.TheVariants.{File}
-use Rattle.file_bodies.specs.Reading.{IsNodeOf}
+use Rattle.tree_edits.specs.Reading.{IsNodeOf}
 use Rattle.working_state.specs.Seen.{capacity_of}
 use Rattle.working_state.specs.declared.known_bodies.KnownBodies.{KnownBodies}
 use Rattle.working_state.specs.declared.known_bodies.KnownBody.{KnownBody}

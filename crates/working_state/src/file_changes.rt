@@ -26,13 +26,12 @@ use crate::lookups::find_path;
 use crate::state::State;
 use bitflags::Flags;
 use directory::{Found, Trail};
-use file_bodies::Body;
 use flash_model::Flash;
 use fs_types::{Fault, MAX_FILE_BYTES, OpenFlags, Path};
 use machine_state::OpenFiles;
 use node_store::Storage;
 use std::alloc::Global;
-use tree_edits::Edit;
+use tree_edits::{Body, Edit};
 
 /// The most bytes in a file.
 const MOST_BYTES: u64 = MAX_FILE_BYTES as u64;

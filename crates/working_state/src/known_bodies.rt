@@ -2,8 +2,8 @@
 ghost use Rattle.std.specs.Prelude.{◌≡◌, slice_set};
 ghost use Rattle.working_state.specs.OpenBodies as spec;
 
-use file_bodies::{Body, KnownNode};
 use fs_types::MAX_OPEN_FILES;
+use tree_edits::{Body, KnownNode};
 
 /// The body of an open file, and the node of it that was found last, where one was.
 #[derive(Clone, Copy, Debug)]

@@ -27,12 +27,12 @@ use crate::known_bodies::{KnownBodies, KnownBody};
 use crate::state::State;
 use bitflags::Flags;
 use directory::{Found, lookup};
-use file_bodies::{Body, read_range};
 use flash_model::Flash;
 use fs_types::{Bytes, Fault, OpenFlags, Path, View};
 use machine_state::OpenFiles;
 use node_store::{Nodes, Storage, Store};
 use std::alloc::Global;
+use tree_edits::{Body, read_range};
 
 impl State {
     /// The bytes of a file of the tree that a view shows, from `offset` on, at most `count`.

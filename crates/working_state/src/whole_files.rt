@@ -26,12 +26,11 @@ use crate::changes::change;
 use crate::lookups::find_path;
 use crate::state::State;
 use directory::{Found, Trail};
-use file_bodies::{Body, has_bytes};
 use flash_model::Flash;
 use fs_types::{Fault, MAX_FILE_BYTES, Path};
 use node_store::{Storage, Store};
 use std::alloc::Global;
-use tree_edits::Edit;
+use tree_edits::{Body, Edit, has_bytes};
 
 impl State {
     /// Makes the file at a path one of exactly these bytes, where nothing stands or a file that is not open.

@@ -8,7 +8,7 @@ use Rattle.tree_edits.specs.Edits.{chosen}
 use Rattle.tree_edits.specs.Roots.{AreNewFiles, IsNewFile}
 use Rattle.nodes.specs.WordLaws.{works_after, works_wider, works_answered, works_refused, works_idle}
 use Rattle.nodes.specs.Words.{WorksWithin}
-use Rattle.file_bodies.specs.Writing.{IsWritingFault}
+use Rattle.tree_edits.specs.Writing.{IsWritingFault}
 use Rattle.tree_edits.proofs.ManyFiles.{chosen-more, chosen-same, more-are, more-need, need-more, length-more, news_push, news_later, new_before}
 use Rattle.tree_edits.proofs.directory_files.write_bodies.Goals as goal
 

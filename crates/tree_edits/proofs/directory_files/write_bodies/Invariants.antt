@@ -1,7 +1,7 @@
 use Rattle.std.proofs.Common.{◌-◌, Ok, length, take}
 use Rattle.node_format.specs.Headers.{body_header}
 use Rattle.nodes.specs.Words.{WorksWithin}
-use Rattle.file_bodies.specs.Writing.{IsWritingFault}
+use Rattle.tree_edits.specs.Writing.{IsWritingFault}
 use Rattle.plain_trees.specs.Files.{bodies_need}
 use Rattle.tree_edits.specs.Edits.{chosen}
 use Rattle.tree_edits.specs.Roots.{AreNewFiles}

@@ -1,6 +1,6 @@
 use Rattle.std.proofs.Common.{◌-◌, [], refl, arith}
 use Rattle.node_format.specs.Headers.{body_header}
-use Rattle.file_bodies.specs.declared.body.Body.{Body}
+use Rattle.tree_edits.specs.declared.file_body.Body.{Body}
 use Rattle.tree_edits.proofs.AppliedEdits.{is_applied}
 use Rattle.tree_edits.proofs.Lookups.{file_below}
 use Rattle.tree_edits.proofs.NewBytes.{file_result, keeps_itself, empty_written, empty_from}

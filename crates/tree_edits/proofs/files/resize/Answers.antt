@@ -7,7 +7,7 @@ use Rattle.directory.specs.declared.lookups.Found.TheVariants as found
 use Rattle.directory.proofs.Held.{held_later}
 use Rattle.directory.proofs.LookupLaws.{rooted_leads}
 use Rattle.directory.proofs.TrailEdits.{look_later, trail_later}
-use Rattle.file_bodies.specs.Writing.{IsWritten}
+use Rattle.tree_edits.specs.Writing.{IsWritten}
 use Rattle.tree_edits.proofs.ManyFiles.{keeps_on}
 use Rattle.tree_edits.proofs.NewBytes.{file_result, from_file, file_whole, file_held, file_bytes, body_fault}
 use Rattle.std.proofs.lemmas.Result.{err_from_is_err_and, IfErr-weaker}

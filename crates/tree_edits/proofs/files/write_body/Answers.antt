@@ -3,8 +3,8 @@ use Rattle.std.proofs.lemmas.Result.{IfOk-weaker}
 use Rattle.std.specs.Prelude.{◌==◌, ◌≢◌, false}
 use Rattle.std.proofs.lemmas.Bool.{eqb-true, eqb-false}
 use Rattle.node_format.specs.Headers.{body_header}
-use Rattle.file_bodies.specs.Writing.{IsWritten}
-use Rattle.file_bodies.specs.declared.body.Body.{Body}
+use Rattle.tree_edits.specs.Writing.{IsWritten}
+use Rattle.tree_edits.specs.declared.file_body.Body.{Body}
 use Rattle.nodes.specs.WordLaws.{works_wider, works_idle}
 use Rattle.tree_edits.proofs.NewBytes.{empty_written, written_whole, whole_need, empty_digits, empty_between, fresh_body, keeps_itself}
 use Rattle.tree_edits.proofs.files.write_body.Goals as goal

@@ -6,7 +6,7 @@ ghost use Rattle.system.specs.Systems.{IsSystem};
 
 use flash_model::{Counters, FaultKind, Planned};
 use flash_simulation::SimFlash;
-use fs_types::{Answer, Fault};
+use fs_types::{Answer, Ask, Event, Fault};
 use script::{Line, LineAnswer, print_answer};
 use script_runs::carry_out;
 use session_oracle::{flash_of, line_of};
@@ -59,7 +59,7 @@ impl Session {
     /// Mounts, and tells what lines are answered then; none where no system could be mounted for a failed
     /// read.
     fn replies(&mut self, alloc: Global, lines: &str) -> Result<Option<String>, Fault> {
-        match self.carry_out(alloc, Line::Restart) {
+        match self.carry_out(alloc, Line::Ask(Ask::Event(Event::Restart))) {
             LineAnswer::Told(Answer::Mounted) => Ok(Some(self.replies_to(alloc, lines)?)),
             LineAnswer::Told(Answer::Refused(Fault::ReadFailed)) => Ok(None),
             LineAnswer::Told(Answer::Refused(fault)) => Err(fault),

@@ -2,6 +2,7 @@
 //! greatest value, of what proofs count and no program reads.
 #![tactic(auto)]
 
+mod ask;
 mod call;
 mod count;
 mod cp_name;
@@ -15,6 +16,7 @@ mod path;
 mod request;
 mod sequence;
 
+pub use ask::Ask;
 pub use call::{Call, Group, Reply, Stat, Version, View};
 pub use count::Count;
 pub use cp_name::CpName;

@@ -7,6 +7,8 @@ use Rattle.fs_types.specs.declared.call.View.{View}
 use Rattle.flash_simulation.specs.Simulation.{device_of}
 use Rattle.flash_simulation.specs.declared.sim_flash.SimFlash.{SimFlash}
 use Rattle.script.specs.Lines.{line_of}
+use Rattle.fs_types.specs.declared.ask.Ask.{Ask}
+use Rattle.fs_types.specs.declared.event.Event.{Event}
 use Rattle.script.specs.declared.line.Line.{Line}
 use Rattle.inquiries.specs.Asked.{Tells, AskCause}
 use Rattle.inquiries.specs.declared.asking.AskFault.{AskFault}
@@ -23,7 +25,7 @@ view_of_call (Call.Stat view path) = Ok view
 view_of_call _ = Err (Failure.Refused Refusal.Syntax)
 
 abbrev pub view_of_line : Line → Result View Failure
-view_of_line (Line.Call call) = view_of_call call
+view_of_line (Line.Ask (Ask.Event (Event.Call call))) = view_of_call call
 view_of_line (Line.Refused fault) = Err (Failure.Refused (Refusal.Fault fault))
 view_of_line _ = Err (Failure.Refused Refusal.Syntax)
 

@@ -6,6 +6,8 @@ use Rattle.image_jobs.specs.declared.failure.Failure.{Failure}
 use Rattle.fs_types.specs.declared.call.Call.{Call}
 use Rattle.script.specs.Lines.{line_of}
 use Rattle.script.specs.Replies.{escaped}
+use Rattle.fs_types.specs.declared.ask.Ask.{Ask}
+use Rattle.fs_types.specs.declared.event.Event.{Event}
 use Rattle.script.specs.declared.line.Line.{Line}
 use Rattle.script_runs.specs.declared.scripts.Refusal.{Refusal}
 
@@ -15,7 +17,7 @@ path_of_call (Call.Mkdir path) = Ok path
 path_of_call _ = Err (Failure.Refused Refusal.Syntax)
 
 abbrev pub path_of_line : Line → Result Path Failure
-path_of_line (Line.Call call) = path_of_call call
+path_of_line (Line.Ask (Ask.Event (Event.Call call))) = path_of_call call
 path_of_line (Line.Refused fault) = Err (Failure.Refused (Refusal.Fault fault))
 path_of_line _ = Err (Failure.Refused Refusal.Syntax)
 

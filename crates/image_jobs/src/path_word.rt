@@ -4,7 +4,7 @@ ghost use Rattle.script.specs.Lines.{line_of};
 ghost use Rattle.image_jobs.specs.PathWords.{path_escaped, path_spelled, path_of_line, path_of_call, SpellingCause};
 
 use crate::failure::Failure;
-use fs_types::{Call, Path};
+use fs_types::{Ask, Call, Event, Path};
 use script::{Line, print_name, read_line};
 use script_runs::Refusal;
 use std::alloc::{AllocError, Global};
@@ -47,7 +47,7 @@ fn path_of_line(line: Line) -> Result<Path, Failure>
     ensures { result ≡ path_of_line line }
 {
     match line {
-        Line::Call(call) => path_of_call(call),
+        Line::Ask(Ask::Event(Event::Call(call))) => path_of_call(call),
         Line::Refused(fault) => Err(Failure::Refused(Refusal::Fault(fault))),
         _ => Err(Failure::Refused(Refusal::Syntax)),
     }

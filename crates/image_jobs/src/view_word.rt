@@ -4,7 +4,7 @@ ghost use Rattle.script.specs.Lines.{line_of};
 ghost use Rattle.image_jobs.specs.InquiryWords.{view_spelled, view_of_line, view_of_call, IsMisspelled};
 
 use crate::failure::Failure;
-use fs_types::{Call, View};
+use fs_types::{Ask, Call, Event, View};
 use script::{Line, read_line};
 use script_runs::Refusal;
 use std::alloc::{AllocError, Global};
@@ -40,7 +40,7 @@ fn view_of_line(line: Line) -> Result<View, Failure>
     ensures { result ≡ view_of_line line }
 {
     match line {
-        Line::Call(call) => view_of_call(call),
+        Line::Ask(Ask::Event(Event::Call(call))) => view_of_call(call),
         Line::Refused(fault) => Err(Failure::Refused(Refusal::Fault(fault))),
         _ => Err(Failure::Refused(Refusal::Syntax)),
     }

@@ -4,6 +4,8 @@ use Rattle.std.specs.List.{repeat}
 use Rattle.fs_types.specs.declared.limits.TheConstants.{MAX_VERSIONS}
 use Rattle.command_line.specs.declared.tasks.HistoryCall.{HistoryCall}
 use Rattle.script.specs.Lines.{line_of}
+use Rattle.fs_types.specs.declared.ask.Ask.{Ask}
+use Rattle.fs_types.specs.declared.event.Event.{Event}
 use Rattle.script.specs.declared.line.Line.{Line}
 use Rattle.host_interface.specs.Files.{Held}
 use Rattle.script_runs.specs.declared.scripts.Refusal.{Refusal}
@@ -35,8 +37,8 @@ history_script line count = repeat count (line ++ codes "\n") ++ codes "sync\n"
 
 -- how a line is refused before a call is carried out, if it is
 abbrev pub refusal_of_line : Line → Option Refusal
-refusal_of_line (Line.Call call) = None
-refusal_of_line (Line.ForgetFree blocks) = None
+refusal_of_line (Line.Ask (Ask.Event (Event.Call call))) = None
+refusal_of_line (Line.Ask (Ask.ForgetFree blocks)) = None
 refusal_of_line (Line.Refused fault) = Some (Refusal.Fault fault)
 refusal_of_line _ = Some Refusal.Syntax
 

@@ -4,7 +4,7 @@ ghost use Rattle.script.specs.Lines.{line_of};
 ghost use Rattle.image_words.specs.Histories.{Unspelled, history_line, history_script, history_spelled, line_count, refusal_of_line};
 
 use command_line::HistoryCall;
-use fs_types::MAX_VERSIONS;
+use fs_types::{Ask, Event, MAX_VERSIONS};
 use image_jobs::Failure;
 use script::{Line, read_line};
 use script_runs::Refusal;
@@ -72,7 +72,7 @@ fn refusal_of_line(alloc: Global, line: &str) -> Result<Option<Refusal>, AllocEr
     ensures { IfOk result (λ refusal. refusal ≡ refusal_of_line (line_of line.now)) }
 {
     match read_line(alloc, line.as_bytes())? {
-        Line::Call(_) | Line::ForgetFree(_) => Ok(None),
+        Line::Ask(Ask::Event(Event::Call(_)) | Ask::ForgetFree(_)) => Ok(None),
         Line::Refused(fault) => Ok(Some(Refusal::Fault(fault))),
         _ => Ok(Some(Refusal::Syntax)),
     }

@@ -3,7 +3,7 @@ use crate::error::MeasureError;
 use crate::watched::{Counts, Watched};
 use flash_model::Geometry;
 use flash_simulation::SimFlash;
-use fs_types::{Call, Event, Name, NamedFile, Path, Sequence};
+use fs_types::{Ask, Call, Event, Name, NamedFile, Path, Sequence};
 use put_lots::{Thing, events_of, take_in};
 use script::{Line, read_line};
 use std::alloc::{AllocError, Global};
@@ -172,7 +172,7 @@ fn call_of(alloc: Global, line: &str, number: usize) -> Result<Call, MeasureErro
 
 fn call_of_script(alloc: Global, line: &str, number: usize) -> Result<Call, MeasureError> {
     match read_line(alloc, line.as_bytes())? {
-        Line::Call(call) => Ok(call),
+        Line::Ask(Ask::Event(Event::Call(call))) => Ok(call),
         _ => Err(MeasureError::Line(number)),
     }
 }

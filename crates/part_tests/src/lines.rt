@@ -1,5 +1,5 @@
 //! Lines of scripts, and streams that fail.
-use fs_types::Call;
+use fs_types::{Ask, Call, Event};
 use script::{LINE_LIMIT, Line, LineReader, Taken, read_line, write_out};
 use std::alloc::{AllocError, Global};
 use std::io;
@@ -192,12 +192,16 @@ fn longest_line(alloc: Global) -> Result<Vec<u8>, AllocError> {
 /// How many bytes a line writes, where it is this `pwrite` and each byte is 0xa7.
 fn written(line: &Line) -> Option<usize> {
     match line {
-        Line::Call(
-            Call::Pwrite {
-                descriptor: 9,
-                offset: 10,
-                bytes,
-            },
+        Line::Ask(
+            Ask::Event(
+                Event::Call(
+                    Call::Pwrite {
+                        descriptor: 9,
+                        offset: 10,
+                        bytes,
+                    },
+                ),
+            ),
         ) if bytes.as_slice().iter().all(|byte| *byte == 0xa7) => Some(bytes.as_slice().len()),
         _ => None,
     }

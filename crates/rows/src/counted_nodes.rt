@@ -10,7 +10,7 @@ use crate::sight::Sight;
 use block_ring::Ring;
 use flash_model::Flash;
 use flash_simulation::SimFlash;
-use fs_types::Answer;
+use fs_types::{Answer, Ask, Event};
 use script::{Line, LineAnswer, print_answer, read_line};
 use script_runs::carry_out;
 use std::alloc::Global;
@@ -74,7 +74,7 @@ fn carry_out_with(
     ensures { IfSome system.new (IsSystem (device_of flash.new)) }
 {
     match line {
-        Line::Restart => restart(alloc, flash, system, nodes),
+        Line::Ask(Ask::Event(Event::Restart)) => restart(alloc, flash, system, nodes),
         line => carry_out(alloc, flash, system, line),
     }
 }

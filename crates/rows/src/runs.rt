@@ -5,7 +5,7 @@ use crate::row::{Row, Side};
 use crate::sight::Sight;
 use crate::tool_calls::append_given;
 use flash_simulation::{SimFlash, decode};
-use fs_types::{Answer, Fault, Reply};
+use fs_types::{Answer, Ask, Event, Fault, Reply};
 use host_interface::{Channels, Folders, ImageFiles, Parts, Sources};
 use plain_machine::{PlainMachine, Space};
 use script::{Line, LineAnswer, print_answer, read_line};
@@ -53,7 +53,7 @@ fn run_line(
 
 fn answer_of(alloc: Global, machine: &mut PlainMachine, line: &Line) -> LineAnswer {
     match line {
-        Line::Call(call) => told(machine.step(alloc, NO_SPACE, call)),
+        Line::Ask(Ask::Event(Event::Call(call))) => told(machine.step(alloc, NO_SPACE, call)),
         Line::Refused(fault) => told(Err(*fault)),
         _ => LineAnswer::Syntax,
     }

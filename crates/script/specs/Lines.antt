@@ -7,7 +7,10 @@ use Rattle.std.specs.Str.{bytes_eq}
 use Rattle.fs_types.specs.Names.{Name, Path, name_refusal, path_refusal, components_of, is_checkpoint_name}
 use Rattle.fs_types.specs.declared.fault.Fault.{Fault}
 use Rattle.fs_types.specs.declared.fault.Fault.TheVariants.{Invalid}
+use Rattle.fs_types.specs.declared.ask.Ask.{Ask}
+use Rattle.fs_types.specs.declared.call.Call.{Call}
 use Rattle.fs_types.specs.declared.call.View.{View}
+use Rattle.fs_types.specs.declared.event.Event.{Event}
 use Rattle.fs_types.specs.declared.call.View.TheVariants.{Present, Serial, Checkpoint as checkpoint_view}
 use Rattle.fs_types.specs.declared.call.Call.TheVariants.{Open, Close, Pread, Pwrite, Ftruncate, WriteFile, Rename, Unlink, Mkdir, Rmdir, Fsync, Sync, Stat, List as list_call, ReadAt, Entries, Log, Df, Undo, Redo, Goto, Rollback, Forget, Checkpoint, RemoveCheckpoint, Begin, End, Abandon}
 use Rattle.script.specs.Kinds.{kinds}
@@ -15,11 +18,18 @@ use Rattle.script.specs.Verbs.{verbs}
 use Rattle.script.specs.declared.verb.Verb.{Verb}
 use Rattle.script.specs.Words.{well_formed, number_from, text_from, data_from}
 use Rattle.script.specs.declared.line.Line.{Line}
-use Rattle.script.specs.declared.line.Line.TheVariants.{Call, ReclaimStep, CleanStep, PrepareStep, Space, ForgetFree, Restart, PlanFault, Refused, Syntax}
+use Rattle.script.specs.declared.line.Line.TheVariants.{Ask as Asked, PlanFault, Refused, Syntax}
 use Rattle.script.specs.declared.misread.Misread.{Misread}
 use Rattle.script.specs.declared.misread.Misread.TheVariants.{Syntax as no_form, Refused as refused}
 use Rattle.script.specs.declared.views.NamedView.{NamedView}
 use Rattle.script.specs.declared.views.NamedView.TheVariants.{Now, AtSerial, AtName}
+
+-- the line that asks for an event, and for a call
+abbrev pub event_line : Event → Line
+event_line event = Asked (Ask.Event event)
+
+abbrev pub call_line : Call → Line
+call_line call = event_line (Event.Call call)
 
 -- the second step where the first gave a value
 infixl 10 ◌>>=◌
@@ -128,7 +138,7 @@ open_line words = do
   bytes ← well_formed (text_from parts.0)
   flags ← well_formed (number_from parts.1)
   path ← path_of bytes
-  Ok (Call (Open path (record { 0 = flags })))
+  Ok (call_line (Open path (record { 0 = flags })))
 
 abbrev pub pread_line : List (List ℕ) → Result Line Misread
 pread_line words = do
@@ -136,7 +146,7 @@ pread_line words = do
   descriptor ← well_formed (number_from parts.0)
   offset ← well_formed (number_from parts.1)
   count ← well_formed (number_from parts.2)
-  Ok (Call (Pread descriptor offset count))
+  Ok (call_line (Pread descriptor offset count))
 
 abbrev pub pwrite_line : List (List ℕ) → Result Line Misread
 pwrite_line words = do
@@ -144,14 +154,14 @@ pwrite_line words = do
   descriptor ← well_formed (number_from parts.0)
   offset ← well_formed (number_from parts.1)
   bytes ← well_formed (data_from parts.2)
-  Ok (Call (Pwrite descriptor offset bytes))
+  Ok (call_line (Pwrite descriptor offset bytes))
 
 abbrev pub ftruncate_line : List (List ℕ) → Result Line Misread
 ftruncate_line words = do
   parts ← two_words words
   descriptor ← well_formed (number_from parts.0)
   size ← well_formed (number_from parts.1)
-  Ok (Call (Ftruncate descriptor size))
+  Ok (call_line (Ftruncate descriptor size))
 
 abbrev pub write_line : List (List ℕ) → Result Line Misread
 write_line words = do
@@ -159,7 +169,7 @@ write_line words = do
   spelled ← well_formed (text_from parts.0)
   bytes ← well_formed (data_from parts.1)
   path ← path_of spelled
-  Ok (Call (WriteFile path bytes))
+  Ok (call_line (WriteFile path bytes))
 
 abbrev pub rename_line : List (List ℕ) → Result Line Misread
 rename_line words = do
@@ -168,7 +178,7 @@ rename_line words = do
   new ← well_formed (text_from parts.1)
   from ← path_of old
   to ← path_of new
-  Ok (Call (Rename from to))
+  Ok (call_line (Rename from to))
 
 abbrev pub read_line : List (List ℕ) → Result Line Misread
 read_line words = do
@@ -179,17 +189,17 @@ read_line words = do
   named ← named_view parts.3
   path ← path_of bytes
   view ← view_of named
-  Ok (Call (ReadAt view path offset count))
+  Ok (call_line (ReadAt view path offset count))
 
 abbrev pub stat_line : List (List ℕ) → Result Line Misread
 stat_line words = do
   parts ← path_and_view words
-  Ok (Call (Stat parts.1 parts.0))
+  Ok (call_line (Stat parts.1 parts.0))
 
 abbrev pub list_line : List (List ℕ) → Result Line Misread
 list_line words = do
   parts ← path_and_view words
-  Ok (Call (list_call parts.1 parts.0))
+  Ok (call_line (list_call parts.1 parts.0))
 
 abbrev pub entries_line : List (List ℕ) → Result Line Misread
 entries_line words = do
@@ -201,7 +211,7 @@ entries_line words = do
   path ← path_of bytes
   name ← from_of from
   view ← view_of named
-  Ok (Call (Entries view path name most))
+  Ok (call_line (Entries view path name most))
 
 -- a line of its verb alone
 abbrev pub alone : Line → List (List ℕ) → Result Line Misread
@@ -218,39 +228,39 @@ fault_line words = do
 -- what a verb and the words after it ask
 abbrev pub asked : Verb → List (List ℕ) → Result Line Misread
 asked Verb.Open words = open_line words
-asked Verb.Close words = only_number words >>= λ descriptor. Ok (Call (Close descriptor))
+asked Verb.Close words = only_number words >>= λ descriptor. Ok (call_line (Close descriptor))
 asked Verb.Pread words = pread_line words
 asked Verb.Pwrite words = pwrite_line words
 asked Verb.Ftruncate words = ftruncate_line words
 asked Verb.Write words = write_line words
 asked Verb.Rename words = rename_line words
-asked Verb.Unlink words = only_path words >>= λ path. Ok (Call (Unlink path))
-asked Verb.Mkdir words = only_path words >>= λ path. Ok (Call (Mkdir path))
-asked Verb.Rmdir words = only_path words >>= λ path. Ok (Call (Rmdir path))
-asked Verb.Fsync words = only_number words >>= λ descriptor. Ok (Call (Fsync descriptor))
-asked Verb.Sync words = alone (Call Sync) words
+asked Verb.Unlink words = only_path words >>= λ path. Ok (call_line (Unlink path))
+asked Verb.Mkdir words = only_path words >>= λ path. Ok (call_line (Mkdir path))
+asked Verb.Rmdir words = only_path words >>= λ path. Ok (call_line (Rmdir path))
+asked Verb.Fsync words = only_number words >>= λ descriptor. Ok (call_line (Fsync descriptor))
+asked Verb.Sync words = alone (call_line Sync) words
 asked Verb.Stat words = stat_line words
 asked Verb.Ls words = list_line words
 asked Verb.Read words = read_line words
 asked Verb.Entries words = entries_line words
-asked Verb.Undo words = alone (Call Undo) words
-asked Verb.Redo words = alone (Call Redo) words
-asked Verb.Goto words = only_number words >>= λ serial. Ok (Call (Goto serial))
-asked Verb.Rollback words = lone_name words >>= λ name. Ok (Call (Rollback name))
-asked Verb.Forget words = only_number words >>= λ count. Ok (Call (Forget count))
-asked Verb.ForgetFree words = only_number words >>= λ blocks. Ok (ForgetFree blocks)
-asked Verb.Checkpoint words = lone_name words >>= λ name. Ok (Call (Checkpoint name))
-asked Verb.Rmcheckpoint words = lone_name words >>= λ name. Ok (Call (RemoveCheckpoint name))
-asked Verb.Begin words = alone (Call Begin) words
-asked Verb.End words = alone (Call End) words
-asked Verb.Abandon words = alone (Call Abandon) words
-asked Verb.Log words = alone (Call Log) words
-asked Verb.Df words = alone (Call Df) words
-asked Verb.Space words = alone Space words
-asked Verb.Reclaim words = only_number words >>= λ budget. Ok (ReclaimStep budget)
-asked Verb.Clean words = only_number words >>= λ budget. Ok (CleanStep budget)
-asked Verb.Prepare words = only_number words >>= λ budget. Ok (PrepareStep budget)
-asked Verb.Restart words = alone Restart words
+asked Verb.Undo words = alone (call_line Undo) words
+asked Verb.Redo words = alone (call_line Redo) words
+asked Verb.Goto words = only_number words >>= λ serial. Ok (call_line (Goto serial))
+asked Verb.Rollback words = lone_name words >>= λ name. Ok (call_line (Rollback name))
+asked Verb.Forget words = only_number words >>= λ count. Ok (call_line (Forget count))
+asked Verb.ForgetFree words = only_number words >>= λ blocks. Ok (Asked (Ask.ForgetFree blocks))
+asked Verb.Checkpoint words = lone_name words >>= λ name. Ok (call_line (Checkpoint name))
+asked Verb.Rmcheckpoint words = lone_name words >>= λ name. Ok (call_line (RemoveCheckpoint name))
+asked Verb.Begin words = alone (call_line Begin) words
+asked Verb.End words = alone (call_line End) words
+asked Verb.Abandon words = alone (call_line Abandon) words
+asked Verb.Log words = alone (call_line Log) words
+asked Verb.Df words = alone (call_line Df) words
+asked Verb.Space words = alone (Asked Ask.Space) words
+asked Verb.Reclaim words = only_number words >>= λ budget. Ok (event_line (Event.ReclaimStep budget))
+asked Verb.Clean words = only_number words >>= λ budget. Ok (event_line (Event.CleanStep budget))
+asked Verb.Prepare words = only_number words >>= λ budget. Ok (event_line (Event.PrepareStep budget))
+asked Verb.Restart words = alone (event_line Event.Restart) words
 asked Verb.PlanFault words = fault_line words
 
 -- a line that asks nothing is answered by why

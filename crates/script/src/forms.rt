@@ -8,7 +8,7 @@ use crate::arguments::{
     three_words_and_view, two_words, view_of,
 };
 use crate::kinds::kind_of;
-use crate::line::Line;
+use crate::line::{Line, call_line};
 use crate::misread::Misread;
 use crate::words::{data, number, text};
 use bitflags::Flags;
@@ -24,7 +24,7 @@ pub fn open(alloc: Global, words: &[&[u8]]) -> Result<Line, Misread>
     let path = text(alloc, path)?;
     let flags = OpenFlags::from_bits_retain(number(flags)?);
     let path = parse_path(alloc, path.as_slice())?;
-    Ok(Line::Call(Call::Open { path, flags }))
+    Ok(call_line(Call::Open { path, flags }))
 }
 
 /// `pread`: a descriptor, an offset and a count.
@@ -35,7 +35,7 @@ pub fn pread(words: &[&[u8]]) -> Result<Line, Misread>
     let descriptor = number(descriptor)?;
     let offset = number(offset)?;
     let count = number(count)?;
-    Ok(Line::Call(Call::Pread {
+    Ok(call_line(Call::Pread {
         descriptor,
         offset,
         count,
@@ -51,7 +51,7 @@ pub fn pwrite(alloc: Global, words: &[&[u8]]) -> Result<Line, Misread>
     let descriptor = number(descriptor)?;
     let offset = number(offset)?;
     let bytes = data(alloc, bytes)?;
-    Ok(Line::Call(Call::Pwrite {
+    Ok(call_line(Call::Pwrite {
         descriptor,
         offset,
         bytes,
@@ -65,7 +65,7 @@ pub fn ftruncate(words: &[&[u8]]) -> Result<Line, Misread>
     let (descriptor, length) = two_words(words)?;
     let descriptor = number(descriptor)?;
     let length = number(length)?;
-    Ok(Line::Call(Call::Ftruncate { descriptor, length }))
+    Ok(call_line(Call::Ftruncate { descriptor, length }))
 }
 
 /// `write`: a path and data.
@@ -77,7 +77,7 @@ pub fn write_file(alloc: Global, words: &[&[u8]]) -> Result<Line, Misread>
     let path = text(alloc, path)?;
     let bytes = data(alloc, bytes)?;
     let path = parse_path(alloc, path.as_slice())?;
-    Ok(Line::Call(Call::WriteFile { path, bytes }))
+    Ok(call_line(Call::WriteFile { path, bytes }))
 }
 
 /// `rename`: two paths.
@@ -90,7 +90,7 @@ pub fn rename(alloc: Global, words: &[&[u8]]) -> Result<Line, Misread>
     let new = text(alloc, new)?;
     let old = parse_path(alloc, old.as_slice())?;
     let new = parse_path(alloc, new.as_slice())?;
-    Ok(Line::Call(Call::Rename { old, new }))
+    Ok(call_line(Call::Rename { old, new }))
 }
 
 /// `read`: a path, an offset, a count and perhaps a view.
@@ -103,7 +103,7 @@ pub fn read(alloc: Global, words: &[&[u8]]) -> Result<Line, Misread>
     let offset = number(offset)?;
     let count = number(count)?;
     let (path, view) = path_in_view(alloc, path.as_slice(), view)?;
-    Ok(Line::Call(Call::ReadAt {
+    Ok(call_line(Call::ReadAt {
         view,
         path,
         offset,
@@ -124,7 +124,7 @@ pub fn entries(alloc: Global, words: &[&[u8]]) -> Result<Line, Misread>
     let path = parse_path(alloc, path.as_slice())?;
     let from = parse_from(alloc, from.as_slice())?;
     let view = view_of(&view)?;
-    Ok(Line::Call(Call::Entries {
+    Ok(call_line(Call::Entries {
         view,
         path,
         from,
@@ -184,7 +184,7 @@ pub fn stat(alloc: Global, words: &[&[u8]]) -> Result<Line, Misread>
     ensures err { IfErr result (λ e. e ≢ NoMemory → stat_line (map (λ w. w.now) words.now) ≡ Err e) }
 {
     let (path, view) = path_and_view(alloc, words)?;
-    Ok(Line::Call(Call::Stat { view, path }))
+    Ok(call_line(Call::Stat { view, path }))
 }
 
 /// `ls`: a path and perhaps a view.
@@ -193,7 +193,7 @@ pub fn list(alloc: Global, words: &[&[u8]]) -> Result<Line, Misread>
     ensures err { IfErr result (λ e. e ≢ NoMemory → list_line (map (λ w. w.now) words.now) ≡ Err e) }
 {
     let (path, view) = path_and_view(alloc, words)?;
-    Ok(Line::Call(Call::List { view, path }))
+    Ok(call_line(Call::List { view, path }))
 }
 
 /// `fault`: a number and a kind.

@@ -2,7 +2,7 @@
 ghost use Rattle.std.specs.Prelude.{◌≡◌, ◌≢◌, ◌==◌, Ok, Err, IfOk, IfErr, map};
 ghost use Rattle.std.specs.List.{slice_split};
 ghost use Rattle.script.specs.declared.misread.Misread.TheVariants.{NoMemory};
-ghost use Rattle.script.specs.Lines.{alone, asked, line_of, line_of_words};
+ghost use Rattle.script.specs.Lines.{alone, asked, call_line, event_line, line_of, line_of_words};
 
 use crate::arguments::no_words;
 use crate::forms::{
@@ -12,7 +12,7 @@ use crate::forms::{
 use crate::misread::Misread;
 use crate::verb::{Verb, verb_of};
 use flash_model::FaultKind;
-use fs_types::{Call, Fault};
+use fs_types::{Ask, Call, Event, Fault};
 use std::alloc::{AllocError, Global};
 
 /// The most bytes of a line, its LF left out.
@@ -21,20 +21,8 @@ pub const LINE_LIMIT: usize = 65_536;
 /// What a line asks.
 #[derive(Debug, Drop)]
 pub enum Line {
-    /// A call.
-    Call(Call),
-    /// A step of at most this many nodes.
-    ReclaimStep(u64),
-    /// A step of cleaning of at most this many blocks.
-    CleanStep(u64),
-    /// A step of preparing of at most this many erases.
-    PrepareStep(u64),
-    /// What each version and each checkpoint keeps.
-    Space,
-    /// The fewest of the oldest versions are to be forgotten that leave so many blocks free.
-    ForgetFree(u64),
-    /// Power on, and mount.
-    Restart,
+    /// Something is asked: a call, a step, a restart, or what the history holds.
+    Ask(Ask),
     /// The `k`-th operation of the kind's class from now on, counted from 1, fails so. Who plans
     /// it refuses 0.
     PlanFault { k: u64, kind: FaultKind },
@@ -42,6 +30,20 @@ pub enum Line {
     Refused(Fault),
     /// The line has no form of a line.
     Syntax,
+}
+
+/// The line that asks for an event.
+pub(crate) fn event_line(event: Event) -> Line
+    ensures { result ≡ event_line event }
+{
+    Line::Ask(Ask::Event(event))
+}
+
+/// The line that asks for a call.
+pub(crate) fn call_line(call: Call) -> Line
+    ensures { result ≡ call_line call }
+{
+    event_line(Event::Call(call))
 }
 
 /// This line, where no word follows.
@@ -59,43 +61,43 @@ fn line_by_verb(alloc: Global, verb: Verb, words: &[&[u8]]) -> Result<Line, Misr
 {
     match verb {
         Verb::Open => open(alloc, words),
-        Verb::Close => only_number(words).map(|descriptor| Line::Call(Call::Close { descriptor })),
+        Verb::Close => only_number(words).map(|descriptor| call_line(Call::Close { descriptor })),
         Verb::Pread => pread(words),
         Verb::Pwrite => pwrite(alloc, words),
         Verb::Ftruncate => ftruncate(words),
         Verb::Write => write_file(alloc, words),
         Verb::Rename => rename(alloc, words),
-        Verb::Unlink => only_path(alloc, words).map(|path| Line::Call(Call::Unlink { path })),
-        Verb::Mkdir => only_path(alloc, words).map(|path| Line::Call(Call::Mkdir { path })),
-        Verb::Rmdir => only_path(alloc, words).map(|path| Line::Call(Call::Rmdir { path })),
-        Verb::Fsync => only_number(words).map(|descriptor| Line::Call(Call::Fsync { descriptor })),
-        Verb::Sync => line_without_words(words, Line::Call(Call::Sync)),
+        Verb::Unlink => only_path(alloc, words).map(|path| call_line(Call::Unlink { path })),
+        Verb::Mkdir => only_path(alloc, words).map(|path| call_line(Call::Mkdir { path })),
+        Verb::Rmdir => only_path(alloc, words).map(|path| call_line(Call::Rmdir { path })),
+        Verb::Fsync => only_number(words).map(|descriptor| call_line(Call::Fsync { descriptor })),
+        Verb::Sync => line_without_words(words, call_line(Call::Sync)),
         Verb::Stat => stat(alloc, words),
         Verb::Ls => list(alloc, words),
         Verb::Read => read(alloc, words),
         Verb::Entries => entries(alloc, words),
-        Verb::Undo => line_without_words(words, Line::Call(Call::Undo)),
-        Verb::Redo => line_without_words(words, Line::Call(Call::Redo)),
-        Verb::Goto => only_number(words).map(|serial| Line::Call(Call::Goto { serial })),
-        Verb::Rollback => only_name(alloc, words).map(|name| Line::Call(Call::Rollback { name })),
-        Verb::Forget => only_number(words).map(|count| Line::Call(Call::Forget { count })),
-        Verb::ForgetFree => only_number(words).map(Line::ForgetFree),
-        Verb::Checkpoint => only_name(alloc, words).map(|name| Line::Call(Call::Checkpoint {
+        Verb::Undo => line_without_words(words, call_line(Call::Undo)),
+        Verb::Redo => line_without_words(words, call_line(Call::Redo)),
+        Verb::Goto => only_number(words).map(|serial| call_line(Call::Goto { serial })),
+        Verb::Rollback => only_name(alloc, words).map(|name| call_line(Call::Rollback { name })),
+        Verb::Forget => only_number(words).map(|count| call_line(Call::Forget { count })),
+        Verb::ForgetFree => only_number(words).map(|blocks| Line::Ask(Ask::ForgetFree(blocks))),
+        Verb::Checkpoint => only_name(alloc, words).map(|name| call_line(Call::Checkpoint {
             name,
         })),
-        Verb::Rmcheckpoint => only_name(alloc, words).map(|name| Line::Call(Call::RemoveCheckpoint {
+        Verb::Rmcheckpoint => only_name(alloc, words).map(|name| call_line(Call::RemoveCheckpoint {
             name,
         })),
-        Verb::Begin => line_without_words(words, Line::Call(Call::Begin)),
-        Verb::End => line_without_words(words, Line::Call(Call::End)),
-        Verb::Abandon => line_without_words(words, Line::Call(Call::Abandon)),
-        Verb::Log => line_without_words(words, Line::Call(Call::Log)),
-        Verb::Df => line_without_words(words, Line::Call(Call::Df)),
-        Verb::Space => line_without_words(words, Line::Space),
-        Verb::Reclaim => only_number(words).map(Line::ReclaimStep),
-        Verb::Clean => only_number(words).map(Line::CleanStep),
-        Verb::Prepare => only_number(words).map(Line::PrepareStep),
-        Verb::Restart => line_without_words(words, Line::Restart),
+        Verb::Begin => line_without_words(words, call_line(Call::Begin)),
+        Verb::End => line_without_words(words, call_line(Call::End)),
+        Verb::Abandon => line_without_words(words, call_line(Call::Abandon)),
+        Verb::Log => line_without_words(words, call_line(Call::Log)),
+        Verb::Df => line_without_words(words, call_line(Call::Df)),
+        Verb::Space => line_without_words(words, Line::Ask(Ask::Space)),
+        Verb::Reclaim => only_number(words).map(|budget| event_line(Event::ReclaimStep(budget))),
+        Verb::Clean => only_number(words).map(|budget| event_line(Event::CleanStep(budget))),
+        Verb::Prepare => only_number(words).map(|budget| event_line(Event::PrepareStep(budget))),
+        Verb::Restart => line_without_words(words, event_line(Event::Restart)),
         Verb::PlanFault => fault(words),
     }
 }

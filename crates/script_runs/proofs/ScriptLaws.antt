@@ -6,7 +6,7 @@ use Rattle.script.specs.Lines.{line_of}
 use Rattle.script.specs.declared.line.Line.{Line}
 use Rattle.script.specs.declared.line_answer.LineAnswer.{LineAnswer}
 use Rattle.undofs.specs.Runs.{World, Run}
-use Rattle.undofs.specs.declared.asks.Ask.{Ask}
+use Rattle.fs_types.specs.declared.ask.Ask.{Ask}
 use Rattle.undofs.proofs.AskedRuns.{run_on}
 use Rattle.script_runs.specs.Scripts.{Scene, ask_of, RepliesBy, CarriesOut, LineAsked, AreAsked, ScriptLaw}
 

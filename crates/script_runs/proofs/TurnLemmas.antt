@@ -13,7 +13,7 @@ use Rattle.system.specs.Mounts.{IsMountOf}
 use Rattle.system.specs.Systems.{IsSystem}
 use Rattle.system.specs.declared.systems.System.{System}
 use Rattle.undofs.specs.Sessions.{Stands, world}
-use Rattle.undofs.specs.declared.asks.Ask.{Ask}
+use Rattle.fs_types.specs.declared.ask.Ask.{Ask}
 use Rattle.undofs.proofs.AskedRuns.{ask_law}
 use Rattle.undofs.proofs.SessionSteps.{mount_begins}
 use Rattle.script_runs.specs.Plans.{PlanGoesOn}

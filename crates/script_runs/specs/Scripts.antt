@@ -33,7 +33,7 @@ use Rattle.mounting.specs.Saved.{saved_trees}
 use Rattle.undofs.specs.Asks.{AskedAs, HappensAsk}
 use Rattle.undofs.specs.Runs.{World, Mounts}
 use Rattle.undofs.specs.Sessions.{Session}
-use Rattle.undofs.specs.declared.asks.Ask.{Ask}
+use Rattle.fs_types.specs.declared.ask.Ask.{Ask}
 use Rattle.undofs.specs.declared.asks.Told.{Told}
 use Rattle.script_runs.specs.Plans.{PlanGoesOn, IsCalm}
 use Rattle.script_runs.specs.declared.scripts.Refusal.{Refusal}
@@ -42,13 +42,7 @@ use Rattle.script_runs.specs.declared.scripts.Stop.{Stop}
 
 -- what a line asks for: a call, a step of reclaiming, of cleaning or of preparing, a restart, or what the history holds
 abbrev pub ask_of : Line → Option Ask
-ask_of (Line.Call call) = Some (Ask.Event (Event.Call call))
-ask_of (Line.ReclaimStep budget) = Some (Ask.Event (Event.ReclaimStep budget))
-ask_of (Line.CleanStep budget) = Some (Ask.Event (Event.CleanStep budget))
-ask_of (Line.PrepareStep budget) = Some (Ask.Event (Event.PrepareStep budget))
-ask_of Line.Restart = Some (Ask.Event Event.Restart)
-ask_of Line.Space = Some Ask.Space
-ask_of (Line.ForgetFree blocks) = Some (Ask.ForgetFree blocks)
+ask_of (Line.Ask ask) = Some ask
 ask_of _ = None
 
 -- what is told of a version at a place and of a checkpoint, with what they keep

@@ -13,7 +13,7 @@ use Rattle.system.specs.declared.systems.System.{System}
 use Rattle.undofs.specs.Runs.{World}
 use Rattle.undofs.specs.Asks.{ServesAsk}
 use Rattle.undofs.specs.Sessions.{Stands, world}
-use Rattle.undofs.specs.declared.asks.Ask.{Ask}
+use Rattle.fs_types.specs.declared.ask.Ask.{Ask}
 use Rattle.undofs.specs.declared.asks.Told.{Told}
 use Rattle.script_runs.specs.Plans.{PlanGoesOn}
 use Rattle.script_runs.specs.Scripts.{Scene, ask_of, Tells, IsStillAnswer, CarriesOut, Streams, EndsOrStops, answer_text}

@@ -7,12 +7,12 @@ ghost use Rattle.script_runs.specs.Turns.{Asks, Gets, seat_at, Does, Writes, Lin
 use crate::planning::{Followed, Planning, Unplanned};
 use crate::space_lines::answer_space;
 use flash_model::{Flash, Planned};
-use fs_types::{Answer, Event, Fault};
+use fs_types::{Answer, Ask, Fault};
 use script::{Line, LineAnswer, LineReader, Taken, print_answer, read_line, write_out};
 use std::alloc::Global;
 use std::io::{Read, Write};
 use thiserror::Error;
-use undofs::{Ask, System, Told};
+use undofs::{System, Told};
 
 /// Why a script did not run to its end.
 #[derive(Clone, Copy, Debug, PartialEq, Eq, Error)]
@@ -222,19 +222,7 @@ fn carry_out_on<F: Flash, P: Planning<F>>(
     ensures does { Does line (seat_at (F.device flash.old) system.old (P.plan flash.old)) result (seat_at (F.device flash.new) system.new (P.plan flash.new)) }
 {
     match line {
-        Line::Call(call) => ask::<F, P>(alloc, flash, system, Ask::Event(Event::Call(call))),
-        Line::ReclaimStep(budget) => {
-            ask::<F, P>(alloc, flash, system, Ask::Event(Event::ReclaimStep(budget)))
-        }
-        Line::CleanStep(budget) => {
-            ask::<F, P>(alloc, flash, system, Ask::Event(Event::CleanStep(budget)))
-        }
-        Line::PrepareStep(budget) => {
-            ask::<F, P>(alloc, flash, system, Ask::Event(Event::PrepareStep(budget)))
-        }
-        Line::Restart => ask::<F, P>(alloc, flash, system, Ask::Event(Event::Restart)),
-        Line::Space => ask::<F, P>(alloc, flash, system, Ask::Space),
-        Line::ForgetFree(blocks) => ask::<F, P>(alloc, flash, system, Ask::ForgetFree(blocks)),
+        Line::Ask(asked) => ask::<F, P>(alloc, flash, system, asked),
         Line::Refused(fault) => LineAnswer::Told(Answer::Refused(fault)),
         Line::PlanFault { k, kind } => P::plan_fault(flash, k, kind),
         Line::Syntax => LineAnswer::Syntax,

@@ -80,7 +80,7 @@ impl<'a> Script<'a> {
 /// asks `write_files`.
 pub fn line_of(alloc: Global, line: &str) -> Result<Line, Fault> {
     match line.strip_prefix("files ") {
-        Some(words) => Ok(Line::Call(write_files_of(alloc, words)?)),
+        Some(words) => Ok(Line::Ask(Ask::Event(Event::Call(write_files_of(alloc, words)?)))),
         None => Ok(read_line(alloc, line.as_bytes())?),
     }
 }
@@ -88,12 +88,8 @@ pub fn line_of(alloc: Global, line: &str) -> Result<Line, Fault> {
 /// What a line asks of a mounted system, if it does.
 pub fn ask_of(alloc: Global, line: &str) -> Result<Option<Ask>, Fault> {
     Ok(match line_of(alloc, line)? {
-        Line::Call(call) => Some(Ask::Event(Event::Call(call))),
-        Line::ReclaimStep(budget) => Some(Ask::Event(Event::ReclaimStep(budget))),
-        Line::CleanStep(budget) => Some(Ask::Event(Event::CleanStep(budget))),
-        Line::PrepareStep(budget) => Some(Ask::Event(Event::PrepareStep(budget))),
-        Line::Space => Some(Ask::Space),
-        Line::ForgetFree(blocks) => Some(Ask::ForgetFree(blocks)),
+        Line::Ask(Ask::Event(Event::Restart)) => None,
+        Line::Ask(ask) => Some(ask),
         _ => None,
     })
 }

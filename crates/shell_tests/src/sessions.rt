@@ -2,7 +2,7 @@
 use crate::flashes::{SIZES, formatted};
 use flash_model::{FaultKind, Planned, PlannedFault};
 use flash_simulation::SimFlash;
-use fs_types::{Answer, Event, Fault};
+use fs_types::{Answer, Ask, Event, Fault};
 use script::{Line, LineAnswer, print_answer, read_line};
 use std::alloc::Global;
 use std::process::Abort;
@@ -12,11 +12,7 @@ use undofs::{format, run_session};
 /// The event that a line of a script spells.
 fn event_of(alloc: Global, line: &str) -> Result<Event, Fault> {
     match read_line(alloc, line.as_bytes())? {
-        Line::Call(call) => Ok(Event::Call(call)),
-        Line::ReclaimStep(budget) => Ok(Event::ReclaimStep(budget)),
-        Line::CleanStep(budget) => Ok(Event::CleanStep(budget)),
-        Line::PrepareStep(budget) => Ok(Event::PrepareStep(budget)),
-        Line::Restart => Ok(Event::Restart),
+        Line::Ask(Ask::Event(event)) => Ok(event),
         _ => Err(Fault::Invalid),
     }
 }

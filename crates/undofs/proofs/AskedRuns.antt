@@ -19,7 +19,7 @@ use Rattle.system.specs.declared.version_space.HistorySpace.{HistorySpace}
 use Rattle.undofs.specs.Asks.{ServesAsk, AskedAs, IsEvent, TellsNothing, IsLook, DoesNothing, FindsNone, ForgetsNone, ForgetsSome, IsRefused, HappensAsk, AskLaw}
 use Rattle.undofs.specs.Runs.{World, Run}
 use Rattle.undofs.specs.Sessions.{Stands, world}
-use Rattle.undofs.specs.declared.asks.Ask.{Ask}
+use Rattle.fs_types.specs.declared.ask.Ask.{Ask}
 use Rattle.undofs.specs.declared.asks.Told.{Told}
 use Rattle.undofs.proofs.SessionSteps.{answer_of, call_serves, serve_law}
 

@@ -13,7 +13,7 @@ use Rattle.system.specs.VersionSpace.{TellsHistorySpace}
 use Rattle.system.specs.declared.systems.System.{System}
 use Rattle.undofs.specs.Runs.{World, Run}
 use Rattle.undofs.specs.Sessions.{IsIdle, Moves, Serves, Stands, world}
-use Rattle.undofs.specs.declared.asks.Ask.{Ask}
+use Rattle.fs_types.specs.declared.ask.Ask.{Ask}
 use Rattle.undofs.specs.declared.asks.Told.{Told}
 
 -- this is told to what is asked, on any flash and on the system that is mounted on it, if one is

@@ -2,25 +2,13 @@
 ghost use Rattle.std.specs.Prelude.{◌≡◌, IfSome};
 ghost use Rattle.system.specs.Systems.{IsSystem};
 ghost use Rattle.undofs.specs.Asks.{ServesAsk};
-ghost use Rattle.undofs.specs.declared.asks.Ask.{Ask};
+ghost use Rattle.fs_types.specs.declared.ask.Ask.{Ask};
 
 use crate::sessions::serve;
 use flash_model::Flash;
-use fs_types::{Answer, Event};
+use fs_types::{Answer, Ask};
 use std::alloc::Global;
 use system::{HistorySpace, System};
-
-/// What is asked of a flash and of the system on it.
-#[derive(Debug, Drop)]
-pub enum Ask {
-    /// An event.
-    Event(Event),
-    /// What each version and each checkpoint keeps ([`System::space_by_version`]).
-    Space,
-    /// The fewest of the oldest versions are to be forgotten that leave so many blocks free
-    /// ([`System::forget_until_free`]).
-    ForgetFree(u64),
-}
 
 /// What is told to it.
 #[derive(Debug, Drop)]

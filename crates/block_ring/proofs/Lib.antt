@@ -2,5 +2,5 @@ pub mod SetBits
 pub mod RingOrder
 pub mod RangeCounts
 pub mod SparseLists
-pub mod SparseWords
-pub mod SparseBytes
+pub mod WordChunks
+pub mod BytesOfWords

@@ -3,7 +3,7 @@ use Rattle.std.specs.Prelude.{slice_index, slice_set}
 use Rattle.std.proofs.lemmas.Grind.{common_steps}
 use Rattle.std.proofs.lemmas.List.{length-map}
 use Rattle.block_ring.specs.SparseWords.{lists_of, word_in}
-use Rattle.block_ring.proofs.SparseWords.{push_words}
+use Rattle.block_ring.proofs.WordChunks.{push_words}
 use Rattle.block_ring.proofs.sparse_words.made_chunk.Goals as goal
 
 pub returns-clause-words : goal.returns-clause-words

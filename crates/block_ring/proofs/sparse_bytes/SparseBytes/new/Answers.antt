@@ -1,4 +1,4 @@
-use Rattle.block_ring.proofs.SparseBytes.{zero_byte}
+use Rattle.block_ring.proofs.BytesOfWords.{zero_byte}
 use Rattle.block_ring.proofs.SparseLists.{listed_none}
 use Rattle.block_ring.proofs.sparse_bytes.SparseBytes.new.Goals as goal
 

@@ -4,7 +4,7 @@ use Rattle.std.specs.Int.{w32, to_le_bytes, from_le_bytes}
 use Rattle.std.proofs.lemmas.List.FromFn.{length-map-range_with_len}
 use Rattle.std.proofs.lemmas.Result.{on_ok_weaker}
 use Rattle.block_ring.specs.SparseBytes.{byte_in, bytes_of}
-use Rattle.block_ring.proofs.SparseBytes.{bytes_small, byte_here, byte_other}
+use Rattle.block_ring.proofs.BytesOfWords.{bytes_small, byte_here, byte_other}
 use Rattle.block_ring.proofs.SparseLists.{listed_set}
 use Rattle.block_ring.proofs.sparse_bytes.SparseBytes.set.Goals as goal
 

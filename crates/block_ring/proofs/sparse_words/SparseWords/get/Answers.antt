@@ -2,7 +2,7 @@ use Rattle.std.proofs.Common.{◌≡◌, ℕ, suc, ◌-◌, ◌/◌, ◌%◌, �
 use Rattle.std.specs.Prelude.{slice_index, slice_index_or}
 use Rattle.std.proofs.lemmas.List.{get_or-map, length-map}
 use Rattle.block_ring.specs.SparseWords.{word_in, lists_of}
-use Rattle.block_ring.proofs.SparseWords.{word_none, word_some}
+use Rattle.block_ring.proofs.WordChunks.{word_none, word_some}
 use Rattle.block_ring.proofs.SparseLists.{listed_get, listed_past}
 use Rattle.block_ring.proofs.sparse_words.SparseWords.get.Goals as goal
 

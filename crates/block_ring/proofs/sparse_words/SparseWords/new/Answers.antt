@@ -1,6 +1,6 @@
 use Rattle.std.proofs.Common.{ℕ, List, ap, ◌/◌}
 use Rattle.std.specs.Prelude.{slice_index}
-use Rattle.block_ring.proofs.SparseWords.{word_none}
+use Rattle.block_ring.proofs.WordChunks.{word_none}
 use Rattle.block_ring.proofs.SparseLists.{listed_none}
 use Rattle.block_ring.proofs.sparse_words.SparseWords.new.Goals as goal
 

@@ -6,7 +6,7 @@ use Rattle.std.proofs.lemmas.List.{get_or-map, length-map, map-set}
 use Rattle.std.proofs.lemmas.List.FromFn.{length-map-range_with_len}
 use Rattle.std.proofs.lemmas.Result.{err_from_is_err_and}
 use Rattle.block_ring.specs.SparseWords.{AreChunked, word_in, words_of, lists_of}
-use Rattle.block_ring.proofs.SparseWords.{put_here, put_other, put_chunked, same_words, same_chunked}
+use Rattle.block_ring.proofs.WordChunks.{put_here, put_other, put_chunked, same_words, same_chunked}
 use Rattle.block_ring.proofs.SparseLists.{listed_same, listed_set, all_written}
 use Rattle.block_ring.proofs.sparse_words.SparseWords.set.Goals as goal
 

@@ -15,6 +15,7 @@ use Rattle.tree_counts.specs.Sizes.{sum_below}
 use Rattle.history_copies.proofs.Built.{build_law}
 use Rattle.inquiries.specs.Folders.{IsSmall}
 use Rattle.inquiries.specs.Items.{item_at, items_below}
+use Rattle.inquiries.specs.Owners.{item_owners}
 use Rattle.inquiries.specs.PathBytes.{item_bytes}
 use Rattle.copies.specs.Calls.{IsReady}
 use Rattle.copies.specs.Copied.{Holds}
@@ -42,6 +43,7 @@ small_bare = record {
   entries = let none = no_sum (λ entry. 1) in omega (arith, none);
   bytes = let none = no_sum (λ entry. length (bytes_of entry)) in omega (arith, none);
   paths = let none = ap (sum_by item_bytes) no_items in omega (arith, none);
+  owners = let none = ap (sum_by item_owners) no_items in omega (arith, none);
 }
 
 pub fresh_ready : (m : Machine) (limit : ℕ) → m ≡ mounted (fresh limit bare) → IsReady m

@@ -2,6 +2,7 @@ pub mod Counted
 pub mod DifferenceLemmas
 pub mod Entries
 pub mod FolderLemmas
+pub mod ItemLemmas
 pub mod KeptSpace
 pub mod KeptTrees
 pub mod LineLemmas

@@ -4,6 +4,7 @@ use Rattle.std.proofs.lemmas.Bool.{true≢false, eq-eqb, ne_eqb}
 use Rattle.std.proofs.lemmas.List.{get_or_default}
 use Rattle.std.proofs.lemmas.List.Elements.{All-append, All-map}
 use Rattle.std.proofs.lemmas.Slice.Eq.{bytes_eq-Decides}
+use Rattle.std.specs.Bool.{Decides}
 use Rattle.std.specs.Prelude.{All, IfOk, not, ◌==◌}
 use Rattle.std.specs.FinMap.{get}
 use Rattle.std.specs.Option.{option_map}
@@ -22,8 +23,9 @@ use Rattle.tree_counts.specs.Sizes.{in_word, size_of}
 use Rattle.tree_counts.specs.declared.tree_size.TreeSize.{TreeSize}
 use Rattle.inquiries.specs.Counterparts.{counterpart_of, stat_there}
 use Rattle.inquiries.specs.Differences.{difference_below}
+use Rattle.inquiries.specs.Folders.{IsSmall}
 use Rattle.inquiries.specs.Items.{items_below}
-use Rattle.inquiries.specs.PathHistories.{is_changed, is_checkpoint, is_filled, is_other, is_told, kept_views, looked_below}
+use Rattle.inquiries.specs.PathHistories.{is_changed, is_checkpoint, is_filled, is_other, is_told, kept_views, looked_below, IsSmallBelow}
 use Rattle.inquiries.specs.Versions.{kept_names, kept_serials}
 use Rattle.inquiries.specs.Within.{have_other_lengths}
 use Rattle.inquiries.specs.declared.counterpart.Counterpart.{Counterpart}
@@ -84,6 +86,18 @@ directory_at t path stat n told dir = go (get t path) (sym dir ∙ told)
 pub looked_directory : (t : Tree) (path : Path) (stat : Option Stat) (n : ℕ) (size : TreeSize) → stat ≡ stat_there t path → stat ≡ Some (Stat.Dir n) → size ≡ size_of t → size.entries ≡ in_word (looked_below t (get t path))
 looked_directory t path stat n size told dir is =
     ap (λ (s : TreeSize). s.entries) is ∙ ap in_word (entries_are t) ∙ sym (ap (λ (o : Option Entry). in_word (looked_below t o)) (directory_at t path stat n told dir))
+
+-- that a tree is small is asked where a directory stands at the path alone
+pub small_directory : (t : Tree) (path : Path) (stat : Option Stat) (n : ℕ) (small : Bool) → stat ≡ stat_there t path → stat ≡ Some (Stat.Dir n) → Decides small (IsSmall t) → Decides small (IsSmallBelow t (get t path))
+small_directory t path stat n small told dir decides = subst (λ (o : Option Entry). Decides small (IsSmallBelow t o)) (sym (directory_at t path stat n told dir)) decides
+
+not_directory : (t : Tree) (path : Path) (o : Option Entry) (stat : Option Stat) → stat ≡ option_map (λ (entry : Entry). stat_of t path (Some entry)) o → ((n : ℕ) → stat ≡ Some (Stat.Dir n) → ⊥) → IsSmallBelow t o
+not_directory t path None stat told never = tt
+not_directory t path (Some Entry.Dir) stat told never = absurd (never _ told)
+not_directory t path (Some (Entry.File bytes)) stat told never = tt
+
+pub small_elsewhere : (t : Tree) (path : Path) (stat : Option Stat) → stat ≡ stat_there t path → ((n : ℕ) → stat ≡ Some (Stat.Dir n) → ⊥) → Decides true (IsSmallBelow t (get t path))
+small_elsewhere t path stat told never = (λ any. not_directory t path (get t path) stat told never, λ small. refl)
 
 -- ---- what stands in both trees
 

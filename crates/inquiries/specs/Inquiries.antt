@@ -1,5 +1,5 @@
 -- What is told of a file system to who asks: over the trees of its machine, and of what they keep of the flash.
-use Rattle.std.specs.Prelude.{◌≡◌, ◌⊎◌, ◌≤◌, ◌<◌, ◌+◌, ℕ, Bool, true, false, Option, None, List, length, sum_by}
+use Rattle.std.specs.Prelude.{◌≡◌, ◌⊎◌, ◌≤◌, ◌<◌, ◌+◌, ℕ, Bool, true, false, Option, None, List, length, sum_by, All}
 use Rattle.std.specs.Option.{option_or}
 use Rattle.fs_types.specs.declared.call.Call.{Call}
 use Rattle.fs_types.specs.declared.fault.Fault.{Fault}
@@ -13,9 +13,10 @@ use Rattle.undofs.specs.declared.fs.Fs.{Fs}
 use Rattle.working_state.specs.Seen.{machine_on}
 use Rattle.working_state.specs.declared.state.State.{State}
 use Rattle.inquiries.specs.Differences.{difference_lines}
+use Rattle.inquiries.specs.Folders.{IsSmall}
 use Rattle.inquiries.specs.Items.{items_of}
-use Rattle.inquiries.specs.PathBytes.{HasShortPaths}
-use Rattle.inquiries.specs.PathHistories.{history_lines, kept_views, looked_at, nowhere_in}
+use Rattle.inquiries.specs.Listable.{IsListable}
+use Rattle.inquiries.specs.PathHistories.{history_lines, kept_views, looked_at, nowhere_in, IsSmallAt}
 use Rattle.inquiries.specs.Printed.{list_lines, tree_lines}
 use Rattle.inquiries.specs.Readings.{shown, Fails}
 use Rattle.inquiries.specs.Versions.{AreVersionLines}
@@ -45,24 +46,25 @@ look_count m (Inquiry.Differences old new) = length (items_of (view_tree m old))
 look_count m (Inquiry.History path) = sum_by (looked_at m path) (kept_views m)
 look_count m _ = 0
 
--- the trees of which all paths are kept have short ones
-abbrev pub HaveShortPaths : Machine → Inquiry → Type 0
-HaveShortPaths m (Inquiry.Tree view) = HasShortPaths (view_tree m view)
-HaveShortPaths m (Inquiry.Differences old new) = HasShortPaths (view_tree m old) × HasShortPaths (view_tree m new)
-HaveShortPaths m _ = Unit {0}
+-- a tree that is listed whole is listable, and one of which all may be read is small
+abbrev pub HasSmallTrees : Machine → Inquiry → Type 0
+HasSmallTrees m (Inquiry.Tree view) = IsListable (view_tree m view)
+HasSmallTrees m (Inquiry.Differences old new) = IsSmall (view_tree m old) × IsSmall (view_tree m new)
+HasSmallTrees m (Inquiry.History path) = All (IsSmallAt m path) (kept_views m)
+HasSmallTrees m _ = Unit {0}
 
 -- of two views of the same tree nothing differs, whatever stands in it
 abbrev pub ShowSame : Machine → Inquiry → Type 0
 ShowSame m (Inquiry.Differences old new) = view_tree m old ≡ view_tree m new
 ShowSame m _ = ⊥
 
--- no more are looked at than may be, and no more bytes of paths are kept
+-- no more are looked at than may be, in trees that have not too much
 abbrev pub HasFewLines : Machine → Inquiry → Type 0
-HasFewLines m inquiry = ShowSame m inquiry ⊎ ((look_count m inquiry ≤ MAX_LINES) × HaveShortPaths m inquiry)
+HasFewLines m inquiry = ShowSame m inquiry ⊎ ((look_count m inquiry ≤ MAX_LINES) × HasSmallTrees m inquiry)
 
 -- more would have to be
 abbrev pub HasManyLines : Machine → Inquiry → Type 0
-HasManyLines m inquiry = (MAX_LINES < look_count m inquiry) ⊎ (HaveShortPaths m inquiry → ⊥)
+HasManyLines m inquiry = (MAX_LINES < look_count m inquiry) ⊎ (HasSmallTrees m inquiry → ⊥)
 
 -- what is told of a system that is mounted on a flash
 abbrev pub IsTold : Device → State → Inquiry → List ℕ → Type 0

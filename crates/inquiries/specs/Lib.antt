@@ -4,6 +4,8 @@ pub mod Differences
 pub mod Folders
 pub mod Inquiries
 pub mod Items
+pub mod Listable
+pub mod Owners
 pub mod PathBytes
 pub mod PathHistories
 pub mod Printed

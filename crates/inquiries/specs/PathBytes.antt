@@ -1,5 +1,5 @@
 -- How many bytes paths have.
-use Rattle.std.specs.Prelude.{◌≡◌, ◌<◌, ◌≤◌, ℕ, ◌+◌, Option, Some, None, length, sum_by}
+use Rattle.std.specs.Prelude.{◌≤◌, ℕ, ◌+◌, length, sum_by}
 use Rattle.fs_types.specs.Names.{Path}
 use Rattle.plain_trees.specs.Trees.{Tree}
 use Rattle.inquiries.specs.Items.{items_of}
@@ -16,8 +16,3 @@ item_bytes item = path_bytes item.path
 -- the paths of all that stands in a tree have no more bytes together than are kept
 abbrev pub HasShortPaths : Tree → Type 0
 HasShortPaths t = sum_by item_bytes (items_of t) ≤ MAX_PATH_BYTES
-
--- so much room is left by so many bytes; none where they are more
-abbrev pub IsRoomLeft : ℕ → ℕ → Option ℕ → Type 0
-IsRoomLeft room bytes (Some left) = left + bytes ≡ room
-IsRoomLeft room bytes None = room < bytes

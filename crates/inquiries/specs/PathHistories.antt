@@ -14,6 +14,7 @@ use Rattle.history_machine.specs.Machine.{Machine, view_tree}
 use Rattle.script.specs.Replies.{escaped}
 use Rattle.inquiries.specs.Counterparts.{stat_there}
 use Rattle.inquiries.specs.Differences.{difference_below}
+use Rattle.inquiries.specs.Folders.{IsSmall}
 use Rattle.inquiries.specs.Items.{items_of}
 use Rattle.inquiries.specs.Versions.{kept_serials, kept_names}
 
@@ -36,6 +37,14 @@ looked_below t _ = 0
 
 abbrev pub looked_at : Machine → Path → View → ℕ
 looked_at m path view = looked_below (view_tree m view) (get (view_tree m view) path)
+
+-- such a tree is small enough that all of it is read
+abbrev pub IsSmallBelow : Tree → Option Entry → Type 0
+IsSmallBelow t (Some Entry.Dir) = IsSmall t
+IsSmallBelow t _ = Unit {0}
+
+abbrev pub IsSmallAt : Machine → Path → View → Type 0
+IsSmallAt m path view = IsSmallBelow (view_tree m view) (get (view_tree m view) path)
 
 -- whether one of these is other than the other: of another kind, a file with other bytes, or a directory below which something
 -- differs

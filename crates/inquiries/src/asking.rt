@@ -39,9 +39,11 @@ pub enum AskFault {
 /// [`AskFault::TooManyLines`] for [`Inquiry::Tree`] where its answer would have over
 /// [`MAX_LINES`](crate::MAX_LINES) lines; for [`Inquiry::Differences`] where two trees of different roots have
 /// more entries together; for [`Inquiry::History`] where the trees have in which a directory stands at the
-/// path. That is counted by node before a tree is walked. For the first two also where the paths of a tree
-/// have over [`MAX_PATH_BYTES`](crate::MAX_PATH_BYTES), which is counted before one of them is kept. So the
-/// work is bounded whatever the flash holds.
+/// path. That is counted by node before a tree is walked. For [`Inquiry::Tree`] also where the paths of the
+/// tree have over [`MAX_PATH_BYTES`](crate::MAX_PATH_BYTES), or over [`MAX_OWNERS`](crate::MAX_OWNERS) of these
+/// are directories and files with bytes, which is counted before one of them is kept. For the other two where a
+/// tree of these has more than [`list_folder`](crate::list_folder) lists. So the work in each tree is bounded
+/// whatever the flash holds.
 pub fn ask<F: Flash>(alloc: Global, flash: &mut F, inquiry: &Inquiry) -> Result<Bytes, AskFault>
     ensures ok { IfOk result (Tells (F.device flash.old) inquiry.now) }
     ensures pages { (p : ℕ) → (F.device flash.new).pages p ≡ (F.device flash.old).pages p }

@@ -8,9 +8,9 @@ ghost use Rattle.tree_counts.specs.Sizes.{size_of};
 ghost use Rattle.history_machine.specs.History.{view_refusal};
 ghost use Rattle.history_machine.specs.Machine.{view_tree};
 ghost use Rattle.inquiries.specs.Differences.{line_beside, file_beside, lines_beside, lines_below, difference_below, difference_lines};
+ghost use Rattle.inquiries.specs.Folders.{IsSmall};
 ghost use Rattle.inquiries.specs.Inquiries.{inquiry_refusal, HasFewLines, Untold};
 ghost use Rattle.inquiries.specs.Items.{items_of, IsItemOf, IsDirectoryOf, IsFileOf};
-ghost use Rattle.inquiries.specs.PathBytes.{HasShortPaths};
 ghost use Rattle.inquiries.specs.PathHistories.{is_filled};
 ghost use Rattle.inquiries.specs.Readings.{shown, IsUnchanged, Fails, Meets};
 ghost use Rattle.inquiries.specs.Within.{is_below, tells_below};
@@ -18,19 +18,19 @@ ghost use Rattle.inquiries.specs.declared.inquiry.Inquiry.{Inquiry};
 ghost use Rattle.inquiries.specs.declared.tell_fault.TheConstants.{MAX_LINES};
 
 use crate::counterpart::{Counterpart, find_counterpart};
+use crate::folders::is_small;
 use crate::items::Item;
-use crate::path_room::are_paths_short;
 use crate::printing::{Side, print_change, print_marked};
 use crate::pruned::differing_items;
-use crate::reading_calls::{check_view, read_file, show_same, size_of_tree};
+use crate::reading_calls::{check_view, read_file, read_item, show_same, size_of_tree};
 use crate::tell_fault::{MAX_LINES, TellFault};
 use flash_model::Flash;
 use fs_types::{Bytes, Fault, Path, View};
 use std::alloc::Global;
 use undofs::{Fs, TreeSize};
 
-/// The lines of what differs between the trees of two views, where these have not too many entries. Two
-/// views of one root are not looked at.
+/// The lines of what differs between the trees of two views, where these have not too many entries, and
+/// neither has too much. Two views of one root are not looked at.
 pub(crate) fn tell_differences<F: Flash>(
     alloc: Global,
     fs: &mut Fs<'_, F>,
@@ -51,8 +51,8 @@ pub(crate) fn tell_differences<F: Flash>(
     if !are_few(first, second) {
         return Err(TellFault::TooManyLines);
     }
-    let short = are_both_short(alloc, fs, old, first, new, second)?;
-    if !short {
+    let small = are_both_small(alloc, fs, old, first, new, second)?;
+    if !small {
         return Err(TellFault::TooManyLines);
     }
     Ok(list_differences(alloc, fs, old, new)?)
@@ -68,8 +68,8 @@ fn are_few(first: TreeSize, second: TreeSize) -> bool
     }
 }
 
-/// Whether the paths are short of two trees, which have these sizes.
-fn are_both_short<F: Flash>(
+/// Whether two trees are small enough that all of them is read, which have these sizes.
+fn are_both_small<F: Flash>(
     alloc: Global,
     fs: &mut Fs<'_, F>,
     old: &View,
@@ -82,14 +82,14 @@ fn are_both_short<F: Flash>(
     requires new { view_refusal (shown fs.old).history new.now ≡ None }
     requires second { second ≡ size_of (view_tree (shown fs.old) new.now) }
     ensures same { IsUnchanged fs.old fs.new }
-    ensures ok { IfOk result (λ short. IsTrue short ↔ (HasShortPaths (view_tree (shown fs.old) old.now) × HasShortPaths (view_tree (shown fs.old) new.now))) }
+    ensures ok { IfOk result (λ small. IsTrue small ↔ (IsSmall (view_tree (shown fs.old) old.now) × IsSmall (view_tree (shown fs.old) new.now))) }
     ensures err { IfErr result (Meets (F.device fs.old.flash.now) (F.device fs.new.flash.now)) }
 {
-    let short = are_paths_short(alloc, fs, old, first)?;
-    if !short {
+    let small = is_small(alloc, fs, old, first)?;
+    if !small {
         return Ok(false);
     }
-    are_paths_short(alloc, fs, new, second)
+    is_small(alloc, fs, new, second)
 }
 
 /// The lines of what differs between the trees of two views: first what went and what changed, then
@@ -237,7 +237,7 @@ fn add_line<F: Flash>(
         Counterpart::Missing => Ok(print_marked(out, side, item)?),
         Counterpart::Directory => Ok(()),
         Counterpart::File => match side {
-            Side::Old => add_change(alloc, fs, view, other, &item.path, out),
+            Side::Old => add_change(alloc, fs, view, other, item, out),
             Side::New => Ok(()),
         },
     }
@@ -249,17 +249,20 @@ fn add_change<F: Flash>(
     fs: &mut Fs<'_, F>,
     view: &View,
     other: &View,
-    path: &Path,
+    item: &Item,
     out: &mut Vec<u8>,
 ) -> Result<(), Fault>
-    requires view { IsFileOf (shown fs.old) view.now path.now }
-    requires other { IsFileOf (shown fs.old) other.now path.now }
+    requires there { IsItemOf (view_tree (shown fs.old) view.now) item.now }
+    requires view { IsFileOf (shown fs.old) view.now item.now.path }
+    requires other { IsFileOf (shown fs.old) other.now item.now.path }
     ensures same { IsUnchanged fs.old fs.new }
-    ensures ok { OnOk result (out.new.items ≡ out.old.items ++ file_beside path.now (bytes_of_file (view_tree (shown fs.old) view.now) path.now) (bytes_of_file (view_tree (shown fs.old) other.now) path.now)) }
+    ensures ok { OnOk result (out.new.items ≡ out.old.items ++ file_beside item.now.path (bytes_of_file (view_tree (shown fs.old) view.now) item.now.path) (bytes_of_file (view_tree (shown fs.old) other.now) item.now.path)) }
     ensures err { IfErr result (Meets (F.device fs.old.flash.now) (F.device fs.new.flash.now)) }
 {
-    if has_other_bytes(alloc, fs, view, other, path)? {
-        print_change(out, path)?;
+    let bytes = read_item(alloc, fs, view, item)?;
+    let others = read_file(alloc, fs, other, &item.path)?;
+    if bytes.as_slice() != others.as_slice() {
+        print_change(out, &item.path)?;
     }
     Ok(())
 }

@@ -12,7 +12,7 @@ ghost use Rattle.inquiries.specs.declared.folders.TheConstants.{MAX_TREE_BYTES};
 ghost use Rattle.inquiries.specs.declared.tell_fault.TheConstants.{MAX_LINES};
 
 use crate::items::{Item, add_items};
-use crate::path_room::are_paths_short;
+use crate::path_room::is_listable;
 use crate::reading_calls::size_of_tree;
 use crate::tell_fault::{MAX_LINES, TellFault};
 use flash_model::Flash;
@@ -20,14 +20,15 @@ use fs_types::{Fault, MAX_NAMES, Path, View};
 use std::alloc::Global;
 use undofs::{Fs, TreeSize};
 
-/// The most bytes that the files of a tree have of which something is copied out: as many as a flash has.
+/// The most bytes that the files of a tree have of which all are read: as many as a flash has.
 /// No two files that calls made share a block.
 pub const MAX_TREE_BYTES: u64 = 67_108_864;
 
 /// All that stands below a directory of a view: a directory before what stands in it, and names in byte
 /// order. [`TellFault::TooManyLines`] where the whole tree has over [`MAX_LINES`] directories and files,
 /// or over [`MAX_TREE_BYTES`] bytes in these, which is counted by node before it is walked, or its paths have
-/// over [`MAX_PATH_BYTES`](crate::MAX_PATH_BYTES). Else [`Fault::ReadFailed`], [`Fault::PowerCut`] and
+/// over [`MAX_PATH_BYTES`](crate::MAX_PATH_BYTES), or over [`MAX_OWNERS`](crate::MAX_OWNERS) of these are
+/// directories and files with bytes. Else [`Fault::ReadFailed`], [`Fault::PowerCut`] and
 /// [`Fault::NoMemory`] may come.
 pub fn list_folder<F: Flash>(
     alloc: Global,
@@ -56,19 +57,49 @@ pub(crate) fn check_small<F: Flash>(
     ensures small { OnOk result (IsSmall (view_tree (shown fs.old) view.now)) }
     ensures err { IfErr result (Unlisted (view_tree (shown fs.old) view.now) fs.old fs.new) }
 {
-    let size = size_of_tree(alloc, fs, view)?;
-    if !has_few(size) {
-        return Err(TellFault::TooManyLines);
-    }
-    let short = are_paths_short(alloc, fs, view, size)?;
-    if !short {
+    let small = has_small_tree(alloc, fs, view)?;
+    if !small {
         return Err(TellFault::TooManyLines);
     }
     Ok(())
 }
 
-/// Whether a tree has few enough directories and files, and bytes in these, that something is copied out
-/// of it.
+/// Whether the tree of a view is small enough that all of it is read. [`Fault::ReadFailed`],
+/// [`Fault::PowerCut`] and [`Fault::NoMemory`] may come.
+pub(crate) fn has_small_tree<F: Flash>(
+    alloc: Global,
+    fs: &mut Fs<'_, F>,
+    view: &View,
+) -> Result<bool, Fault>
+    requires { view_refusal (shown fs.old).history view.now ≡ None }
+    ensures same { IsUnchanged fs.old fs.new }
+    ensures ok { IfOk result (λ small. IsTrue small ↔ IsSmall (view_tree (shown fs.old) view.now)) }
+    ensures err { IfErr result (Meets (F.device fs.old.flash.now) (F.device fs.new.flash.now)) }
+{
+    let size = size_of_tree(alloc, fs, view)?;
+    is_small(alloc, fs, view, size)
+}
+
+/// The same, where the tree has this size.
+pub(crate) fn is_small<F: Flash>(
+    alloc: Global,
+    fs: &mut Fs<'_, F>,
+    view: &View,
+    size: TreeSize,
+) -> Result<bool, Fault>
+    requires view { view_refusal (shown fs.old).history view.now ≡ None }
+    requires size { size ≡ size_of (view_tree (shown fs.old) view.now) }
+    ensures same { IsUnchanged fs.old fs.new }
+    ensures ok { IfOk result (λ small. IsTrue small ↔ IsSmall (view_tree (shown fs.old) view.now)) }
+    ensures err { IfErr result (Meets (F.device fs.old.flash.now) (F.device fs.new.flash.now)) }
+{
+    if !has_few(size) {
+        return Ok(false);
+    }
+    is_listable(alloc, fs, view, size)
+}
+
+/// Whether a tree has few enough directories and files, and bytes in these, that all of it is read.
 fn has_few(size: TreeSize) -> bool
     ensures { (t : Tree) → size ≡ size_of t → IsTrue result ↔ ((entries_of t ≤ MAX_LINES) × (lengths_of t ≤ MAX_TREE_BYTES)) }
 {

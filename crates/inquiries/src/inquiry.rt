@@ -15,7 +15,7 @@ use crate::differences::tell_differences;
 use crate::items::{Item, items_of};
 use crate::listed::tell_entries;
 use crate::path_history::tell_path_history;
-use crate::path_room::are_paths_short;
+use crate::path_room::is_listable;
 use crate::printing::lines_of;
 use crate::reading_calls::{read_file, size_of_tree};
 use crate::tell_fault::{MAX_LINES, TellFault};
@@ -123,8 +123,8 @@ pub(crate) fn few_items<F: Flash>(
     if !is_few(size) {
         return Err(TellFault::TooManyLines);
     }
-    let short = are_paths_short(alloc, fs, view, size)?;
-    if !short {
+    let listable = is_listable(alloc, fs, view, size)?;
+    if !listable {
         return Err(TellFault::TooManyLines);
     }
     Ok(items_of(alloc, fs, view)?)

@@ -4,6 +4,7 @@ ghost use Rattle.fs_types.specs.Names.{is_path};
 ghost use Rattle.history_machine.specs.History.{view_refusal};
 ghost use Rattle.history_machine.specs.Machine.{view_tree};
 ghost use Rattle.inquiries.specs.Items.{items_below, items_of, levels_below, IsDirectoryOf};
+ghost use Rattle.inquiries.specs.Owners.{owns_block};
 ghost use Rattle.inquiries.specs.Readings.{shown, IsUnchanged, Fails, Meets};
 
 use crate::reading_calls::{check_view, entries_at};
@@ -78,6 +79,17 @@ pub(crate) fn levels_below(stat: Stat, levels: usize) -> usize
     match stat {
         Stat::Dir(_) => levels - 1,
         Stat::File(_) => 0,
+    }
+}
+
+/// Whether what stands at a path has a block of its own in a tree that calls made: a directory, and a file
+/// with bytes.
+pub(crate) fn owns_block(stat: Stat) -> bool
+    ensures { result ≡ owns_block stat }
+{
+    match stat {
+        Stat::Dir(_) => true,
+        Stat::File(bytes) => bytes != 0,
     }
 }
 

@@ -26,5 +26,5 @@ pub use items::Item;
 pub use listing::list;
 pub use printing::print_path;
 pub use pruned::list_differing;
-pub use reading_calls::{read_file, stat_at};
-pub use tell_fault::{MAX_LINES, MAX_PATH_BYTES, TellFault};
+pub use reading_calls::{read_file, read_item, stat_at};
+pub use tell_fault::{MAX_LINES, MAX_OWNERS, MAX_PATH_BYTES, TellFault};

@@ -7,7 +7,7 @@ ghost use Rattle.history_machine.specs.History.{view_refusal};
 ghost use Rattle.history_machine.specs.Machine.{view_tree};
 ghost use Rattle.tree_counts.specs.Sizes.{in_word};
 ghost use Rattle.inquiries.specs.Inquiries.{inquiry_refusal, HasFewLines, Untold};
-ghost use Rattle.inquiries.specs.PathHistories.{history_line, history_lines, is_changed, is_checkpoint, is_there, is_told, kept_views, looked_at, nowhere_in, state_line};
+ghost use Rattle.inquiries.specs.PathHistories.{history_line, history_lines, is_changed, is_checkpoint, is_there, is_told, kept_views, looked_at, nowhere_in, state_line, IsSmallAt};
 ghost use Rattle.inquiries.specs.Readings.{shown, IsUnchanged, Fails, Meets};
 ghost use Rattle.inquiries.specs.Within.{have_other_lengths};
 ghost use Rattle.inquiries.specs.declared.inquiry.Inquiry.{Inquiry};
@@ -15,6 +15,7 @@ ghost use Rattle.inquiries.specs.declared.tell_fault.TheConstants.{MAX_LINES};
 
 use crate::counterpart::{Counterpart, counterpart_of, stat_if_there};
 use crate::differences::{differ_below, has_other_bytes};
+use crate::folders::has_small_tree;
 use crate::printing::{print_state, print_view};
 use crate::reading_calls::{kept_trees, show_same, size_of_tree};
 use crate::tell_fault::{MAX_LINES, TellFault};
@@ -40,6 +41,9 @@ pub(crate) fn tell_path_history<F: Flash>(
     let views = kept_views(alloc, &kept)?;
     check_somewhere(fs, &views, path)?;
     if !are_few(alloc, fs, &views, path)? {
+        return Err(TellFault::TooManyLines);
+    }
+    if !are_small(alloc, fs, &views, path)? {
         return Err(TellFault::TooManyLines);
     }
     Ok(Bytes::from_vec(list_states(alloc, fs, &views, kept.cursor, path)?))
@@ -127,6 +131,46 @@ fn looked_at<F: Flash>(
         Some(Stat::Dir(_)) => Ok(size_of_tree(alloc, fs, view)?.entries),
         Some(Stat::File(_)) => Ok(Some(0)),
         None => Ok(Some(0)),
+    }
+}
+
+/// Whether each tree of these views is small enough in which a directory stands at a path.
+fn are_small<F: Flash>(
+    alloc: Global,
+    fs: &mut Fs<'_, F>,
+    views: &[View],
+    path: &Path,
+) -> Result<bool, Fault>
+    requires { All (λ view. view_refusal (shown fs.old).history view ≡ None) views.now }
+    ensures same { IsUnchanged fs.old fs.new }
+    ensures ok { IfOk result (λ small. IsTrue small ↔ All (IsSmallAt (shown fs.old) path.now) views.now) }
+    ensures err { IfErr result (Meets (F.device fs.old.flash.now) (F.device fs.new.flash.now)) }
+{
+    for view in views {
+        let small = is_small_at(alloc, fs, view, path)?;
+        if !small {
+            return Ok(false);
+        }
+    }
+    Ok(true)
+}
+
+/// Whether the tree of a view is small enough that all of it is read, where a directory stands at a path.
+fn is_small_at<F: Flash>(
+    alloc: Global,
+    fs: &mut Fs<'_, F>,
+    view: &View,
+    path: &Path,
+) -> Result<bool, Fault>
+    requires { view_refusal (shown fs.old).history view.now ≡ None }
+    ensures same { IsUnchanged fs.old fs.new }
+    ensures ok { IfOk result (λ small. IsTrue small ↔ IsSmallAt (shown fs.old) path.now view.now) }
+    ensures err { IfErr result (Meets (F.device fs.old.flash.now) (F.device fs.new.flash.now)) }
+{
+    match stat_if_there(fs, view, path)? {
+        Some(Stat::Dir(_)) => has_small_tree(alloc, fs, view),
+        Some(Stat::File(_)) => Ok(true),
+        None => Ok(true),
     }
 }
 

@@ -7,10 +7,11 @@ ghost use Rattle.history_machine.specs.History.{view_refusal};
 ghost use Rattle.history_machine.specs.Machine.{refusal, view_tree, stat_of};
 ghost use Rattle.fs_types.specs.declared.call.Call.{Call};
 ghost use Rattle.tree_counts.specs.Sizes.{size_of};
-ghost use Rattle.inquiries.specs.Items.{all_entries};
+ghost use Rattle.inquiries.specs.Items.{all_entries, IsFileOf, IsItemOf};
 ghost use Rattle.inquiries.specs.Readings.{shown, IsUnchanged, Fails, Meets};
 ghost use Rattle.inquiries.specs.Versions.{kept_serials, kept_names};
 
+use crate::items::{Item, owns_block};
 use flash_model::Flash;
 use fs_types::{Bytes, Fault, MAX_FILE_BYTES, Name, Path, Sequence, Stat, View};
 use std::alloc::Global;
@@ -103,4 +104,24 @@ pub fn read_file<F: Flash>(
     ensures err { IfErr result (Fails (refusal (shown fs.old) (Call.ReadAt view.now path.now 0 MAX_FILE_BYTES)) fs.old fs.new) }
 {
     fs.read_at(alloc, view, path, 0, ALL_BYTES)
+}
+
+/// All bytes of a file that was listed in the tree of a view. An empty one is not looked up.
+/// [`Fault::ReadFailed`], [`Fault::PowerCut`] and [`Fault::NoMemory`] may come.
+pub fn read_item<F: Flash>(
+    alloc: Global,
+    fs: &mut Fs<'_, F>,
+    view: &View,
+    item: &Item,
+) -> Result<Bytes, Fault>
+    requires there { IsItemOf (view_tree (shown fs.old) view.now) item.now }
+    requires file { IsFileOf (shown fs.old) view.now item.now.path }
+    ensures same { IsUnchanged fs.old fs.new }
+    ensures ok { IfOk result (λ bytes. get (view_tree (shown fs.old) view.now) item.now.path ≡ Some (Entry.File bytes)) }
+    ensures err { IfErr result (Meets (F.device fs.old.flash.now) (F.device fs.new.flash.now)) }
+{
+    if !owns_block(item.stat) {
+        return Ok(Bytes::from_vec(Vec::new(alloc)));
+    }
+    read_file(alloc, fs, view, &item.path)
 }

@@ -14,6 +14,10 @@ pub const MAX_LINES: u64 = 1_048_576;
 /// where all of them are kept before a line is told.
 pub const MAX_PATH_BYTES: u64 = 67_108_864;
 
+/// The most directories and files with bytes that a tree may have of which all is listed: as many as a flash
+/// has blocks. In a tree that calls made each has a block of its own.
+pub const MAX_OWNERS: u64 = 16_384;
+
 /// Why what is asked of a file system is not told.
 #[derive(Clone, Copy, Debug, PartialEq, Eq, Error)]
 pub enum TellFault {
@@ -21,7 +25,7 @@ pub enum TellFault {
     #[error("refused: {0}")]
     Refused(Fault),
     /// More lines would be told than [`MAX_LINES`], or as many entries would have to be looked at; or their
-    /// paths have over [`MAX_PATH_BYTES`].
+    /// paths have over [`MAX_PATH_BYTES`], or over [`MAX_OWNERS`] of them have a block of their own.
     #[error("too many lines")]
     TooManyLines,
 }

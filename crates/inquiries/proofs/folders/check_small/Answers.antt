@@ -1,55 +1,9 @@
-use Rattle.std.proofs.Common.{◌≡◌, ◌∙◌, None, sym, ap, subst}
+use Rattle.std.proofs.Common.{◌∙◌, sym}
 use Rattle.std.proofs.lemmas.Bool.{true≢false}
-use Rattle.std.proofs.lemmas.Result.{err_from_is_err_and}
-use Rattle.history_machine.specs.History.{view_refusal}
-use Rattle.history_machine.specs.Machine.{Machine, view_tree}
-use Rattle.tree_counts.specs.Sizes.{size_of}
-use Rattle.inquiries.specs.PathBytes.{HasShortPaths}
-use Rattle.inquiries.specs.Readings.{shown}
-use Rattle.inquiries.proofs.FolderLemmas.{no_own}
-use Rattle.inquiries.proofs.Readings.{unchanged-trans, meets-later}
 use Rattle.inquiries.proofs.folders.check_small.Goals as goal
 
-pub returns-in_err-size-clause-err : goal.returns-in_err-size-clause-err
-returns-in_err-size-clause-err g c =
-    let p = err_from_is_err_and c.from_residual.result c.from_residual.ensures.1 in
-    rw (p.1, p.2) (no_own (view_refusal (shown c.args.fs.now).history c.args.view.now) c.in_err-size.field-0.0 _ c.requires c.in_err-size.ensures.err)
-
-pub returns-then-not-has_few-clause-err : goal.returns-then-not-has_few-clause-err
-returns-then-not-has_few-clause-err g c =
-    let t = view_tree (shown c.args.fs.now) c.args.view.now in
-    λ small. true≢false (sym ((c.has_few.ensures t c.in_ok-size.ensures.size).1 (small.entries, small.bytes)) ∙ c.if-not-has_few.true)
-
-pub are_paths_short-requires-clause-view : goal.are_paths_short-requires-clause-view
-are_paths_short-requires-clause-view g c = subst (λ (m : Machine). view_refusal m.history c.args.view.now ≡ None) (sym c.size_of_tree.ensures.same.machine) c.requires
-
-pub are_paths_short-requires-clause-size : goal.are_paths_short-requires-clause-size
-are_paths_short-requires-clause-size g c = c.in_ok-size.ensures.size ∙ ap (λ (m : Machine). size_of (view_tree m c.args.view.now)) (sym c.size_of_tree.ensures.same.machine)
-
-pub returns-in_err-short-clause-same : goal.returns-in_err-short-clause-same
-returns-in_err-short-clause-same g c = unchanged-trans c.args.fs.now c.size_of_tree.new.fs c.are_paths_short.new.fs c.size_of_tree.ensures.same c.are_paths_short.ensures.same
-
-pub returns-in_err-short-clause-err : goal.returns-in_err-short-clause-err
-returns-in_err-short-clause-err g c =
-    let p = err_from_is_err_and c.from_residual-in_err-short.result c.from_residual-in_err-short.ensures.1 in
-    rw (p.1, p.2) (meets-later c.args.fs.now c.size_of_tree.new.fs c.are_paths_short.new.fs c.in_err-short.field-0.0 c.size_of_tree.ensures.same c.in_err-short.ensures.err)
-
-pub returns-then-not-short-clause-same : goal.returns-then-not-short-clause-same
-returns-then-not-short-clause-same g c = unchanged-trans c.args.fs.now c.size_of_tree.new.fs c.are_paths_short.new.fs c.size_of_tree.ensures.same c.are_paths_short.ensures.same
-
-pub returns-then-not-short-clause-err : goal.returns-then-not-short-clause-err
-returns-then-not-short-clause-err g c =
-    λ small. true≢false (sym (c.in_ok-short.ensures.ok.1 (subst (λ (m : Machine). HasShortPaths (view_tree m c.args.view.now)) (sym c.size_of_tree.ensures.same.machine) small.paths)) ∙ c.if-not-short.true)
-
-pub returns-clause-same : goal.returns-clause-same
-returns-clause-same g c = unchanged-trans c.args.fs.now c.size_of_tree.new.fs c.are_paths_short.new.fs c.size_of_tree.ensures.same c.are_paths_short.ensures.same
+pub returns-then-not-small-clause-err : goal.returns-then-not-small-clause-err
+returns-then-not-small-clause-err g c = λ small. true≢false (sym (c.in_ok-small.ensures.ok.1 small) ∙ c.if-not-small.true)
 
 pub returns-clause-small : goal.returns-clause-small
-returns-clause-small g c =
-    let t = view_tree (shown c.args.fs.now) c.args.view.now in
-    let counted = (c.has_few.ensures t c.in_ok-size.ensures.size).0 c.if-not-has_few.false in
-    record {
-      entries = counted.0;
-      bytes = counted.1;
-      paths = subst (λ (m : Machine). HasShortPaths (view_tree m c.args.view.now)) c.size_of_tree.ensures.same.machine (c.in_ok-short.ensures.ok.0 c.if-not-short.false);
-    }
+returns-clause-small g c = c.in_ok-small.ensures.ok.0 c.if-not-small.false

@@ -1,23 +1,28 @@
-use Rattle.std.proofs.Common.{◌≡◌, ◌∙◌, ◌+◌, ◌<◌, ◌-◌, ◌++◌, [], ◌∷◌, Bool, true, length, inl, inr, refl, sym, ap, subst, arith}
+use Rattle.std.proofs.Common.{◌≡◌, ◌∙◌, ◌+◌, ◌<◌, ◌-◌, ◌++◌, ℕ, Some, None, [], ◌∷◌, Bool, true, length, take, inl, inr, refl, sym, ap, subst, arith}
 use Rattle.std.proofs.lemmas.Bool.{cases_Bool}
 use Rattle.std.proofs.lemmas.List.{length-map, take_all}
 use Rattle.std.proofs.lemmas.Result.{err_from_is_err_and}
 use Rattle.std.specs.Prelude.{Contains, sum_by, if◌then◌else◌}
 use Rattle.fs_types.specs.Names.{Name, Path, is_path}
 use Rattle.fs_types.specs.declared.call.Call.{Call}
-use Rattle.history_machine.specs.Machine.{Machine, view_tree, with_stat}
+use Rattle.fs_types.specs.declared.call.Stat.{Stat}
+use Rattle.history_machine.specs.Machine.{Machine, stat_at, view_tree, with_stat}
 use Rattle.plain_trees.specs.Trees.{children}
 use Rattle.inquiries.specs.Items.{IsDirectoryOf, items_below}
+use Rattle.inquiries.specs.Listable.{IsRoomLeft}
+use Rattle.inquiries.specs.Owners.{item_owners, stat_owners}
 use Rattle.inquiries.specs.PathBytes.{path_bytes, item_bytes}
 use Rattle.inquiries.specs.Readings.{shown}
 use Rattle.inquiries.proofs.Entries.{list_accepted, entry_path, entry_directory, told_at}
-use Rattle.inquiries.proofs.PathRoom.{all_bytes, entry_bytes, entry_more, entry_within, no_bytes}
+use Rattle.inquiries.proofs.PathRoom.{all_weight, entry_weight, entry_more, entry_within, no_weight, past_below, past_own, taken_more}
 use Rattle.inquiries.proofs.Readings.{unchanged-refl, unchanged-trans, meets-later, met_only}
 use Rattle.inquiries.proofs.path_room.+room_below.Goals as goal
 
 pub returns-then-levels-eq0-clause-ok : goal.returns-then-levels-eq0-clause-ok
 returns-then-levels-eq0-clause-ok g t c =
-    let none = no_bytes (view_tree (shown c.args.fs.now) c.args.view.now) c.args.levels c.args.directory.now c.if-levels-eq0.true in omega (arith, none)
+    let bytes = no_weight item_bytes (view_tree (shown c.args.fs.now) c.args.view.now) c.args.levels c.args.directory.now c.if-levels-eq0.true in
+    let owners = no_weight item_owners (view_tree (shown c.args.fs.now) c.args.view.now) c.args.levels c.args.directory.now c.if-levels-eq0.true in
+    (omega (arith, bytes), omega (arith, owners))
 
 pub returns-in_err-entries-clause-err : goal.returns-in_err-entries-clause-err
 returns-in_err-entries-clause-err g t c =
@@ -28,7 +33,7 @@ returns-in_err-entries-clause-err g t c =
     (list_accepted (shown c.args.fs.now) c.args.view.now c.args.fs.now.mounted.mounted.machine directory.accepted c.args.directory.now directory.there) c.in_err-entries.ensures.err)
 
 pub loop-name-init : goal.loop-name-init
-loop-name-init g t c = (c.in_ok-entries.ensures.same, omega arith)
+loop-name-init g t c = (c.in_ok-entries.ensures.same, (omega arith, omega arith))
 
 pub child_of-requires : goal.child_of-requires
 child_of-requires g s c =
@@ -77,13 +82,17 @@ returns-in_err-rest-clause-err g t c =
 pub returns-in_default-clause-ok : goal.returns-in_default-clause-ok
 returns-in_default-clause-ok g s c =
     let some : 0 < c.args.levels = omega arith in
-    let t = view_tree (shown c.args.fs.now) c.args.view.now in
+    let m = shown c.args.fs.now in
+    let t = view_tree m c.args.view.now in
     let told = told_at t c.args.directory.now c.as_slice-name-items.result.now c.loop-name.name-index c.loop-name-item.result (c.as_slice-name-items.ensures ∙ c.in_ok-entries.ensures.ok) c.loop-name-test.true c.loop-name-item.is in
-    let path : c.names.result.now ≡ c.args.directory.now ++ told.child.0 ∷ [] = c.names.ensures.names ∙ c.in_ok-path.ensures ∙ ap (λ (n : Name). c.args.directory.now ++ n ∷ []) told.name in
-    let within = entry_within t c.args.levels c.args.directory.now (if told.child.1 then c.args.levels - 1 else 0) c.loop-name.name-index told.child told.within told.at refl some in
-    let past : c.loop-name.left < path_bytes (c.args.directory.now ++ told.child.0 ∷ []) = subst (λ (p : Path). c.loop-name.left < path_bytes p) path (rw c.in_default.is at c.room_after.ensures) in
-    let so_far = c.loop-name.invariant.1 in
-    omega (arith, within, past, so_far)
+    let here : Path = c.args.directory.now ++ told.child.0 ∷ [] in
+    let path : c.in_ok-path.path ≡ here = c.in_ok-path.ensures ∙ ap (λ (n : Name). c.args.directory.now ++ n ∷ []) told.name in
+    let bytes = entry_within item_bytes t c.args.levels c.args.directory.now (if told.child.1 then c.args.levels - 1 else 0) c.loop-name.name-index told.child told.within told.at refl some in
+    let owners = entry_within item_owners t c.args.levels c.args.directory.now (if told.child.1 then c.args.levels - 1 else 0) c.loop-name.name-index told.child told.within told.at refl some in
+    let past : IsRoomLeft c.loop-name.left (path_bytes here) (stat_owners (stat_at t here)) None =
+    subst (λ (stat : Stat). IsRoomLeft c.loop-name.left (path_bytes here) (stat_owners stat) None) told.stat
+    (subst (λ (p : Path). IsRoomLeft c.loop-name.left (path_bytes p) (stat_owners c.loop-name-item.result.1) None) (c.names.ensures.names ∙ path) (rw c.in_default.is at c.room_beside.ensures)) in
+    past_own c.args.room c.loop-name.left _ _ c.loop-name.invariant.1 (path_bytes here) (stat_owners (stat_at t here)) _ _ (omega (arith, bytes)) (omega (arith, owners)) past
 
 pub returns-in_default-rest-clause-same : goal.returns-in_default-rest-clause-same
 returns-in_default-rest-clause-same g t c = unchanged-trans c.args.fs.now c.loop-name.fs c.room_below.new.fs c.loop-name.invariant.0 c.room_below.ensures.same
@@ -94,30 +103,40 @@ returns-in_default-rest-clause-ok g s c =
     let m = shown c.args.fs.now in
     let t = view_tree m c.args.view.now in
     let told = told_at t c.args.directory.now c.as_slice-name-items.result.now c.loop-name.name-index c.loop-name-item.result (c.as_slice-name-items.ensures ∙ c.in_ok-entries.ensures.ok) c.loop-name-test.true c.loop-name-item.is in
+    let here : Path = c.args.directory.now ++ told.child.0 ∷ [] in
+    let path : c.in_ok-path.path ≡ here = c.in_ok-path.ensures ∙ ap (λ (n : Name). c.args.directory.now ++ n ∷ []) told.name in
     let below : c.levels_below-below.result ≡ (if told.child.1 then c.args.levels - 1 else 0) = c.levels_below-below.ensures ∙ told.below c.args.levels in
-    let path : c.in_ok-path.path ≡ c.args.directory.now ++ told.child.0 ∷ [] = c.in_ok-path.ensures ∙ ap (λ (n : Name). c.args.directory.now ++ n ∷ []) told.name in
-    let within = entry_within t c.args.levels c.args.directory.now c.levels_below-below.result c.loop-name.name-index told.child told.within told.at below some in
-    let own : c.in-Some.beside + path_bytes (c.args.directory.now ++ told.child.0 ∷ []) ≡ c.loop-name.left = subst (λ (p : Path). c.in-Some.beside + path_bytes p ≡ c.loop-name.left) (c.names.ensures.names ∙ path) (rw c.in-Some.is at c.room_after.ensures) in
-    let past : c.in-Some.beside < sum_by item_bytes (items_below t c.levels_below-below.result (c.args.directory.now ++ told.child.0 ∷ [])) =
-    subst (λ (n : Machine). c.in-Some.beside < sum_by item_bytes (items_below (view_tree n c.args.view.now) c.levels_below-below.result (c.args.directory.now ++ told.child.0 ∷ []))) c.loop-name.invariant.0.machine
-    (subst (λ (p : Path). c.in-Some.beside < sum_by item_bytes (items_below (view_tree (shown c.loop-name.fs) c.args.view.now) c.levels_below-below.result p)) path (rw c.in_default-rest.is at c.in_ok-rest.ensures.ok)) in
-    let so_far = c.loop-name.invariant.1 in
-    omega (arith, within, own, past, so_far)
+    let own : IsRoomLeft c.loop-name.left (path_bytes here) (stat_owners (stat_at t here)) (Some c.in-Some.beside) =
+    subst (λ (stat : Stat). IsRoomLeft c.loop-name.left (path_bytes here) (stat_owners stat) (Some c.in-Some.beside)) told.stat
+    (subst (λ (p : Path). IsRoomLeft c.loop-name.left (path_bytes p) (stat_owners c.loop-name-item.result.1) (Some c.in-Some.beside)) (c.names.ensures.names ∙ path) (rw c.in-Some.is at c.room_beside.ensures)) in
+    let bytes = entry_within item_bytes t c.args.levels c.args.directory.now c.levels_below-below.result c.loop-name.name-index told.child told.within told.at below some in
+    let owners = entry_within item_owners t c.args.levels c.args.directory.now c.levels_below-below.result c.loop-name.name-index told.child told.within told.at below some in
+    let past : IsRoomLeft c.in-Some.beside (sum_by item_bytes (items_below t c.levels_below-below.result here)) (sum_by item_owners (items_below t c.levels_below-below.result here)) None =
+    subst (λ (n : Machine). IsRoomLeft c.in-Some.beside (sum_by item_bytes (items_below (view_tree n c.args.view.now) c.levels_below-below.result here)) (sum_by item_owners (items_below (view_tree n c.args.view.now) c.levels_below-below.result here)) None) c.loop-name.invariant.0.machine
+    (subst (λ (p : Path). IsRoomLeft c.in-Some.beside (sum_by item_bytes (items_below (view_tree (shown c.loop-name.fs) c.args.view.now) c.levels_below-below.result p)) (sum_by item_owners (items_below (view_tree (shown c.loop-name.fs) c.args.view.now) c.levels_below-below.result p)) None) path
+    (rw c.in_default-rest.is at c.in_ok-rest.ensures.ok)) in
+    past_below c.args.room c.loop-name.left _ _ c.loop-name.invariant.1 (path_bytes here) (stat_owners (stat_at t here)) c.in-Some.beside own _ _ _ _ bytes owners past
 
 pub loop-name-preserved : goal.loop-name-preserved
 loop-name-preserved g s c =
     let m = shown c.args.fs.now in
     let t = view_tree m c.args.view.now in
     let told = told_at t c.args.directory.now c.as_slice-name-items.result.now c.loop-name.name-index c.loop-name-item.result (c.as_slice-name-items.ensures ∙ c.in_ok-entries.ensures.ok) c.loop-name-test.true c.loop-name-item.is in
+    let here : Path = c.args.directory.now ++ told.child.0 ∷ [] in
+    let path : c.in_ok-path.path ≡ here = c.in_ok-path.ensures ∙ ap (λ (n : Name). c.args.directory.now ++ n ∷ []) told.name in
     let below : c.levels_below-below.result ≡ (if told.child.1 then c.args.levels - 1 else 0) = c.levels_below-below.ensures ∙ told.below c.args.levels in
-    let path : c.in_ok-path.path ≡ c.args.directory.now ++ told.child.0 ∷ [] = c.in_ok-path.ensures ∙ ap (λ (n : Name). c.args.directory.now ++ n ∷ []) told.name in
-    let more = entry_more t c.args.levels c.args.directory.now c.levels_below-below.result c.loop-name.name-index told.child told.within told.at below in
-    let own : c.in-Some.beside + path_bytes (c.args.directory.now ++ told.child.0 ∷ []) ≡ c.loop-name.left = subst (λ (p : Path). c.in-Some.beside + path_bytes p ≡ c.loop-name.left) (c.names.ensures.names ∙ path) (rw c.in-Some.is at c.room_after.ensures) in
-    let rest : c.in-Some-rest.rest + sum_by item_bytes (items_below t c.levels_below-below.result (c.args.directory.now ++ told.child.0 ∷ [])) ≡ c.in-Some.beside =
-    subst (λ (n : Machine). c.in-Some-rest.rest + sum_by item_bytes (items_below (view_tree n c.args.view.now) c.levels_below-below.result (c.args.directory.now ++ told.child.0 ∷ [])) ≡ c.in-Some.beside) c.loop-name.invariant.0.machine
-    (subst (λ (p : Path). c.in-Some-rest.rest + sum_by item_bytes (items_below (view_tree (shown c.loop-name.fs) c.args.view.now) c.levels_below-below.result p) ≡ c.in-Some.beside) path (rw c.in-Some-rest.is at c.in_ok-rest.ensures.ok)) in
-    let so_far = c.loop-name.invariant.1 in
-    (unchanged-trans c.args.fs.now c.loop-name.fs c.room_below.new.fs c.loop-name.invariant.0 c.room_below.ensures.same, omega (arith, more, own, rest, so_far))
+    let own : IsRoomLeft c.loop-name.left (path_bytes here) (stat_owners (stat_at t here)) (Some c.in-Some.beside) =
+    subst (λ (stat : Stat). IsRoomLeft c.loop-name.left (path_bytes here) (stat_owners stat) (Some c.in-Some.beside)) told.stat
+    (subst (λ (p : Path). IsRoomLeft c.loop-name.left (path_bytes p) (stat_owners c.loop-name-item.result.1) (Some c.in-Some.beside)) (c.names.ensures.names ∙ path) (rw c.in-Some.is at c.room_beside.ensures)) in
+    let bytes = entry_more item_bytes t c.args.levels c.args.directory.now c.levels_below-below.result c.loop-name.name-index told.child told.within told.at below in
+    let owners = entry_more item_owners t c.args.levels c.args.directory.now c.levels_below-below.result c.loop-name.name-index told.child told.within told.at below in
+    let rest : IsRoomLeft c.in-Some.beside (sum_by item_bytes (items_below t c.levels_below-below.result here)) (sum_by item_owners (items_below t c.levels_below-below.result here)) (Some c.in-Some-rest.rest) =
+    subst (λ (n : Machine). IsRoomLeft c.in-Some.beside (sum_by item_bytes (items_below (view_tree n c.args.view.now) c.levels_below-below.result here)) (sum_by item_owners (items_below (view_tree n c.args.view.now) c.levels_below-below.result here)) (Some c.in-Some-rest.rest)) c.loop-name.invariant.0.machine
+    (subst (λ (p : Path). IsRoomLeft c.in-Some.beside (sum_by item_bytes (items_below (view_tree (shown c.loop-name.fs) c.args.view.now) c.levels_below-below.result p)) (sum_by item_owners (items_below (view_tree (shown c.loop-name.fs) c.args.view.now) c.levels_below-below.result p)) (Some c.in-Some-rest.rest)) path
+    (rw c.in-Some-rest.is at c.in_ok-rest.ensures.ok)) in (
+      unchanged-trans c.args.fs.now c.loop-name.fs c.room_below.new.fs c.loop-name.invariant.0 c.room_below.ensures.same,
+      taken_more c.args.room c.loop-name.left _ _ c.loop-name.invariant.1 (path_bytes here) (stat_owners (stat_at t here)) c.in-Some.beside own _ _ c.in-Some-rest.rest _ _ bytes owners rest,
+    )
 
 pub returns-clause-same : goal.returns-clause-same
 returns-clause-same g t c = c.loop-name.invariant.0
@@ -129,7 +148,8 @@ returns-clause-ok g s c =
     let names = children t c.args.directory.now in
     let past = c.loop-name-test.false in
     let long = ap length (c.as_slice-name-items.ensures ∙ c.in_ok-entries.ensures.ok) ∙ length-map names (with_stat t c.args.directory.now) in
-    let whole = ap (sum_by (entry_bytes t (c.args.levels - 1) c.args.directory.now)) (take_all c.loop-name.name-index names (omega (arith, past, long))) in
-    let all = all_bytes t c.args.levels c.args.directory.now some in
-    let so_far = c.loop-name.invariant.1 in
-    omega (arith, whole, all, so_far)
+    let whole : take c.loop-name.name-index names ≡ names = take_all c.loop-name.name-index names (omega (arith, past, long)) in
+    let bytes = ap (sum_by (entry_weight item_bytes t (c.args.levels - 1) c.args.directory.now)) whole ∙ sym (all_weight item_bytes t c.args.levels c.args.directory.now some) in
+    let owners = ap (sum_by (entry_weight item_owners t (c.args.levels - 1) c.args.directory.now)) whole ∙ sym (all_weight item_owners t c.args.levels c.args.directory.now some) in
+    subst (λ (n : ℕ). IsRoomLeft c.args.room (sum_by item_bytes (items_below t c.args.levels c.args.directory.now)) n (Some c.loop-name.left)) owners
+    (subst (λ (n : ℕ). IsRoomLeft c.args.room n (sum_by (entry_weight item_owners t (c.args.levels - 1) c.args.directory.now) (take c.loop-name.name-index names)) (Some c.loop-name.left)) bytes c.loop-name.invariant.1)

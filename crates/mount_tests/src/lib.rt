@@ -1,23 +1,25 @@
 //! Tests of mounted systems: what mounts and verifications make of worked contents of a flash, refusals and
-//! reads. The file system over a serial NOR part in memory too.
+//! reads. Mounts, calls and steps of reclaiming with less memory than they want too.
 #![tactic(auto)]
 
 #[cfg(test)]
-mod cleaned;
+mod budget;
 #[cfg(test)]
 mod counted;
 #[cfg(test)]
 mod files_in_one_call;
 #[cfg(test)]
+mod files_in_want;
+#[cfg(test)]
 mod flashes;
 #[cfg(test)]
 mod formats;
 #[cfg(test)]
-mod nor_reads;
+mod growths;
 #[cfg(test)]
-mod nor_sessions;
+mod large_blocks;
 #[cfg(test)]
-mod over_parts;
+mod mounts_in_want;
 #[cfg(test)]
 mod reads;
 #[cfg(test)]

@@ -1,5 +1,5 @@
 //! Tests of what a row cannot make: streams and files that fail, want of memory, sessions, flashes of other
-//! types, and images and folders as they are read.
+//! types, images and folders as they are read, jobs that words ask for, and files that are replaced.
 #![tactic(auto)]
 
 #[cfg(test)]
@@ -16,6 +16,12 @@ mod folders;
 mod images;
 #[cfg(test)]
 mod memory;
+#[cfg(test)]
+mod memory_folder;
+#[cfg(test)]
+mod program_words;
+#[cfg(test)]
+mod replacements;
 #[cfg(test)]
 mod sessions;
 #[cfg(test)]

@@ -3,8 +3,8 @@ ghost use Rattle.std.specs.Prelude.{◌≡◌, ◌<◌};
 ghost use Rattle.flash_model.specs.Geometry.{page_count};
 
 use crate::cleaned::program_erased;
-use crate::nor_sessions::SESSION;
 use crate::over_parts::{formatted, replies, restarted};
+use crate::sessions::SESSION;
 use flash_model::{DevFault, Flash, PageState};
 use fs_types::Fault;
 use nor_part::{MemoryNor, NorFlash};

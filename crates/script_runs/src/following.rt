@@ -13,7 +13,7 @@ ghost use Rattle.undofs.specs.Asks.{ServesAsk};
 ghost use Rattle.script_runs.specs.Plans.{GoesOn};
 
 use flash_model::{DevFault, Flash, Geometry, PageState, Planned};
-use fs_types::{Answer, Fault};
+use fs_types::Fault;
 use std::alloc::Global;
 use std::marker::{Brand, PhantomData};
 use undofs::{Ask, System, Told, format, mount, serve_ask};
@@ -97,25 +97,8 @@ impl<'f, F: Planned, S: Start> Flash for Following<'f, F, S> {
     }
 }
 
-/// Does what is asked, as [`serve_ask`] does.
-pub(crate) fn serve_as_planned<F: Planned>(
-    alloc: Global,
-    flash: &mut F,
-    system: &mut Option<System>,
-    ask: &Ask,
-) -> Told
-    requires { IfSome system.old (IsSystem (F.device flash.old)) }
-    ensures mounted { IfSome system.new (IsSystem (F.device flash.new)) }
-    ensures serves { ServesAsk (F.device flash.old) system.old ask.now result (F.device flash.new) system.new }
-    ensures plan { GoesOn (F.device flash.old) (F.schedule flash.old) (F.device flash.new) (F.schedule flash.new) }
-{
-    let mut told = Told::Answer(Answer::Unmounted);
-    let _flash = serve_from::<F, Brand>(alloc, flash, system, ask, &mut told);
-    told
-}
-
-/// The same, with the flash given back, and what is told put into its place.
-fn serve_from<'f, F: Planned, S: Start>(
+/// Does what is asked, as [`serve_ask`] does, with the flash given back, and what is told put into its place.
+pub(crate) fn serve_from<'f, F: Planned, S: Start>(
     alloc: Global,
     flash: &'f mut F,
     system: &mut Option<System>,

@@ -9,11 +9,12 @@ ghost use Rattle.undofs.specs.Asks.{ServesAsk};
 ghost use Rattle.script_runs.specs.Plans.{PlanGoesOn};
 ghost use Rattle.script_runs.specs.Scripts.{IsStillAnswer};
 
-use crate::following::{mount_as_planned, serve_as_planned};
+use crate::following::{mount_as_planned, serve_from};
 use flash_model::{FaultKind, Flash, Planned};
 use fs_types::{Answer, Fault, Reply};
 use script::LineAnswer;
 use std::alloc::Global;
+use std::marker::Brand;
 use undofs::{Ask, System, Told, mount, serve_ask};
 
 /// How scripts run on a flash of a type, with account of the faults that are planned for it.
@@ -55,7 +56,9 @@ impl<F: Planned> Planning<F> for Followed {
     }
 
     fn serve(alloc: Global, flash: &mut F, system: &mut Option<System>, ask: &Ask) -> Told {
-        serve_as_planned(alloc, flash, system, ask)
+        let mut told = Told::Answer(Answer::Unmounted);
+        let _flash = serve_from::<F, Brand>(alloc, flash, system, ask, &mut told);
+        told
     }
 
     fn plan_fault(flash: &mut F, k: u64, kind: FaultKind) -> LineAnswer {

@@ -76,6 +76,7 @@ checked tools/tests/test_check_edits.py
 checked tools/tests/test_check_tar.py
 checked tools/tests/test_check_messages.py
 checked tools/tests/test_write_proved.py
+checked tools/tests/test_measure_depth.py
 if [ "${1:-}" = quick ]; then
     checked tools/tests/test_try_edits.py
 else

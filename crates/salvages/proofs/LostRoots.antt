@@ -1,16 +1,19 @@
 -- The lost ones of some roots, found one after the other, and what that says of the versions and checkpoints.
 use Rattle.std.proofs.Common.{◌≡◌, ℕ, ◌+◌, ◌<◌, Bool, true, false, cond, not, List, [], ◌∷◌, ◌++◌, length, map, take, get_or, refl, sym, ap, subst, ◌∙◌}
 use Rattle.std.proofs.lemmas.Bool.{eq-eqb, eqb-true, true≢false}
-use Rattle.std.proofs.lemmas.List.Elements.{All-nil, All-cons, All-head, All-tail, All-push, All-more, All-weaker}
-use Rattle.std.specs.Prelude.{◌||◌, ◌==◌, ◌↔◌, IsTrue, filter, All}
+use Rattle.std.proofs.lemmas.List.Elements.{All-nil, All-cons, All-head, All-tail, All-push, All-more, All-weaker, All-contains_itself}
+use Rattle.std.specs.Prelude.{◌||◌, ◌==◌, ◌↔◌, IsTrue, filter, All, Contains}
 use Rattle.flash_model.specs.Device.{Device}
 use Rattle.flash_model.specs.Geometry.{IsGeometry, block_bytes}
 use Rattle.flash_model.specs.Reading.{OnlyReads}
+use Rattle.node_store.specs.NodePages.{node_of}
 use Rattle.node_store.specs.ReadingLaws.{OnlyReads_nodes}
 use Rattle.nodes.specs.Bodies.{Blocks}
 use Rattle.reclaim.specs.Verified.{AreAllowed}
 use Rattle.salvages.specs.Kept.{is_lost}
-use Rattle.salvages.specs.Wholes.{IsWhole, AreLost}
+use Rattle.reclaim.proofs.Marking.{only_one}
+use Rattle.reclaim.proofs.MoreRoots.{reached_more}
+use Rattle.salvages.specs.Wholes.{AreAllWhole, IsWhole, AreLost}
 
 -- reads change nothing of a root
 pub whole_back : (plain : Bool) (d e : Device) (root : ℕ) → IsGeometry d.geometry → OnlyReads d e → IsWhole plain e root → IsWhole plain d root
@@ -37,6 +40,22 @@ itself_lost (x ∷ lost) root = on (x == root) (itself_lost lost root)
     on : (b : Bool) → is_lost (lost ++ root ∷ []) root ≡ true → (b || is_lost (lost ++ root ∷ []) root) ≡ true
     on true rest = refl
     on false rest = rest
+
+-- where all roots are whole each is by itself, and none is lost
+pub each_whole : (plain : Bool) (d : Device) (roots : List ℕ) → AreAllWhole plain d roots → (root : ℕ) → Contains roots root → IsWhole plain d root
+each_whole plain d roots whole root within = (
+  λ r has. whole.0 r (among r has),
+  λ is b reached. whole.1 is b (reached_more (node_of d) (root ∷ []) roots among reached),
+)
+  where
+    among : (r : ℕ) → Contains (root ∷ []) r → Contains roots r
+    among r has = subst (Contains roots) (only_one root r has) within
+
+pub all_whole : (plain : Bool) (d : Device) (roots lost : List ℕ) → AreAllWhole plain d roots → lost ≡ [] → AreLost plain d roots lost
+all_whole plain d roots lost whole none = record {
+  broken = subst (All (λ (root : ℕ). IsWhole plain d root → ⊥)) (sym none) (All-nil (λ (root : ℕ). IsWhole plain d root → ⊥));
+  others = All-weaker (Contains roots) (λ (root : ℕ). is_lost lost root ≡ false → IsWhole plain d root) (λ root within _. each_whole plain d roots whole root within) roots (All-contains_itself roots);
+}
 
 pub none_lost : (plain : Bool) (d : Device) (roots lost : List ℕ) → lost ≡ [] → AreLost plain d (take 0 roots) lost
 none_lost plain d roots lost none = record {

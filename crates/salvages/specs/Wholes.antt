@@ -6,9 +6,13 @@ use Rattle.node_store.specs.NodePages.{node_of}
 use Rattle.reclaim.specs.Verified.{AreAllowed}
 use Rattle.salvages.specs.Kept.{is_lost}
 
--- a root alone has a tree of linked bodies; where it is to be plain, each directory in it is a node that stands alone
+-- each of some roots has a tree of linked bodies; where they are to be plain, each directory in these is a node that stands alone
+abbrev pub AreAllWhole : Bool → Device → List ℕ → Type 0
+AreAllWhole plain d roots = AreAllowed (block_bytes d.geometry) (node_of d) roots plain
+
+-- so is a root alone
 abbrev pub IsWhole : Bool → Device → ℕ → Type 0
-IsWhole plain d root = AreAllowed (block_bytes d.geometry) (node_of d) (root ∷ []) plain
+IsWhole plain d root = AreAllWhole plain d (root ∷ [])
 
 -- of some roots exactly those are lost that are not whole
 pub record AreLost (plain : Bool) (d : Device) (roots lost : List ℕ) : Type 0 where

@@ -9,9 +9,9 @@ mod looks;
 mod losses;
 mod making;
 mod record_pages;
+mod rest_roots;
 mod rests;
 mod salvaged;
-mod tellings;
 mod walk;
 
 pub use found::{ENTRY_COST, MAX_COST};
@@ -20,5 +20,4 @@ pub use losses::{Loss, LossFault, LossKind};
 pub use making::{MAX_BYTES, Rest};
 pub use rests::find_rest;
 pub use salvaged::{Salvaged, salvage};
-pub use tellings::find_losses;
 pub use walk::loss_law;

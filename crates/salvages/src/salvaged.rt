@@ -79,7 +79,8 @@ fn keep_whole<F: Flash>(
 /// and checkpoints whose trees are whole, with their serials and names. Where the present version is
 /// lost, the present one is the newest kept one before it, else the oldest kept one.
 ///
-/// Each root is looked at by itself: all that it reaches is read. Then each page of the data blocks is read once.
+/// All that the roots reach is read in one look at them together, and where not all are whole what each reaches by
+/// itself. Then each page of the data blocks is read once.
 /// Nothing is written on the damaged flash. `BadGeometry` where the sizes are out of range, before any read, or where
 /// the newest record tells others; `NoRecord` where none is valid, and `Damaged` where two have the
 /// greatest sequence, where the payload of the newest is damaged or where no version of it is whole: no older one

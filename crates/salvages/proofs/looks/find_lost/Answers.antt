@@ -1,48 +1,34 @@
-use Rattle.std.proofs.Common.{ℕ, ◌+◌, List, subst, arith}
-use Rattle.std.proofs.lemmas.List.{take_all}
-use Rattle.flash_model.specs.Reading.{OnlyReads_itself, OnlyReads_on}
-use Rattle.salvages.proofs.Costs.{look_all, look_next}
-use Rattle.salvages.proofs.LostRoots.{none_lost, one_looked}
-use Rattle.salvages.specs.Wholes.{AreLost}
+use Rattle.std.proofs.Common.{[], sym, subst, ◌∙◌}
+use Rattle.std.proofs.lemmas.Bool.{true≢false}
+use Rattle.std.proofs.lemmas.Result.{IfOk-weaker, IfErr-weaker}
+use Rattle.flash_model.specs.Reading.{OnlyReads_on}
+use Rattle.salvages.proofs.Costs.{asks_once, asks_each}
+use Rattle.salvages.proofs.Looking.{later_cause}
+use Rattle.salvages.proofs.LostRoots.{all_whole}
+use Rattle.salvages.proofs.Saving.{lost_back}
 use Rattle.salvages.proofs.looks.find_lost.Goals as goal
 
-pub loop-root-init : goal.loop-root-init
-loop-root-init g c = record {
-  lost = none_lost c.args.plain (g.F.Flash.device c.args.flash.now) c.args.roots.now c.new-lost.result.items c.new-lost.ensures.items;
-  only_reads = OnlyReads_itself (g.F.Flash.device c.args.flash.now);
-  asks = omega arith;
-}
+pub returns-in_err-whole-clause-asks : goal.returns-in_err-whole-clause-asks
+returns-in_err-whole-clause-asks g c = asks_once c.args.plain (g.F.Flash.device c.args.flash.now) (g.F.Flash.device c.are_whole.new.flash) c.args.roots.now c.are_whole.ensures.asks
 
-pub loop-root-preserved : goal.loop-root-preserved
-loop-root-preserved g c =
-    let d = g.F.Flash.device c.args.flash.now in
-    let e = g.F.Flash.device c.loop-root.flash in
-    record {
-      lost = one_looked c.args.plain d c.args.roots.now c.loop-root.lost.items c.loop-root.root-index c.loop-root-test.true c.loop-root.invariant.lost e c.in_ok-whole.whole c.note_root.new.lost.items
-          c.requires c.loop-root.invariant.only_reads c.in_ok-whole.ensures.whole c.in_ok-note_root.ensures;
-      only_reads = OnlyReads_on d e (g.F.Flash.device c.is_whole.new.flash) c.loop-root.invariant.only_reads c.is_whole.ensures.only_reads;
-      asks = look_next d e (g.F.Flash.device c.is_whole.new.flash) c.args.roots.now c.loop-root.root-index c.requires c.loop-root.invariant.only_reads c.loop-root-test.true c.loop-root.invariant.asks c.is_whole.ensures.asks;
-    }
+pub returns-then-whole-clause-asks : goal.returns-then-whole-clause-asks
+returns-then-whole-clause-asks g c = asks_once c.args.plain (g.F.Flash.device c.args.flash.now) (g.F.Flash.device c.are_whole.new.flash) c.args.roots.now c.are_whole.ensures.asks
+
+pub returns-then-whole-clause-lost : goal.returns-then-whole-clause-lost
+returns-then-whole-clause-lost g c =
+    all_whole c.args.plain (g.F.Flash.device c.args.flash.now) c.args.roots.now _ (c.in_ok-whole.ensures.whole.0 c.if-whole.true) c.new.ensures.items
 
 pub returns-clause-lost : goal.returns-clause-lost
 returns-clause-lost g c =
-    subst (λ (roots : List ℕ). AreLost c.args.plain (g.F.Flash.device c.args.flash.now) roots c.loop-root.lost.items)
-    (take_all c.loop-root.root-index c.args.roots.now c.loop-root-test.false) c.loop-root.invariant.lost
+    IfOk-weaker c.look_at_each.result _ _ (λ lost are. lost_back c.args.plain (g.F.Flash.device c.args.flash.now) (g.F.Flash.device c.are_whole.new.flash) c.args.roots.now lost.items c.requires c.are_whole.ensures.only_reads are)
+    c.look_at_each.ensures.lost
 
 pub returns-clause-asks : goal.returns-clause-asks
 returns-clause-asks g c =
-    look_all (g.F.Flash.device c.args.flash.now) c.loop-root.root-index c.args.roots.now _ _ c.loop-root.invariant.asks
+    asks_each c.args.plain (g.F.Flash.device c.args.flash.now) (g.F.Flash.device c.are_whole.new.flash) (g.F.Flash.device c.look_at_each.new.flash) c.args.roots.now c.requires c.are_whole.ensures.only_reads
+    c.are_whole.ensures.asks (λ whole. true≢false (sym (c.in_ok-whole.ensures.whole.1 whole) ∙ c.if-whole.false)) c.look_at_each.ensures.asks
 
-pub returns-in_err-whole-clause-asks : goal.returns-in_err-whole-clause-asks
-returns-in_err-whole-clause-asks g c =
-    let d = g.F.Flash.device c.args.flash.now in
-    let e = g.F.Flash.device c.loop-root.flash in
-    look_all d (c.loop-root.root-index + 1) c.args.roots.now _ _
-    (look_next d e (g.F.Flash.device c.is_whole.new.flash) c.args.roots.now c.loop-root.root-index c.requires c.loop-root.invariant.only_reads c.loop-root-test.true c.loop-root.invariant.asks c.is_whole.ensures.asks)
-
-pub returns-in_err-note_root-clause-asks : goal.returns-in_err-note_root-clause-asks
-returns-in_err-note_root-clause-asks g c =
-    let d = g.F.Flash.device c.args.flash.now in
-    let e = g.F.Flash.device c.loop-root.flash in
-    look_all d (c.loop-root.root-index + 1) c.args.roots.now _ _
-    (look_next d e (g.F.Flash.device c.is_whole.new.flash) c.args.roots.now c.loop-root.root-index c.requires c.loop-root.invariant.only_reads c.loop-root-test.true c.loop-root.invariant.asks c.is_whole.ensures.asks)
+pub returns-clause-why : goal.returns-clause-why
+returns-clause-why g c =
+    IfErr-weaker c.look_at_each.result _ _ (λ fault why. later_cause (g.F.Flash.device c.args.flash.now) (g.F.Flash.device c.are_whole.new.flash) (g.F.Flash.device c.look_at_each.new.flash) fault c.are_whole.ensures.only_reads why)
+    c.look_at_each.ensures.why

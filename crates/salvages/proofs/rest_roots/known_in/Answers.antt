@@ -1,7 +1,7 @@
 use Rattle.std.proofs.Common.{◌∙◌, ap, arith}
 use Rattle.nodes.specs.Bodies.{Blocks}
 use Rattle.node_store.specs.NodeLaws.{node_of-beyond}
-use Rattle.salvages.proofs.tellings.known_in.Goals as goal
+use Rattle.salvages.proofs.rest_roots.known_in.Goals as goal
 
 pub of-requires-clause-all : goal.of-requires-clause-all
 of-requires-clause-all g c = λ b past.

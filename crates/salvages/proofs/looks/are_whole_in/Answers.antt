@@ -1,8 +1,8 @@
 use Rattle.std.proofs.Common.{Err, refl, sym, ap}
 use Rattle.std.proofs.lemmas.Bool.{true≢false}
 use Rattle.mounting.proofs.Asking.{asks_to_verify}
-use Rattle.salvages.proofs.looks.is_whole_in.Goals as goal
-use Rattle.salvages.proofs.looks.is_whole_in.Goals.{in-Ok, in-Err-Damaged, in-Err}
+use Rattle.salvages.proofs.looks.are_whole_in.Goals as goal
+use Rattle.salvages.proofs.looks.are_whole_in.Goals.{in-Ok, in-Err-Damaged, in-Err}
 
 pub returns-clause-whole : goal.returns-clause-whole
 returns-clause-whole g c = elim c.match-verify.branch [

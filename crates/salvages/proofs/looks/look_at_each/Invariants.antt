@@ -2,7 +2,7 @@ use Rattle.std.proofs.Common.{take}
 use Rattle.flash_model.specs.Reading.{OnlyReads}
 use Rattle.salvages.specs.Costs.{AsksToLook}
 use Rattle.salvages.specs.Wholes.{AreLost}
-use Rattle.salvages.proofs.looks.find_lost.Given as goal
+use Rattle.salvages.proofs.looks.look_at_each.Given as goal
 
 abbrev pub invariant-loop-root : goal.invariant-loop-root
 invariant-loop-root g l = record {

@@ -1,29 +1,23 @@
-//! What is lost on a damaged flash.
-ghost use Rattle.std.specs.Prelude.{◌≡◌, true, Some, Ok, slice_get, IfOk, IfErr, option_copied};
+//! What is known of the nodes of a damaged flash, and the root whose tree's rest is told.
+ghost use Rattle.std.specs.Prelude.{◌≡◌, true, Some, slice_get, IfOk, IfErr, option_copied};
 ghost use Rattle.flash_model.specs.Geometry.{IsGeometry};
 ghost use Rattle.flash_model.specs.Reading.{OnlyReads};
 ghost use Rattle.node_store.specs.NodePages.{node_of};
 ghost use Rattle.node_store.specs.Fitting.{Fits};
 ghost use Rattle.node_store.specs.Stores.{IsSoundStore, Follows};
 ghost use Rattle.record_format.specs.Payloads.{is_record};
-ghost use Rattle.anchors.specs.Newest.{committed_on};
 ghost use Rattle.working_state.specs.Seen.{capacity_of};
 ghost use Rattle.salvages.specs.Causes.{ReadCause};
 ghost use Rattle.known_nodes.specs.Tables.{blocks_in};
 ghost use Rattle.salvages.specs.Told as spec;
-ghost use Rattle.salvages.specs.Told.{AreLossesOf, UntoldCause};
 
-use crate::looks::is_whole;
-use crate::losses::{Loss, LossFault};
-use crate::salvaged::read_newest;
-use crate::walk::list_losses;
 use bad_blocks::BadBlocks;
 use flash_model::Flash;
 use fs_types::{ANCHORS, Fault, MOUNTED_NODES, Version};
 use known_nodes::{KnownNodes, NodeTable};
 use node_format::BODY_HEADER;
 use node_store::{NodeCache, Nodes, Storage, Store};
-use record_format::{OLD_FORMAT, Record};
+use record_format::Record;
 use std::alloc::Global;
 
 /// What is known of all nodes, by what they are kept with.
@@ -109,45 +103,4 @@ fn newest_begun<'a>(known: &KnownNodes, versions: &'a [Version<u32>]) -> Option<
         .iter()
         .rev()
         .find(|version| begins(known, version.root))
-}
-
-/// What is lost of what is left of the newest record's versions.
-fn find_lost_of<F: Flash>(
-    alloc: Global,
-    flash: &mut F,
-    newest: &Record,
-) -> Result<Vec<Loss>, LossFault>
-    requires lawful { IsGeometry (F.device flash.old).geometry }
-    requires is_record { is_record newest.now ≡ true }
-    requires holds { committed_on (F.device flash.old) ≡ Some (Ok newest.now) }
-    ensures losses { IfOk result (λ losses. losses.items ≡ spec.lost_on (F.device flash.old) newest.now) }
-    ensures only_reads { OnlyReads (F.device flash.old) (F.device flash.new) }
-    ensures why { IfErr result (UntoldCause (F.device flash.old) (F.device flash.new)) }
-{
-    let known = know_nodes(alloc, flash)?;
-    match rest_root(&known, newest) {
-        Some(root) => list_losses(alloc, &known, root),
-        None => Ok(Vec::new(alloc)),
-    }
-}
-
-/// What is lost of the present version of a damaged flash, where its tree is not whole: each file that is
-/// no whole body, each directory whose first node is lost, and each directory of which entries are lost,
-/// level by level, and in each directory by the names. Where the first node of the root itself is lost, of
-/// the newest version whose root has one.
-///
-/// Each node is read once, and none is written. [`LossFault::TooManyLines`] where it would cost more than
-/// [`MAX_COST`] to look through the tree; else [`LossFault::Refused`] as [`salvage`] is refused.
-pub fn find_losses<F: Flash>(alloc: Global, flash: &mut F) -> Result<Vec<Loss>, LossFault>
-    ensures losses { IfOk result (λ losses. AreLossesOf (F.device flash.old) losses.items) }
-    ensures only_reads { OnlyReads (F.device flash.old) (F.device flash.new) }
-    ensures why { IfErr result (UntoldCause (F.device flash.old) (F.device flash.new)) }
-{
-    let newest = read_newest(alloc, flash)?;
-    let present = present_of(&newest);
-    let whole = is_whole(alloc, flash, present.root, newest.format == OLD_FORMAT)?;
-    if whole {
-        return Ok(Vec::new(alloc));
-    }
-    find_lost_of(alloc, flash, &newest)
 }

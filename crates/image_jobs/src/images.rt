@@ -85,10 +85,7 @@ pub fn run_image<F: ImageFiles, R: Read, W: Write>(
     ensures synced { OnOk result (KeepsOrSyncs (F.held files.old) (F.held files.new) (F.synced files.new name.now)) }
     ensures ends { RunEnds stop name.now (ReadsClaimed F.claims F.reads name.now) (host_at (F.held files.old) (R.remaining reader.old) (W.contents out.old)) result (host_at (F.held files.new) (R.remaining reader.new) (W.contents out.new)) }
 {
-    let bytes = match take_image(files, alloc, name) {
-        Ok(bytes) => bytes,
-        Err(failure) => return Err(failure),
-    };
+    let bytes = take_image(files, alloc, name)?;
     match play(alloc, &bytes, stop, reader, out) {
         Ok(flash) => save_changed(files, alloc, name, &bytes, &flash),
         Err(failure) => Err(failure),
@@ -104,10 +101,7 @@ pub fn check_image<F: ImageFiles, W: Write>(
 ) -> Result<(), Failure>
     ensures { CheckEnds (F.held files.now name.now) result (W.contents out.old) (W.contents out.new) }
 {
-    let mut flash = match load(files, alloc, name) {
-        Ok(flash) => flash,
-        Err(failure) => return Err(failure),
-    };
+    let mut flash = load(files, alloc, name)?;
     match mount_as_planned(alloc, &mut flash) {
         Ok(_) => write_ok(out),
         Err(fault) => Err(Failure::of_system(fault)),
@@ -124,10 +118,7 @@ pub fn look_at_image<F: ImageFiles, W: Write>(
 ) -> Result<(), Failure>
     ensures { LookEnds script.now (F.held files.now name.now) result (W.contents out.old) (W.contents out.new) }
 {
-    let bytes = match read_image(files, alloc, name) {
-        Ok(bytes) => bytes,
-        Err(failure) => return Err(failure),
-    };
+    let bytes = read_image(files, alloc, name)?;
     let mut reader = script;
     match play(alloc, &bytes, false, &mut reader, out) {
         Ok(_) => Ok(()),
@@ -146,10 +137,7 @@ fn play<R: Read, W: Write>(
 ) -> Result<SimFlash, Failure>
     ensures { PlaysBy stop (IsDecoded bytes.now) (DecodeCause bytes.now) (streams_at (R.remaining reader.old) (W.contents out.old)) result (streams_at (R.remaining reader.new) (W.contents out.new)) }
 {
-    let mut flash = match flash_of(alloc, bytes) {
-        Ok(flash) => flash,
-        Err(failure) => return Err(failure),
-    };
+    let mut flash = flash_of(alloc, bytes)?;
     match run_script_until(alloc, reader, out, &mut flash, stop) {
         Ok(None) => Ok(flash),
         Ok(Some(stop)) => Err(Failure::Stopped(stop)),

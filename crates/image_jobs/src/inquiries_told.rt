@@ -115,10 +115,7 @@ pub(crate) fn tell_with_status<F: ImageFiles, W: Write>(
 ) -> Result<(), Failure>
     ensures { DiffEnds exit_code (Ok inquiry.now) (F.held files.now name.now) result (W.contents out.old) (W.contents out.new) }
 {
-    let bytes = match ask_image(files, alloc, name, inquiry) {
-        Ok(bytes) => bytes,
-        Err(failure) => return Err(failure),
-    };
+    let bytes = ask_image(files, alloc, name, inquiry)?;
     let told = bytes.as_slice();
     match write_out(out, told) {
         Ok(()) => status_of_told(exit_code, told),
@@ -158,10 +155,7 @@ fn tell_image<F: ImageFiles, W: Write>(
 ) -> Result<(), Failure>
     ensures { TellEnds (Ok inquiry.now) (F.held files.now name.now) result (W.contents out.old) (W.contents out.new) }
 {
-    let bytes = match ask_image(files, alloc, name, inquiry) {
-        Ok(bytes) => bytes,
-        Err(failure) => return Err(failure),
-    };
+    let bytes = ask_image(files, alloc, name, inquiry)?;
     match write_out(out, bytes.as_slice()) {
         Ok(()) => Ok(()),
         Err(_) => Err(Failure::Output),
@@ -173,10 +167,7 @@ fn file_inquiry(alloc: Global, path: &str, view: Option<&str>) -> Result<Inquiry
     ensures ok { IfOk result (λ inquiry. file_spelled path.now view.entry ≡ Ok inquiry) }
     ensures err { IfErr result (IsMisspelled (file_spelled path.now view.entry)) }
 {
-    let path = match path_of_word(alloc, path) {
-        Ok(path) => path,
-        Err(failure) => return Err(failure),
-    };
+    let path = path_of_word(alloc, path)?;
     match view_of_word(alloc, view) {
         Ok(view) => Ok(Inquiry::File { view, path }),
         Err(failure) => Err(failure),
@@ -203,10 +194,7 @@ fn difference_inquiry(
     ensures ok { IfOk result (λ inquiry. differences_spelled view.entry other.entry ≡ Ok inquiry) }
     ensures err { IfErr result (IsMisspelled (differences_spelled view.entry other.entry)) }
 {
-    let old = match view_of_word(alloc, view) {
-        Ok(view) => view,
-        Err(failure) => return Err(failure),
-    };
+    let old = view_of_word(alloc, view)?;
     match view_of_word(alloc, other) {
         Ok(new) => Ok(Inquiry::Differences { old, new }),
         Err(failure) => Err(failure),
@@ -223,10 +211,7 @@ fn ask_image<F: ImageFiles>(
     ensures ok { IfOk result (IsTold (F.held files.now name.now) inquiry.now) }
     ensures err { IfErr result (UntoldCause (F.held files.now name.now) inquiry.now) }
 {
-    let mut flash = match load(files, alloc, name) {
-        Ok(flash) => flash,
-        Err(failure) => return Err(failure),
-    };
+    let mut flash = load(files, alloc, name)?;
     match ask_as_planned(alloc, &mut flash, inquiry) {
         Ok(bytes) => Ok(bytes),
         Err(fault) => Err(of_ask(fault)),

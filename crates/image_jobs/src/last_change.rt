@@ -26,10 +26,7 @@ pub fn tell_last_change<F: ImageFiles, W: Write>(
 ) -> Result<(), Failure>
     ensures { LastChangeEnds exit_code (F.held files.now name.now) result (W.contents out.old) (W.contents out.new) }
 {
-    let before = match version_before(files, alloc, name) {
-        Ok(serial) => serial,
-        Err(failure) => return Err(failure),
-    };
+    let before = version_before(files, alloc, name)?;
     let inquiry = Inquiry::Differences {
         old: View::Serial(before),
         new: View::Present,
@@ -42,10 +39,7 @@ fn version_before<F: ImageFiles>(files: &F, alloc: Global, name: &str) -> Result
     ensures ok { IfOk result (IsBefore (F.held files.now name.now)) }
     ensures err { IfErr result (HasNoneBefore (F.held files.now name.now)) }
 {
-    let mut flash = match load(files, alloc, name) {
-        Ok(flash) => flash,
-        Err(failure) => return Err(failure),
-    };
+    let mut flash = load(files, alloc, name)?;
     let system = match mount_as_planned(alloc, &mut flash) {
         Ok(system) => system,
         Err(fault) => return Err(Failure::of_system(fault)),

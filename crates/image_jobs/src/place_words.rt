@@ -65,10 +65,7 @@ fn place_by(alloc: Global, path: &str, view: Option<&str>) -> Result<(View, Path
     ensures ok { IfOk result (λ place. place_by (path.now, view.entry) ≡ Ok place) }
     ensures err { IfErr result (IsMisspelled (place_by (path.now, view.entry))) }
 {
-    let path = match path_of_word(alloc, path) {
-        Ok(path) => path,
-        Err(failure) => return Err(failure),
-    };
+    let path = path_of_word(alloc, path)?;
     match view_of_word(alloc, view) {
         Ok(view) => Ok((view, path)),
         Err(failure) => Err(failure),

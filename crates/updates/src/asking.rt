@@ -29,6 +29,7 @@ pub fn ask_update<F: Flash, G: Flash>(
         Ok(fs) => {
             let mut fs = fs;
             let told = ask_second(alloc, &mut fs, second, manner);
+            // The borrow ends here, with the flash as it was left.
             let _left = fs.into_flash();
             told
         }

@@ -19,7 +19,9 @@ use crate::patches::add_patching;
 use crate::pieces::add_writing;
 use flash_model::Flash;
 use fs_types::{Bytes, Call, Fault, Path, Stat, View};
-use inquiries::{Counterpart, Item, TellFault, find_counterpart, list_folder, read_file};
+use inquiries::{
+    Counterpart, Item, TellFault, find_counterpart, list_folder, read_file, read_item,
+};
 use std::alloc::{AllocError, Global};
 use undofs::Fs;
 
@@ -143,7 +145,7 @@ fn add_making<F: Flash, G: Flash>(
 {
     match find_counterpart(first, &View::Present, item)? {
         Counterpart::Directory => Ok(()),
-        Counterpart::File => { add_changed(alloc, first, second, view, manner, &item.path, calls) }
+        Counterpart::File => add_changed(alloc, first, second, view, manner, item, calls),
         Counterpart::Missing => add_new(alloc, second, view, item, calls),
     }
 }
@@ -165,7 +167,7 @@ fn add_new<G: Flash>(
     match item.stat {
         Stat::Dir(_) => Ok(push_mkdir(calls, &item.path)?),
         Stat::File(_) => {
-            let bytes = read_file(alloc, second, view, &item.path)?;
+            let bytes = read_item(alloc, second, view, item)?;
             Ok(add_writing(calls, &item.path, bytes)?)
         }
     }
@@ -188,19 +190,20 @@ fn add_changed<F: Flash, G: Flash>(
     second: &mut Fs<'_, G>,
     view: &View,
     manner: Manner,
-    path: &Path,
+    item: &Item,
     calls: &mut Vec<Call>,
 ) -> Result<(), Fault>
-    requires first { IsFileOf (shown first.old) View.Present path.now }
-    requires second { IsFileOf (shown second.old) view.now path.now }
+    requires there { IsItemOf (view_tree (shown second.old) view.now) item.now }
+    requires first { IsFileOf (shown first.old) View.Present item.now.path }
+    requires second { IsFileOf (shown second.old) view.now item.now.path }
     ensures first { IsUnchanged first.old first.new }
     ensures second { IsUnchanged second.old second.new }
-    ensures ok { OnOk result (calls.new.items ≡ calls.old.items ++ changed_file manner path.now (bytes_of_file (working_tree (shown first.old)) path.now) (bytes_of_file (view_tree (shown second.old) view.now) path.now)) }
+    ensures ok { OnOk result (calls.new.items ≡ calls.old.items ++ changed_file manner item.now.path (bytes_of_file (working_tree (shown first.old)) item.now.path) (bytes_of_file (view_tree (shown second.old) view.now) item.now.path)) }
     ensures err { IfErr result (MeetsEither first.old second.old first.new second.new) }
 {
-    let bytes = read_file(alloc, first, &View::Present, path)?;
-    let others = read_file(alloc, second, view, path)?;
-    Ok(push_changed(calls, path, manner, bytes.as_slice(), others)?)
+    let bytes = read_file(alloc, first, &View::Present, &item.path)?;
+    let others = read_item(alloc, second, view, item)?;
+    Ok(push_changed(calls, &item.path, manner, bytes.as_slice(), others)?)
 }
 
 /// Adds the calls that give a file of these bytes others, where they are others.

@@ -52,10 +52,7 @@ fn asked_of<'a>(program: &mut Command<'a>, words: &'a [String]) -> Result<Job<'a
     ensures refused { IfErr result (λ error. HasKind (fault_of uffs (map string_bytes words.now)) error
         ⊎ ((job : Job) → AsksFor (map string_bytes words.now) job → ⊥)) }
 {
-    let matches = match program.try_get_matches_from_mut(words) {
-        Ok(matches) => matches,
-        Err(error) => return Err(error),
-    };
+    let matches = program.try_get_matches_from_mut(words)?;
     match said(&matches) {
         Some(job) => Ok(job),
         None => Err(nothing_asked(program, misuse_of(&matches))),

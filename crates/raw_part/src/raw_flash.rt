@@ -36,10 +36,7 @@ pub fn flash_of_raw(alloc: Global, bytes: &[u8], layout: PartLayout) -> Result<S
         return Err(Fault::BadGeometry);
     }
     let sizes = layout.sizes(blocks as u32);
-    let mut flash = match SimFlash::new(alloc, sizes, &[]) {
-        Ok(flash) => flash,
-        Err(fault) => return Err(fault),
-    };
+    let mut flash = SimFlash::new(alloc, sizes, &[])?;
     for page in 0..sizes.page_count() as u32 {
         flash.set_page(page, page_at(bytes, layout, page));
     }

@@ -39,5 +39,5 @@ returns-clause-ok c =
     let told : c.page_count-page-end.result ≡ long / part_block layout * pages_of layout =
     c.page_count-page-end.ensures ∙ ap page_count c.sizes-sizes.ensures ∙ ap (λ (k : ℕ). long / k * pages_of layout) size in
     let end : long / part_block layout * pages_of layout ≤ c.loop-page.page = omega (arith, told) in
-    let lawful : IsGeometry (sizes_of layout (long / part_block layout)) = subst IsGeometry (c.sizes-sizes.ensures ∙ ap (λ (k : ℕ). sizes_of layout (long / k)) size) c.in-Ok.ensures.lawful in
+    let lawful : IsGeometry (sizes_of layout (long / part_block layout)) = subst IsGeometry (c.sizes-sizes.ensures ∙ ap (λ (k : ℕ). sizes_of layout (long / k)) size) c.in_ok-flash.ensures.lawful in
     all_read layout (long / part_block layout) c.args.bytes.now (device_of c.loop-page.flash) c.loop-page.page c.loop-page.invariant lawful whole end

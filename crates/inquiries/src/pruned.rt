@@ -1,21 +1,25 @@
 //! What stands in a tree where another one may have something else.
-ghost use Rattle.std.specs.Prelude.{◌≡◌, None, IsSome, All, map, IfOk, OnOk, IfErr};
+ghost use Rattle.std.specs.Prelude.{◌≡◌, ◌<◌, None, IsSome, All, length, get_or, map, IfOk, OnOk, IfErr};
 ghost use Rattle.std.specs.FinMap.{get};
 ghost use Rattle.history_machine.specs.History.{view_refusal};
-ghost use Rattle.history_machine.specs.Machine.{view_tree};
+ghost use Rattle.history_machine.specs.Machine.{stat_of, view_tree};
 ghost use Rattle.inquiries.specs.Folders.{IsSmall, Unlisted};
-ghost use Rattle.inquiries.specs.Items.{item_at};
+ghost use Rattle.inquiries.specs.Items.{item_at, IsItemOf};
 ghost use Rattle.inquiries.specs.Pruned.{AreElsewhere, IsElsewhere, IsPruned};
 ghost use Rattle.inquiries.specs.Readings.{shown, IsUnchanged, Meets};
+ghost use Rattle.inquiries.specs.declared.items.Item.{Item};
 
 use crate::folders::check_small;
-use crate::items::Item;
+use crate::items::{Item, items_of};
 use crate::reading_calls::stat_at;
 use crate::tell_fault::TellFault;
 use flash_model::Flash;
-use fs_types::{Fault, Path, Sequence, View};
+use fs_types::{Fault, Path, Sequence, Stat, View};
 use std::alloc::Global;
 use undofs::Fs;
+
+/// So many paths are looked up one by one. For more of them all that stands in the tree is listed.
+const FEW_PATHS: usize = 1_024;
 
 /// What stands in the tree of a view, without that which another view has in the same blocks: a directory
 /// before what stands in it, and names in byte order. What is left out has the same bytes in both trees; no
@@ -73,7 +77,7 @@ fn paths_elsewhere<F: Flash>(
     fs.differing_paths(alloc, view, other)
 }
 
-/// What stands at these paths of a view.
+/// What stands at these paths of a view, which come in the order of its tree.
 fn items_at<F: Flash>(
     alloc: Global,
     fs: &mut Fs<'_, F>,
@@ -86,13 +90,71 @@ fn items_at<F: Flash>(
     ensures ok { IfOk result (λ items. items.items ≡ map (item_at (view_tree (shown fs.old) view.now)) paths.now) }
     ensures err { IfErr result (Meets (F.device fs.old.flash.now) (F.device fs.new.flash.now)) }
 {
+    if paths.len() <= FEW_PATHS {
+        return items_among(alloc, fs, view, &[], paths);
+    }
+    let all = items_of(alloc, fs, view)?;
+    items_among(alloc, fs, view, &all, paths)
+}
+
+/// The same, where some items of the tree are known. What is not found among these is looked up.
+fn items_among<F: Flash>(
+    alloc: Global,
+    fs: &mut Fs<'_, F>,
+    view: &View,
+    known: &[Item],
+    paths: &[Path],
+) -> Result<Vec<Item>, Fault>
+    requires view { view_refusal (shown fs.old).history view.now ≡ None }
+    requires known { All (IsItemOf (view_tree (shown fs.old) view.now)) known.now }
+    requires there { All (λ path. IsSome (get (view_tree (shown fs.old) view.now) path)) paths.now }
+    ensures same { IsUnchanged fs.old fs.new }
+    ensures ok { IfOk result (λ items. items.items ≡ map (item_at (view_tree (shown fs.old) view.now)) paths.now) }
+    ensures err { IfErr result (Meets (F.device fs.old.flash.now) (F.device fs.new.flash.now)) }
+{
     let mut items = Vec::new(alloc);
+    let mut place = 0;
     for path in paths {
-        let stat = stat_at(fs, view, path)?;
+        place = place_of(known, place, path);
+        let stat = stat_known(fs, view, known, place, path)?;
         items.push(Item {
             path: path.clone()?,
             stat,
         })?;
     }
     Ok(items)
+}
+
+/// The place of the first of these items at a path, from a place on; behind the last where there is none.
+fn place_of(known: &[Item], from: usize, path: &Path) -> usize
+    ensures { (d : Item) → result < length known.now → (get_or known.now result d).path ≡ path.now }
+{
+    for place in from..known.len() {
+        if known[place].path == *path {
+            return place;
+        }
+    }
+    known.len()
+}
+
+/// What stands at a path of a view, by the item at a place, if there is one.
+fn stat_known<F: Flash>(
+    fs: &mut Fs<'_, F>,
+    view: &View,
+    known: &[Item],
+    place: usize,
+    path: &Path,
+) -> Result<Stat, Fault>
+    requires view { view_refusal (shown fs.old).history view.now ≡ None }
+    requires known { All (IsItemOf (view_tree (shown fs.old) view.now)) known.now }
+    requires place { (d : Item) → place < length known.now → (get_or known.now place d).path ≡ path.now }
+    requires there { IsSome (get (view_tree (shown fs.old) view.now) path.now) }
+    ensures same { IsUnchanged fs.old fs.new }
+    ensures ok { IfOk result (λ stat. stat ≡ stat_of (view_tree (shown fs.old) view.now) path.now (get (view_tree (shown fs.old) view.now) path.now)) }
+    ensures err { IfErr result (Meets (F.device fs.old.flash.now) (F.device fs.new.flash.now)) }
+{
+    if place < known.len() {
+        return Ok(known[place].stat);
+    }
+    stat_at(fs, view, path)
 }

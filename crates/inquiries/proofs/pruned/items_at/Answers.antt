@@ -1,42 +1,41 @@
-use Rattle.std.proofs.Common.{◌∙◌, map, sym, ap, subst, arith}
-use Rattle.std.proofs.lemmas.List.{take_all}
-use Rattle.std.proofs.lemmas.Result.{err_from_is_err_and}
-use Rattle.std.specs.Prelude.{IsSome}
+use Rattle.std.proofs.Common.{◌≡◌, ◌∙◌, None, map, sym, subst, arith}
+use Rattle.std.proofs.lemmas.Result.{err_from_is_err_and, IfErr-weaker}
+use Rattle.std.specs.Prelude.{All, IfOk, IsSome}
 use Rattle.std.specs.FinMap.{get}
-use Rattle.fs_types.specs.Names.{Path}
-use Rattle.fs_types.specs.declared.call.Call.{Call}
-use Rattle.history_machine.specs.Machine.{view_tree}
+use Rattle.fs_types.specs.declared.limits.TheConstants.{MAX_NAMES}
+use Rattle.history_machine.specs.History.{view_refusal}
+use Rattle.history_machine.specs.Machine.{Machine, view_tree}
 use Rattle.inquiries.specs.Items.{item_at}
 use Rattle.inquiries.specs.Readings.{shown}
-use Rattle.inquiries.proofs.PrunedLemmas.{item_is, item_made, stat_some, stats_more}
-use Rattle.inquiries.proofs.Readings.{unchanged-refl, unchanged-trans, met_only}
+use Rattle.inquiries.proofs.DifferenceLemmas.{all_there}
+use Rattle.inquiries.proofs.FolderLemmas.{no_own}
+use Rattle.inquiries.proofs.Readings.{unchanged-trans, meets-later}
 use Rattle.inquiries.proofs.pruned.items_at.Goals as goal
 
-pub loop-path-init : goal.loop-path-init
-loop-path-init g c = record { same = unchanged-refl c.args.fs.now; items = c.new-items.ensures.items }
+pub items_among-requires-clause-known : goal.items_among-requires-clause-known
+items_among-requires-clause-known g c = λ k d within. absurd (omega arith)
 
-pub returns-in_err-stat-clause-same : goal.returns-in_err-stat-clause-same
-returns-in_err-stat-clause-same g c = unchanged-trans c.args.fs.now c.loop-path.fs c.stat_at.new.fs c.loop-path.invariant.same c.stat_at.ensures.same
-
-pub returns-in_err-stat-clause-err : goal.returns-in_err-stat-clause-err
-returns-in_err-stat-clause-err g c =
+pub returns-in_err-all-clause-err : goal.returns-in_err-all-clause-err
+returns-in_err-all-clause-err g c =
     let p = err_from_is_err_and c.from_residual.result c.from_residual.ensures.1 in
-    let m = shown c.args.fs.now in
-    let there : IsSome (get (view_tree m c.args.view.now) c.path-item.result) = subst (λ (x : Path). IsSome (get (view_tree m c.args.view.now) x)) (sym c.path-item.is) (c.requires.there c.loop-path.path-index c.path-item.result c.loop-path-test.true) in
-    rw (p.1, p.2) (met_only c.args.fs.now c.loop-path.fs c.stat_at.new.fs (Call.Stat c.args.view.now c.path-item.result) c.in_err-stat.field-0.0 c.loop-path.invariant.same
-    (stat_some m c.args.view.now c.args.fs.now.mounted.mounted.machine c.requires.view c.path-item.result there) c.in_err-stat.ensures.err)
+    rw (p.1, p.2) (no_own (view_refusal (shown c.args.fs.now).history c.args.view.now) c.in_err-all.field-0.0 _ c.requires.view c.in_err-all.ensures.err)
 
-pub loop-path-preserved : goal.loop-path-preserved
-loop-path-preserved g c =
-    let m = shown c.args.fs.now in
-    record {
-      same = unchanged-trans c.args.fs.now c.loop-path.fs c.stat_at.new.fs c.loop-path.invariant.same c.stat_at.ensures.same;
-      items = stats_more (view_tree m c.args.view.now) c.args.paths.now c.loop-path.path-index c.path-item.result (item_made c.in_ok-clone.field-0 c.in_ok-stat.stat) c.loop-path.items.items c.push.new.self.items c.loop-path-test.true
-          c.path-item.is (item_is m (shown c.loop-path.fs) c.args.view.now c.path-item.result c.in_ok-clone.field-0 c.in_ok-stat.stat c.loop-path.invariant.same.machine c.in_ok-clone.ensures c.in_ok-stat.ensures.ok)
-          c.loop-path.invariant.items c.in_ok-push.ensures.items;
-    }
+pub items_among-requires-2-clause-view : goal.items_among-requires-2-clause-view
+items_among-requires-2-clause-view g c = subst (λ (m : Machine). view_refusal m.history c.args.view.now ≡ None) (sym c.items_of.ensures.same.machine) c.requires.view
+
+pub items_among-requires-2-clause-known : goal.items_among-requires-2-clause-known
+items_among-requires-2-clause-known g c =
+    all_there (shown c.args.fs.now) (shown c.items_of.new.fs) c.args.view.now MAX_NAMES _ c.deref.result.now c.items_of.ensures.same.machine (c.deref.ensures.value ∙ c.in_ok-all.ensures.ok)
+
+pub items_among-requires-2-clause-there : goal.items_among-requires-2-clause-there
+items_among-requires-2-clause-there g c = subst (λ (m : Machine). All (λ path. IsSome (get (view_tree m c.args.view.now) path)) c.args.paths.now) (sym c.items_of.ensures.same.machine) c.requires.there
+
+pub returns-clause-same : goal.returns-clause-same
+returns-clause-same g c = unchanged-trans c.args.fs.now c.items_of.new.fs c.items_among-2.new.fs c.items_of.ensures.same c.items_among-2.ensures.same
 
 pub returns-clause-ok : goal.returns-clause-ok
 returns-clause-ok g c =
-    let past = c.loop-path-test.false in
-    c.loop-path.invariant.items ∙ ap (map (item_at (view_tree (shown c.args.fs.now) c.args.view.now))) (take_all c.loop-path.path-index c.args.paths.now (omega (arith, past)))
+    subst (λ (m : Machine). IfOk c.items_among-2.result (λ items. items.items ≡ map (item_at (view_tree m c.args.view.now)) c.args.paths.now)) c.items_of.ensures.same.machine c.items_among-2.ensures.ok
+
+pub returns-clause-err : goal.returns-clause-err
+returns-clause-err g c = IfErr-weaker c.items_among-2.result _ _ (λ fault met. meets-later c.args.fs.now c.items_of.new.fs c.items_among-2.new.fs fault c.items_of.ensures.same met) c.items_among-2.ensures.err

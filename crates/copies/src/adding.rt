@@ -36,6 +36,7 @@ pub fn add_version<F: Flash, G: Flash>(
         Ok(from) => {
             let mut from = from;
             let added = add_to_flash(alloc, &mut from, second);
+            // The borrow ends here, with the flash as it was left.
             let _left = from.into_flash();
             added
         }

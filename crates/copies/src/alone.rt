@@ -31,6 +31,7 @@ pub fn make_alone<G: Flash>(alloc: Global, flash: &mut G, calls: &[Call]) -> Res
         Ok(to) => {
             let mut to = to;
             let made = make_only(alloc, &mut to, calls);
+            // The borrow ends here, with the flash as it was left.
             let _left = to.into_flash();
             match made {
                 Ok(()) => Ok(()),

@@ -48,6 +48,7 @@ pub fn copy_history<F: Flash, G: Flash>(
         Ok(from) => {
             let mut from = from;
             let copied = copy_to_flash(alloc, &mut from, second, limit);
+            // The borrow ends here, with the flash as it was left.
             let _left = from.into_flash();
             copied
         }

@@ -9,7 +9,7 @@ ghost use Rattle.copies.specs.Shapes.{shape_at, with_byte, with_bytes, with_item
 
 use flash_model::Flash;
 use fs_types::{Fault, MAX_NAMES, Name, Path, Stat, View};
-use inquiries::{Item, list_below, read_file};
+use inquiries::{Item, list_below, read_item};
 use std::alloc::Global;
 use undofs::Fs;
 
@@ -38,7 +38,7 @@ pub(crate) fn shape_of<F: Flash>(
             Ok(with_items(with_byte(START, b'/'), item.path.names().len(), &below))
         }
         Stat::File(_) => {
-            let bytes = read_file(alloc, fs, view, &item.path)?;
+            let bytes = read_item(alloc, fs, view, item)?;
             Ok(with_bytes(START, bytes.as_slice()))
         }
     }

@@ -1,5 +1,5 @@
 -- What stands in a tree, as the entries of an archive.
-use Rattle.std.proofs.Common.{◌≡◌, ◌∙◌, ◌<◌, ◌≤◌, ℕ, Option, Some, None, List, [], ◌∷◌, IsSome, map, get_or, length, refl, sym, ap, subst, arith}
+use Rattle.std.proofs.Common.{◌≡◌, ◌∙◌, ◌<◌, ◌≤◌, ℕ, Option, Some, None, List, IsSome, map, get_or, length, refl, sym, ap, subst, arith}
 use Rattle.std.proofs.lemmas.Bool.{true≢false}
 use Rattle.std.proofs.lemmas.List.{get_or-map}
 use Rattle.std.specs.FinMap.{get}
@@ -36,26 +36,6 @@ file_there t item size is file = go (get t item.path) refl is.there
     go None at some = absurd (true≢false (sym some))
     go (Some Entry.Dir) at some = absurd (let wrong = sym (ap (stat_of t item.path) at) ∙ sym is.stat ∙ file in cc)
     go (Some (Entry.File bytes)) at some = at ∙ ap (λ (o : Option Entry). Some (Entry.File (bytes_of o))) (sym at)
-
--- its length
-pub file_size : (t : Tree) (item : Item) (size : ℕ) → IsItemOf t item → item.stat ≡ Stat.File size → size ≡ length (bytes_of_file t item.path)
-file_size t item size is file = go (get t item.path) refl is.there
-  where
-    go : (o : Option Entry) → get t item.path ≡ o → IsSome o → size ≡ length (bytes_of (get t item.path))
-    go None at some = absurd (true≢false (sym some))
-    go (Some Entry.Dir) at some = absurd (let wrong = sym (ap (stat_of t item.path) at) ∙ sym is.stat ∙ file in cc)
-    go (Some (Entry.File bytes)) at some =
-        let both : Stat.File (length bytes) ≡ Stat.File size = sym (ap (stat_of t item.path) at) ∙ sym is.stat ∙ file in
-        let same : size ≡ length bytes = cc in
-        same ∙ ap (λ (o : Option Entry). length (bytes_of o)) (sym at)
-
--- a file of no bytes
-pub empty_there : (t : Tree) (path : Path) (size : ℕ) (none : List ℕ) → get t path ≡ Some (Entry.File (bytes_of_file t path)) → size ≡ length (bytes_of_file t path) → size ≡ 0 → none ≡ [] → get t path ≡ Some (Entry.File none)
-empty_there t path size none there long zero_long is = there ∙ ap (λ (bytes : List ℕ). Some (Entry.File bytes)) (empty (bytes_of_file t path) (sym long ∙ zero_long) ∙ sym is)
-  where
-    empty : (bytes : List ℕ) → length bytes ≡ 0 → bytes ≡ []
-    empty [] e = refl
-    empty (x ∷ bytes) e = absurd (omega (arith, e))
 
 pub file_entry : (t : Tree) (item : Item) (path : Path) (bytes : List ℕ) → path ≡ item.path → get t item.path ≡ Some (Entry.File bytes) → entry_at path (Contents.File bytes) ≡ entry_of t item
 file_entry t item path bytes same there =

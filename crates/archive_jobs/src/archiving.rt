@@ -42,6 +42,7 @@ pub fn write_archive<F: Flash, W: Write>(
         Ok(fs) => {
             let mut fs = fs;
             let written = write_view(alloc, &mut fs, view, out);
+            // The borrow ends here, with the flash as it was left.
             let _left = fs.into_flash();
             written
         }

@@ -1,18 +1,15 @@
 //! What stands in a tree, as an entry of an archive.
-ghost use Rattle.std.specs.Prelude.{◌≡◌, Some, None, length, IfOk, IfErr};
-ghost use Rattle.std.specs.FinMap.{get};
-ghost use Rattle.plain_trees.specs.Contents.{Entry};
-ghost use Rattle.plain_trees.specs.Trees.{bytes_of_file};
+ghost use Rattle.std.specs.Prelude.{◌≡◌, None, IfOk, IfErr};
 ghost use Rattle.history_machine.specs.History.{view_refusal};
 ghost use Rattle.history_machine.specs.Machine.{view_tree};
-ghost use Rattle.inquiries.specs.Items.{IsFileOf, IsItemOf};
+ghost use Rattle.inquiries.specs.Items.{IsItemOf};
 ghost use Rattle.inquiries.specs.Readings.{shown, IsUnchanged, Meets};
 ghost use Rattle.archive_jobs.specs.Entries.{entry_of};
 
 use archives::{ArchiveEntry, Contents};
 use flash_model::Flash;
-use fs_types::{Bytes, Fault, Path, Stat, View};
-use inquiries::{Item, read_file};
+use fs_types::{Fault, Stat, View};
+use inquiries::{Item, read_item};
 use std::alloc::Global;
 use undofs::Fs;
 
@@ -37,7 +34,7 @@ pub(crate) fn entry_of<F: Flash>(
             path,
             contents: Contents::Folder,
         }),
-        Stat::File(size) => match bytes_of(alloc, fs, view, &item.path, size) {
+        Stat::File(_) => match read_item(alloc, fs, view, item) {
             Ok(bytes) => Ok(ArchiveEntry {
                 path,
                 contents: Contents::File(bytes),
@@ -45,24 +42,4 @@ pub(crate) fn entry_of<F: Flash>(
             Err(fault) => Err(fault),
         },
     }
-}
-
-/// The bytes of a file of this length.
-fn bytes_of<F: Flash>(
-    alloc: Global,
-    fs: &mut Fs<'_, F>,
-    view: &View,
-    path: &Path,
-    size: u64,
-) -> Result<Bytes, Fault>
-    requires there { IsFileOf (shown fs.old) view.now path.now }
-    requires size { size ≡ length (bytes_of_file (view_tree (shown fs.old) view.now) path.now) }
-    ensures same { IsUnchanged fs.old fs.new }
-    ensures ok { IfOk result (λ bytes. get (view_tree (shown fs.old) view.now) path.now ≡ Some (Entry.File bytes)) }
-    ensures err { IfErr result (Meets (F.device fs.old.flash.now) (F.device fs.new.flash.now)) }
-{
-    if size == 0 {
-        return Ok(Bytes::from_vec(Vec::new(alloc)));
-    }
-    read_file(alloc, fs, view, path)
 }

@@ -16,7 +16,7 @@ use flash_model::Flash;
 use fs_types::{Name, Path, Stat, View};
 use host_interface::{FileFault, Folders};
 use image_jobs::Failure;
-use inquiries::{Item, read_file};
+use inquiries::{Item, read_item};
 use script_runs::Refusal;
 use std::alloc::{AllocError, Global};
 use undofs::Fs;
@@ -71,27 +71,28 @@ fn make_one<F: Flash, H: Folders>(
     };
     match item.stat {
         Stat::Dir(_) => make_folder(files, alloc, name, way.as_str()),
-        Stat::File(_) => copy_file(alloc, fs, view, &item.path, files, name, way.as_str()),
+        Stat::File(_) => copy_file(alloc, fs, view, item, files, name, way.as_str()),
     }
 }
 
-/// Makes the file at a path of a view in a folder of the host, which is begun.
+/// Makes a file that was listed in a view in a folder of the host, which is begun.
 fn copy_file<F: Flash, H: Folders>(
     alloc: Global,
     fs: &mut Fs<'_, F>,
     view: &View,
-    path: &Path,
+    item: &Item,
     files: &mut H,
     name: &str,
     way: &str,
 ) -> Result<(), Failure>
-    requires { IsFileOf (shown fs.old) view.now path.now }
+    requires there { IsItemOf (view_tree (shown fs.old) view.now) item.now }
+    requires file { IsFileOf (shown fs.old) view.now item.now.path }
     ensures same { IsUnchanged fs.old fs.new }
-    ensures ok { OnOk result ((all : List Made) → H.made files.old name.now all → H.made files.new name.now (all ++ Made.File way.now (bytes_of_file (view_tree (shown fs.old) view.now) path.now) ∷ [])) }
+    ensures ok { OnOk result ((all : List Made) → H.made files.old name.now all → H.made files.new name.now (all ++ Made.File way.now (bytes_of_file (view_tree (shown fs.old) view.now) item.now.path) ∷ [])) }
     ensures others { KeepsOutside (new_name name.now) (H.held files.old) (H.held files.new) }
     ensures err { IfErr result (Unmade (F.device fs.old.flash.now) (F.device fs.new.flash.now)) }
 {
-    let bytes = match read_file(alloc, fs, view, path) {
+    let bytes = match read_item(alloc, fs, view, item) {
         Ok(bytes) => bytes,
         Err(fault) => return Err(Failure::of_refusal(Refusal::Fault(fault))),
     };

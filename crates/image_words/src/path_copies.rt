@@ -51,6 +51,7 @@ pub fn copy_out<F: Flash, H: Folders>(
         Ok(fs) => {
             let mut fs = fs;
             let copied = copy(alloc, &mut fs, view, path, files, name);
+            // The borrow ends here, with the flash as it was left.
             let _left = fs.into_flash();
             copied
         }

@@ -15,8 +15,8 @@ returns-in-Err-clause-same g c = unchanged-refl c.args.fs.now
 pub returns-in-Err-clause-err : goal.returns-in-Err-clause-err
 returns-in-Err-clause-err g c = host_unmade (g.F.Flash.device c.args.fs.now.flash.now) (g.F.Flash.device c.args.fs.now.flash.now) c.in-Err.failure c.in-Err.ensures.err
 
-pub copy_file-requires : goal.copy_file-requires
-copy_file-requires g c = record {
+pub copy_file-requires-clause-file : goal.copy_file-requires-clause-file
+copy_file-requires-clause-file g c = record {
   accepted = c.requires.view;
   there = file_there (view_tree (shown c.args.fs.now) c.args.view.now) c.args.skipped c.args.item.now c.requires.there (string_bytes c.in-Ok.way) c.in-Ok.ensures.ok _ c.in-File.is;
 }

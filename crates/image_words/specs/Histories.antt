@@ -35,12 +35,20 @@ line_count _ count = 1
 abbrev pub history_script : List ℕ → ℕ → List ℕ
 history_script line count = repeat count (line ++ codes "\n") ++ codes "sync\n"
 
--- how a line is refused before a call is carried out, if it is
+-- how an event is refused before a call is carried out, if it is, what is asked for, and a line
+abbrev pub refusal_of_event : Event → Option Refusal
+refusal_of_event (Event.Call call) = None
+refusal_of_event event = Some Refusal.Syntax
+
+abbrev pub refusal_of_ask : Ask → Option Refusal
+refusal_of_ask (Ask.Event event) = refusal_of_event event
+refusal_of_ask (Ask.ForgetFree blocks) = None
+refusal_of_ask Ask.Space = Some Refusal.Syntax
+
 abbrev pub refusal_of_line : Line → Option Refusal
-refusal_of_line (Line.Ask (Ask.Event (Event.Call call))) = None
-refusal_of_line (Line.Ask (Ask.ForgetFree blocks)) = None
+refusal_of_line (Line.Ask ask) = refusal_of_ask ask
 refusal_of_line (Line.Refused fault) = Some (Refusal.Fault fault)
-refusal_of_line _ = Some Refusal.Syntax
+refusal_of_line line = Some Refusal.Syntax
 
 abbrev pub script_unless : Option Refusal → List ℕ → Result (List ℕ) Failure
 script_unless None script = Ok script

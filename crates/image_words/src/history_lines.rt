@@ -1,7 +1,7 @@
 //! The script of a call of the history.
 ghost use Rattle.std.specs.Prelude.{◌≡◌, Ok, Err, IfOk, IfErr, OnOk, string_bytes};
 ghost use Rattle.script.specs.Lines.{line_of};
-ghost use Rattle.image_words.specs.Histories.{Unspelled, history_line, history_script, history_spelled, line_count, refusal_of_line};
+ghost use Rattle.image_words.specs.Histories.{Unspelled, history_line, history_script, history_spelled, line_count, refusal_of_ask, refusal_of_event, refusal_of_line};
 
 use command_line::HistoryCall;
 use fs_types::{Ask, Event, MAX_VERSIONS};
@@ -72,9 +72,30 @@ fn refusal_of_line(alloc: Global, line: &str) -> Result<Option<Refusal>, AllocEr
     ensures { IfOk result (λ refusal. refusal ≡ refusal_of_line (line_of line.now)) }
 {
     match read_line(alloc, line.as_bytes())? {
-        Line::Ask(Ask::Event(Event::Call(_)) | Ask::ForgetFree(_)) => Ok(None),
+        Line::Ask(ask) => Ok(refusal_of_ask(ask)),
         Line::Refused(fault) => Ok(Some(Refusal::Fault(fault))),
         _ => Ok(Some(Refusal::Syntax)),
+    }
+}
+
+/// The same of what a line asks for.
+fn refusal_of_ask(ask: Ask) -> Option<Refusal>
+    ensures { result ≡ refusal_of_ask ask }
+{
+    match ask {
+        Ask::Event(event) => refusal_of_event(event),
+        Ask::ForgetFree(_) => None,
+        Ask::Space => Some(Refusal::Syntax),
+    }
+}
+
+/// The same of an event: a call is carried out.
+fn refusal_of_event(event: Event) -> Option<Refusal>
+    ensures { result ≡ refusal_of_event event }
+{
+    match event {
+        Event::Call(_) => None,
+        _ => Some(Refusal::Syntax),
     }
 }
 
